@@ -1,9 +1,12 @@
 //! What the edges of a graph tell.
 
-ghost use Rattle.std.specs.Prelude.{◌≡◌, ◌++◌, ◌<◌, ◌*◌, ◌≤◌, ℕ, None, IfOk, OnOk, length, option_map, option_and_then};
+ghost use Rattle.std.specs.Prelude.{◌≡◌, ◌<◌, None, IfOk, OnOk, length, option_map, option_and_then, slice_index_or};
+ghost use Rattle.uni_model.specs.Places.{new_of};
+ghost use Rattle.uni_model.specs.Places.Name.{Anchor};
 ghost use Rattle.uni_core.specs.World.{world_of};
+ghost use Rattle.run_graph.specs.AtHand.{AreAtHand};
 ghost use Rattle.run_graph.specs.Graph.{IsGraph};
-ghost use Rattle.run_graph.specs.Schedule.{event_of, plan_of};
+ghost use Rattle.run_graph.specs.Schedule.{event_of, moved, plan_of};
 ghost use Rattle.run_trace.specs.Frames.{frame_of};
 ghost use Rattle.run_trace.specs.Shown.{begun_shown, frame_shown, step_shown};
 ghost use Rattle.run_play.specs.Edges.{begun_text, beside_text, edge_text, frame_text, step_text, AreEdges};
@@ -11,13 +14,13 @@ ghost use Rattle.run_play.specs.Edges.{begun_text, beside_text, edge_text, frame
 use crate::fault::{PlayFault, of_graph};
 use json_text::{Member, Value, push_object, push_text_or_null};
 use ready_objects::Spoken;
-use run_graph::{Graph, Plan, world_at};
+use run_graph::{Graph, Plan, keep_world, no_worlds, take_world};
 use run_layout::letter_of;
 use run_trace::{Begun, Frame, Step, begun_of, cell_text, step_of};
 use std::alloc::{AllocError, Global};
 use uni_core::World;
 
-/// What the event of process `p` does in a world; `None` where it has none.
+/// Takes the event of process `p` in a world, and tells what it does; `None` where it has none.
 ///
 /// An `Err` says that memory was refused.
 fn frame_after<O: Spoken>(
@@ -27,7 +30,12 @@ fn frame_after<O: Spoken>(
     p: u64,
 ) -> Result<Option<Frame>, AllocError>
     requires { world.old.object ≡ plan.now.object }
-    ensures { IfOk result (λ frame. option_map frame_shown frame ≡ option_and_then
+    ensures object { world.new.object ≡ world.old.object }
+    ensures anchor { OnOk result (new_of (world_of world.new).memory Anchor ≡ new_of (world_of world.old).memory Anchor) }
+    ensures world { IfOk result (λ frame. option_map (λ _. world_of world.new) frame ≡ moved
+        (plan_of (O.sequential plan.now.object) plan.now.processes plan.now.row plan.now.calls.items)
+        p (world_of world.old)) }
+    ensures frame { IfOk result (λ frame. option_map frame_shown frame ≡ option_and_then
         (frame_of (O.sequential plan.now.object) O.language O.state_text (world_of world.old))
         (event_of (plan_of (O.sequential plan.now.object) plan.now.processes plan.now.row plan.now.calls.items)
         (world_of world.old) p)) }
@@ -117,36 +125,43 @@ fn frame_text(alloc: Global, to: usize, frame: &Frame) -> Result<Vec<u8>, AllocE
     }
 }
 
-/// The text of the edge at place `k`: that of a process in a node to its target.
+/// The text of the edge at place `k`: that of a process in a node to its target. The world after it is kept at hand.
 ///
 /// An `Err` says that memory was refused.
 fn edge_text<O: Spoken + Copy>(
     alloc: Global,
     plan: &Plan<O>,
-    paths: &[Vec<u64>],
+    graph: &Graph,
+    worlds: &mut Vec<Vec<World<O>>>,
     k: usize,
     target: Option<usize>,
 ) -> Result<Vec<u8>, PlayFault>
-    requires { 0 < plan.now.processes }
-    ensures { IfOk result (λ text. text.items ≡ edge_text
+    requires place { k < length graph.now.targets.items }
+    requires target { target ≡ slice_index_or graph.now.targets.items k None }
+    requires graph { IsGraph
         (plan_of (O.sequential plan.now.object) plan.now.processes plan.now.row plan.now.calls.items)
-        O.language O.state_text paths.now k target) }
+        graph.now.paths.items graph.now.targets.items }
+    requires at_hand { AreAtHand plan.now.object
+        (plan_of (O.sequential plan.now.object) plan.now.processes plan.now.row plan.now.calls.items)
+        graph.now.paths.items worlds.old.items }
+    ensures at_hand { OnOk result (AreAtHand plan.now.object
+        (plan_of (O.sequential plan.now.object) plan.now.processes plan.now.row plan.now.calls.items)
+        graph.now.paths.items worlds.new.items) }
+    ensures text { IfOk result (λ text. text.items ≡ edge_text
+        (plan_of (O.sequential plan.now.object) plan.now.processes plan.now.row plan.now.calls.items)
+        O.language O.state_text graph.now.paths.items k target) }
 {
     let Some(to) = target else {
         return Ok(Vec::from_slice(alloc, b"null")?);
     };
     let (node, p) = (k as u64 / plan.processes, k as u64 % plan.processes);
-    let path: &[u64] = match paths.get(node as usize) {
-        Some(path) => path,
-        None => &[],
-    };
-    let Some(mut world) = world_at(alloc, plan, path).map_err(of_graph)? else {
+    let mut world =
+        take_world(alloc, plan, &graph.paths, worlds, node as usize).map_err(of_graph)?;
+    let Some(frame) = frame_after(alloc, plan, &mut world, p)? else {
         return Ok(Vec::from_slice(alloc, b"null")?);
     };
-    match frame_after(alloc, plan, &mut world, p)? {
-        Some(frame) => Ok(frame_text(alloc, to, &frame)?),
-        None => Ok(Vec::from_slice(alloc, b"null")?),
-    }
+    keep_world(worlds, to, world).map_err(of_graph)?;
+    Ok(frame_text(alloc, to, &frame)?)
 }
 
 /// The texts of all edges of a graph: of each node, and in it of each process.
@@ -157,15 +172,18 @@ pub(crate) fn edge_texts<O: Spoken + Copy>(
     plan: &Plan<O>,
     graph: &Graph,
 ) -> Result<Vec<Vec<u8>>, PlayFault>
-    requires { 0 < plan.now.processes }
+    requires { IsGraph
+        (plan_of (O.sequential plan.now.object) plan.now.processes plan.now.row plan.now.calls.items)
+        graph.now.paths.items graph.now.targets.items }
     ensures { IfOk result (λ texts. AreEdges
         (plan_of (O.sequential plan.now.object) plan.now.processes plan.now.row plan.now.calls.items)
         O.language O.state_text graph.now.paths.items graph.now.targets.items texts.items) }
 {
+    let mut worlds = no_worlds(alloc, &graph.paths).map_err(of_graph)?;
     let mut texts = Vec::new(alloc);
     for target in &graph.targets {
         let k = texts.len();
-        let text = edge_text(alloc, plan, &graph.paths, k, *target)?;
+        let text = edge_text(alloc, plan, graph, &mut worlds, k, *target)?;
         if texts.push(text).is_err() {
             return Err(PlayFault::from(AllocError));
         }

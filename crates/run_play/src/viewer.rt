@@ -29,6 +29,7 @@ button:focus-visible, textarea:focus-visible { outline: 3px solid var(--touched)
 .lanes .point { text-decoration: underline; font-weight: bold; }
 #code { margin: 0; font-size: 0.9em; } #code .last { background: var(--mark); color: var(--on); }
 textarea { width: 100%; height: 9em; } table { border-collapse: collapse; } #ends td, #ends th { padding: 0.1em 0.6em; text-align: left; }
+.count { white-space: nowrap; } .entry { display: inline-block; margin-right: 1.2em; } #ends tr { border-bottom: 1px solid var(--pale); }
 @media (max-width: 30em) { body { font-size: 16px; } .step { flex-basis: 45%; } #code { font-size: 0.72em; } }
 @media print { #steppers, .tools, #save { display: none; } }
 </style>
@@ -41,9 +42,10 @@ textarea { width: 100%; height: 9em; } table { border-collapse: collapse; } #end
 <p id="sentence" aria-live="polite" aria-atomic="true"></p>
 <div class="row tools">
 <button id="undo" type="button" aria-keyshortcuts="u">Undo</button>
-<button id="restart" type="button">Restart</button>
-<button id="random" type="button">Random run</button>
-<button id="stopped" type="button">One stopped</button>
+<button id="restart" type="button" aria-keyshortcuts="Home">Restart</button>
+<button id="random" type="button" aria-keyshortcuts="r">Random run</button>
+<button id="stopped" type="button" aria-keyshortcuts="s">One stopped</button>
+<button id="worst" type="button" aria-keyshortcuts="w">Show the worst</button>
 </div>
 <h2>Shared memory</h2>
 <div id="entries" class="row"></div>
@@ -62,10 +64,12 @@ textarea { width: 100%; height: 9em; } table { border-collapse: collapse; } #end
 <div id="save">
 <h2>The run as a script, for unibench replay</h2>
 <textarea id="script" readonly spellcheck="false" aria-label="The script"></textarea>
+<p><a id="file" download="played.script">Save as a file</a></p>
 </div>
 </main>
-<footer><p>Keys: a digit is a step of that process; u undoes. A line below a letter is where a call takes effect; a pale
-letter changed nothing.</p></footer>
+<footer><p>Keys: a digit is a step of that process; u undoes, Home restarts, r is a random run, s one with a process that stops,
+w the worst. A bracket begins a call, and F ends it. A call takes effect at
+a letter with a line below it, or at a dot, where another process did it. A pale letter changed nothing.</p></footer>
 <script type="application/json" id="graph">"##;
 
 /// What stands after the graph.
@@ -130,9 +134,8 @@ function after(graph, here, process) {
   }
   write(edge.place, edge.text);
   if (edge.kind === "V") write(edge.place.replace(/state$/, "reply"), edge.beside);
-  const coming = edgeOf(graph, edge.to, process);
-  const turn = edge.kind === "T" && coming !== null && coming.kind === "R" ? 1 : 0;
   const before = here.calls[process];
+  const turn = beginsTurn(graph, edge, process) ? 1 : 0;
   const call = { ...before, steps: before.steps + 1, turns: before.turns + turn };
   if (edge.kind === "F") call.reply = edge.beside;
   calls[process] = call;
@@ -195,34 +198,79 @@ function randomRun(graph, random, stopped, most) {
   }
 }
 
-// for each log at the end, how many schedules have it: each node comes after those that lead to it
-function endsOf(graph) {
-  const count = graph.edges.length / graph.processes;
-  const waiting = new Array(count).fill(0);
+// the nodes in an order in which each comes after those that lead to it
+function orderOf(graph) {
+  const waiting = new Array(graph.edges.length / graph.processes).fill(0);
   for (const edge of graph.edges) if (edge !== null) waiting[edge.to] += 1;
-  const ways = new Array(count).fill(0n);
-  const reached = new Array(count).fill(null);
-  ways[0] = 1n;
-  reached[0] = opening(graph);
-  const open = [0];
+  const order = [0];
+  for (let k = 0; k < order.length; k++)
+    for (const p of ready(graph, order[k])) {
+      const { to } = edgeOf(graph, order[k], p);
+      waiting[to] -= 1;
+      if (waiting[to] === 0) order.push(to);
+    }
+  return order;
+}
+
+// for each log at the end, how many schedules have it
+function endsOf(graph) {
+  const ways = new Map([[0, 1n]]);
+  const reached = new Map([[0, opening(graph)]]);
   const ends = new Map();
-  while (open.length > 0) {
-    const node = open.pop();
+  for (const node of orderOf(graph)) {
+    const here = reached.get(node);
     const choices = ready(graph, node);
     if (choices.length === 0) {
-      const log = logOf(reached[node].memory).join("; ");
-      ends.set(log, (ends.get(log) || 0n) + ways[node]);
+      const log = logOf(here.memory).join("; ");
+      ends.set(log, (ends.get(log) || 0n) + ways.get(node));
     }
     for (const p of choices) {
-      const edge = edgeOf(graph, node, p);
-      ways[edge.to] += ways[node];
-      if (reached[edge.to] === null) reached[edge.to] = after(graph, reached[node], p);
-      waiting[edge.to] -= 1;
-      if (waiting[edge.to] === 0) open.push(edge.to);
+      const { to } = edgeOf(graph, node, p);
+      ways.set(to, (ways.get(to) || 0n) + ways.get(node));
+      if (!reached.has(to)) reached.set(to, after(graph, here, p));
     }
-    reached[node] = null;
+    reached.delete(node);
   }
   return ends;
+}
+
+// a turn begins where the test of a number leads to the reading of an announcement
+function beginsTurn(graph, edge, process) {
+  const coming = edgeOf(graph, edge.to, process);
+  return edge.kind === "T" && coming !== null && coming.kind === "R";
+}
+
+// of all runs in which a call of this process ends after most turns, one that has fewest events: who goes, in order
+function worstOf(graph, process) {
+  const better = (a, b) => b === undefined || a.turns > b.turns || (a.turns === b.turns && a.events < b.events);
+  const best = new Map([[0, { turns: 0, events: 0, from: null, by: null }]]);
+  let worst = { turns: -1 };
+  for (const node of orderOf(graph)) {
+    const here = best.get(node);
+    for (const p of ready(graph, node)) {
+      const edge = edgeOf(graph, node, p);
+      const turns = p !== process ? here.turns
+        : edge.call !== undefined ? 0 : here.turns + (beginsTurn(graph, edge, p) ? 1 : 0);
+      const one = { turns, events: here.events + 1, from: here, by: p };
+      if (better(one, best.get(edge.to))) best.set(edge.to, one);
+      if (p === process && edge.kind === "F" && better(one, worst)) worst = one;
+    }
+  }
+  const path = [];
+  for (let one = worst; one.from; one = one.from) path.push(one.by);
+  return { turns: worst.turns, events: path.length, path: path.reverse() };
+}
+
+// a shortest run to a longest call
+function worstRun(graph) {
+  let worst = { turns: -1, events: 0, path: [] };
+  for (let p = 0; p < graph.processes; p++) {
+    const one = worstOf(graph, p);
+    if (one.turns > worst.turns || (one.turns === worst.turns && one.events < worst.events)) worst = one;
+  }
+  const run = [opening(graph)];
+  for (const p of worst.path) run.push(after(graph, run[run.length - 1], p));
+  return run;
 }
 
 const SENTENCES = {
@@ -248,12 +296,17 @@ const SENTENCES = {
   F: (s) => `returns ${s.beside}; ${s.place} names ${s.text}.`,
 };
 
+// the process whose call takes effect in an event; null where none does
+function linkedBy(event) {
+  return event.edge !== null && event.edge.kind === "L" && event.changed.length > 0 ? Number(event.edge.text.split(".")[0]) : null;
+}
+
 function sentenceOf(here) {
   if (here.edge === null) return "Before the first event: choose who goes.";
   const edge = here.edge;
   if (edge.call !== undefined) return `P${here.process} begins call ${edge.call}: ${edge.words}.`;
-  const helped = edge.kind === "L" && here.changed.length > 0 && !edge.text.startsWith(`${here.process}.`)
-    ? ` P${here.process} does the call of P${edge.text.split(".")[0]}.` : "";
+  const linked = linkedBy(here);
+  const helped = linked !== null && linked !== here.process ? ` P${here.process} does the call of P${linked}.` : "";
   return `P${here.process}, ${edge.kind}: ${SENTENCES[edge.kind](edge, here.changed.length > 0)}${helped}`;
 }
 
@@ -298,15 +351,21 @@ function put(id, text) {
   if (node.textContent !== text) node.textContent = text;
 }
 
-function stepper(here, p) {
+// the buttons stay, so that the focus does
+function stepper(p) {
+  const button = element("button", "step");
+  button.type = "button";
+  if (p < 10) button.setAttribute("aria-keyshortcuts", String(p));
+  button.onclick = () => go(p);
+  return button;
+}
+
+function showStepper(button, here, p) {
   const edge = edgeOf(graph, here.node, p);
   const what = edge === null ? "has made all its calls"
     : edge.call !== undefined ? `begins ${edge.call}: ${edge.words}` : `line ${lineOf(edge.kind)}, ${edge.kind}: ${edge.place}`;
-  const button = element("button", "step", element("b", "", `P${p} `), what);
-  button.type = "button";
+  button.replaceChildren(element("b", "", `P${p} `), what);
   button.setAttribute("aria-disabled", String(edge === null));
-  button.onclick = () => go(p);
-  return button;
 }
 
 function entry(here, place) {
@@ -349,9 +408,9 @@ function lanes() {
   for (let p = 0; p < graph.processes; p++) {
     const row = element("tr", "", element("th", "", `P${p}`));
     for (const event of run.slice(1)) {
-      const letter = event.process !== p ? "" : event.edge.call !== undefined ? "[" : event.edge.kind;
-      const point = letter === "L" && event.changed.length > 0 ? "point" : "";
-      const cell = element("td", event.changed.length === 0 ? "pale" : point, letter);
+      const linked = linkedBy(event);
+      const own = event.process !== p ? "" : event.edge.call !== undefined ? "[" : event.edge.kind;
+      const cell = element("td", own && event.changed.length === 0 ? "pale" : linked === p ? "point" : "", own || (linked === p ? "\u2022" : ""));
       cell.title = event.process === p ? sentenceOf(event) : "";
       row.append(cell);
     }
@@ -367,14 +426,15 @@ function codeLines(here) {
       const edge = edgeOf(graph, here.node, p);
       return edge !== null && at !== "" && edge.kind === at;
     });
-    const told = `${String(number).padStart(2)}  ${at || " "}   ${text.padEnd(68)} ${who.map((p) => `P${p}`).join(" ")}\n`;
+    const names = who.map((p) => `P${p}`).join(" ").padEnd(5);
+    const told = `${String(number).padStart(2)} ${at || " "} ${names} ${text}\n`;
     return element("span", at !== "" && at === letter ? "last" : "", told);
   });
 }
 
 function show() {
   const here = run[run.length - 1];
-  fill("steppers", ...Array.from({ length: graph.processes }, (_, p) => stepper(here, p)));
+  [...document.getElementById("steppers").children].forEach((button, p) => showStepper(button, here, p));
   put("sentence", sentenceOf(here));
   const names = ["announce", "head"].flatMap((array) =>
     Array.from({ length: graph.processes }, (_, p) => `${array}[${p}]`));
@@ -386,8 +446,12 @@ function show() {
   fill("processes", ...Array.from({ length: graph.processes }, (_, p) => processBox(here, p)));
   put("log", logOf(here.memory).join("\n") || "empty");
   fill("lanes", ...lanes());
+  const scroll = document.getElementById("lanes").parentElement;
+  scroll.scrollLeft = scroll.scrollWidth;
   fill("code", ...codeLines(here));
-  document.getElementById("script").value = `${scriptOf(graph, run).lines.join("\n")}\n`;
+  const script = `${scriptOf(graph, run).lines.join("\n")}\n`;
+  document.getElementById("script").value = script;
+  document.getElementById("file").href = `data:text/plain,${encodeURIComponent(script)}`;
 }
 
 function go(p) {
@@ -400,34 +464,65 @@ function go(p) {
   show();
 }
 
+// another run, with a note on it
+function replace(other, note) {
+  run = other;
+  show();
+  if (note) put("sentence", `${sentenceOf(run[run.length - 1])} ${note}`);
+}
+
+function playStopped() {
+  const below = (n) => Math.floor(Math.random() * n);
+  const p = below(graph.processes);
+  const other = randomRun(graph, Math.random, p, below(30));
+  replace(other, `P${p} stopped after ${other.filter((event) => event.process === p).length} events.`);
+}
+
+function playWorst() {
+  const other = worstRun(graph);
+  const last = other[other.length - 1];
+  if (last.edge === null) return;
+  const { steps, turns } = last.calls[last.process];
+  replace(other, `No schedule here makes a call longer: ${steps} steps, ${turns} turns.`);
+}
+
 function undo() {
   if (run.length > 1) run.pop();
   show();
 }
 
+// a count: a great one is rounded
+function countText(count) {
+  return count < 1000000000n ? String(count) : Number(count).toExponential(1).replace("e+", " \u00d7 10^");
+}
+
 function showEnds() {
   const rows = [element("tr", "", element("th", "", "schedules"), element("th", "", "the log"))];
-  for (const [log, ways] of endsOf(graph)) rows.push(element("tr", "", element("td", "", String(ways)), element("td", "mono", log)));
+  for (const [log, ways] of endsOf(graph)) {
+    const count = element("td", "count", countText(ways));
+    count.title = String(ways);
+    const entries = log.split("; ").map((entry) => element("span", "entry", entry));
+    rows.push(element("tr", "", count, element("td", "mono", ...entries)));
+  }
   fill("ends", ...rows);
 }
 
 function start() {
   graph = JSON.parse(document.getElementById("graph").textContent);
   run = [opening(graph)];
+  fill("steppers", ...Array.from({ length: graph.processes }, (_, p) => stepper(p)));
   put("title", `You are the scheduler: ${graph.object}, ${graph.processes} processes`);
-  const press = (id, act) => { document.getElementById(id).onclick = act; };
-  press("undo", undo);
-  press("restart", () => { run = [opening(graph)]; show(); });
-  press("random", () => { run = randomRun(graph, Math.random, null, 0); show(); });
-  press("stopped", () => {
-    const below = (n) => Math.floor(Math.random() * n);
-    run = randomRun(graph, Math.random, below(graph.processes), below(30));
-    show();
-  });
+  const acts = {
+    undo, worst: playWorst, stopped: playStopped,
+    restart: () => replace([opening(graph)]),
+    random: () => replace(randomRun(graph, Math.random, null, 0)),
+  };
+  for (const id in acts) document.getElementById(id).onclick = acts[id];
+  const keys = { u: acts.undo, Home: acts.restart, w: acts.worst, r: acts.random, s: acts.stopped };
   document.addEventListener("keydown", (key) => {
     if (key.altKey || key.ctrlKey || key.metaKey || key.target.tagName === "TEXTAREA") return;
     if (/^[0-9]$/.test(key.key) && Number(key.key) < graph.processes) go(Number(key.key));
-    if (key.key === "u") undo();
+    else if (keys[key.key]) keys[key.key]();
   });
   showEnds();
   show();
