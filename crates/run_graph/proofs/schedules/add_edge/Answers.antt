@@ -1,6 +1,7 @@
-use Rattle.std.proofs.Common.{sym, subst, unwrap_or}
+use Rattle.std.proofs.Common.{sym, subst}
+use Rattle.run_graph.specs.AtHand.{IsTold}
 use Rattle.run_graph.specs.Schedule.{plan_of}
-use Rattle.run_graph.specs.Graph.{IsPart}
+use Rattle.run_graph.specs.Graph.{shown_at, IsPart}
 use Rattle.run_graph.proofs.AtHand.{AreAtHand-kept}
 use Rattle.run_graph.proofs.Parts.{IsPart-edge}
 use Rattle.run_graph.proofs.schedules.add_edge.Goals as goal
@@ -16,4 +17,4 @@ pub returns-clause-at_hand : goal.returns-clause-at_hand
 returns-clause-at_hand g c =
     let plan = plan_of (g.O.SeqObject.sequential c.args.plan.now.object) c.args.plan.now.processes c.args.plan.now.row c.args.plan.now.calls.items in
     AreAtHand-kept c.args.plan.now.object plan c.target_of.new.paths.items c.unwrap_or.result c.target_of.new.world c.target_of.new.worlds.items c.keep_world.new.lists.items c.in_ok-keep_world.ensures
-    (? c.unwrap_or.ensures) c.in_ok-target.ensures.at_hand
+    (subst (λ j. IsTold c.args.plan.now.object plan.object.initial (shown_at plan c.target_of.new.paths.items j) c.target_of.new.world) (sym c.unwrap_or.ensures) c.in_ok-target.ensures.told) c.in_ok-target.ensures.at_hand

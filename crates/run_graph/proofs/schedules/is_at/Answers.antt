@@ -1,4 +1,4 @@
-use Rattle.std.proofs.Common.{◌≡◌, ◌∙◌, ◌-◌, ap, arith, length, refl, slice_get, sym, Some}
+use Rattle.std.proofs.Common.{◌∙◌, ◌-◌, ap, arith, length, refl, slice_get, sym, Some}
 use Rattle.std.proofs.lemmas.Option.{slice_get_read}
 use Rattle.run_graph.specs.AtHand.{IsTold}
 use Rattle.run_graph.specs.Graph.{shown_at}

@@ -1,4 +1,4 @@
-use Rattle.std.proofs.Common.{◌≡◌, ◌∙◌, ◌++◌, ◌∷◌, [], arith, length, refl, sym, subst, IsSome, Some}
+use Rattle.std.proofs.Common.{◌≡◌, ◌∙◌, ◌++◌, ◌∷◌, [], arith, refl, sym, subst, IsSome, Some}
 use Rattle.uni_core.specs.World.{world_of}
 use Rattle.uni_core.specs.Same.{without_counts}
 use Rattle.run_graph.specs.AtHand.{AreAtHand}
