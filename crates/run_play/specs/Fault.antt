@@ -9,7 +9,7 @@ abbrev pub play_fault_text : PlayFault → List ℕ
 play_fault_text (Script fault) = fault_text fault
 play_fault_text Refused = codes "a command of the script is refused"
 play_fault_text Eras = codes "the script has more than one era"
-play_fault_text TooManyWorlds = codes "there are more than 100,000 worlds"
+play_fault_text TooManyWorlds = codes "there are more than 20,000 worlds"
 
 -- the status of a fault
 abbrev pub status_of_play : PlayFault → ℕ

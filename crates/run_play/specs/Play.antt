@@ -37,16 +37,17 @@ graph_members name n row state edges =
     named (codes "object") (Text name) ∷ named (codes "processes") (Number n) ∷ named (codes "row") (Number row)
     ∷ named (codes "state") (Text state) ∷ named (codes "edges") (Json (list_text edges)) ∷ []
 
--- The page of the calls of some events of n processes, on an object of this name whose states have these texts: it tells the graph
--- of all their schedules.
-pub record IsPageOf {S I R : Type 0} (o : SpokenObject S I R) (text : S → List ℕ) (name : List ℕ) (n row : ℕ)
+-- The page of the calls of some events of n processes from a number, on an object of this name whose states have these texts: it
+-- tells the graph of all their schedules.
+pub record IsPageOf {S I R : Type 0} (o : SpokenObject S I R) (text : S → List ℕ) (name : List ℕ) (n row number : ℕ)
     (events : List (Event I)) (page : List ℕ) : Type 0 where
+  pub from_1 : number ≡ 1
   pub one_era : has_one_era events ≡ true
   pub calls : List (Vec I Global)
   pub calls_are : AreCallsOf n events calls
   pub paths : List (Vec ℕ Global)
   pub targets : List (Option ℕ)
-  pub few : length paths ≤ 100000
+  pub few : length paths ≤ 20000
   pub graph : IsGraph (plan_of o.object n row calls) paths targets
   pub edges : List (Vec ℕ Global)
   pub edges_are : AreEdges (plan_of o.object n row calls) o.language text paths targets edges
@@ -57,7 +58,7 @@ pub record IsPageOf {S I R : Type 0} (o : SpokenObject S I R) (text : S → List
 abbrev pub IsPageOfSession : ScriptSession → (page : List ℕ) → Type 0
 IsPageOfSession b page =
     IsPageOf (spoken_of b.object) (state_text_of b.object) (word_of_object b.object) b.session.processes b.session.row
-    b.session.events page
+    b.session.first b.session.events page
 
 -- whether a remark is a refusal
 abbrev pub is_refusal : Remark → Bool

@@ -11,7 +11,6 @@ ghost use Rattle.run_trace.specs.Frames.{frame_of};
 ghost use Rattle.run_trace.specs.Shown.{begun_shown, frame_shown, step_shown};
 ghost use Rattle.run_play.specs.Edges.{begun_text, beside_text, edge_text, frame_text, step_text, AreEdges};
 
-use crate::fault::{PlayFault, of_graph};
 use json_text::{Member, Value, push_object, push_text_or_null};
 use ready_objects::Spoken;
 use run_graph::{Graph, Plan, keep_world, no_worlds, take_world};
@@ -29,17 +28,17 @@ fn frame_after<O: Spoken>(
     world: &mut World<O>,
     p: u64,
 ) -> Result<Option<Frame>, AllocError>
-    requires { world.old.object ≡ plan.now.object }
     ensures object { world.new.object ≡ world.old.object }
     ensures anchor { OnOk result (new_of (world_of world.new).memory Anchor ≡ new_of (world_of world.old).memory Anchor) }
-    ensures world { IfOk result (λ frame. option_map (λ _. world_of world.new) frame ≡ moved
-        (plan_of (O.sequential plan.now.object) plan.now.processes plan.now.row plan.now.calls.items)
-        p (world_of world.old)) }
+    ensures moved { IfOk result (λ frame. moved
+        (plan_of (O.sequential world.old.object) (world_of world.old).n plan.now.row plan.now.calls.items)
+        p (world_of world.old) ≡ option_map (λ _. world_of world.new) frame) }
     ensures frame { IfOk result (λ frame. option_map frame_shown frame ≡ option_and_then
-        (frame_of (O.sequential plan.now.object) O.language O.state_text (world_of world.old))
-        (event_of (plan_of (O.sequential plan.now.object) plan.now.processes plan.now.row plan.now.calls.items)
+        (frame_of (O.sequential world.old.object) O.language O.state_text (world_of world.old))
+        (event_of (plan_of (O.sequential world.old.object) (world_of world.old).n plan.now.row plan.now.calls.items)
         (world_of world.old) p)) }
 {
+    world.shape();
     if p >= world.processes() {
         return Ok(None);
     }
@@ -135,7 +134,8 @@ fn edge_text<O: Spoken + Copy>(
     worlds: &mut Vec<Vec<World<O>>>,
     k: usize,
     target: Option<usize>,
-) -> Result<Vec<u8>, PlayFault>
+) -> Result<Vec<u8>, AllocError>
+    requires processes { 0 < plan.now.processes }
     requires place { k < length graph.now.targets.items }
     requires target { target ≡ slice_index_or graph.now.targets.items k None }
     requires graph { IsGraph
@@ -152,16 +152,19 @@ fn edge_text<O: Spoken + Copy>(
         O.language O.state_text graph.now.paths.items k target) }
 {
     let Some(to) = target else {
-        return Ok(Vec::from_slice(alloc, b"null")?);
+        return Vec::from_slice(alloc, b"null");
     };
     let (node, p) = (k as u64 / plan.processes, k as u64 % plan.processes);
-    let mut world =
-        take_world(alloc, plan, &graph.paths, worlds, node as usize).map_err(of_graph)?;
-    let Some(frame) = frame_after(alloc, plan, &mut world, p)? else {
-        return Ok(Vec::from_slice(alloc, b"null")?);
+    let Ok(mut world) = take_world(alloc, plan, &graph.paths, worlds, node as usize) else {
+        return Err(AllocError);
     };
-    keep_world(worlds, to, world).map_err(of_graph)?;
-    Ok(frame_text(alloc, to, &frame)?)
+    let Some(frame) = frame_after(alloc, plan, &mut world, p)? else {
+        return Vec::from_slice(alloc, b"null");
+    };
+    match keep_world(worlds, to, world) {
+        Ok(()) => frame_text(alloc, to, &frame),
+        Err(_) => Err(AllocError),
+    }
 }
 
 /// The texts of all edges of a graph: of each node, and in it of each process.
@@ -171,22 +174,23 @@ pub(crate) fn edge_texts<O: Spoken + Copy>(
     alloc: Global,
     plan: &Plan<O>,
     graph: &Graph,
-) -> Result<Vec<Vec<u8>>, PlayFault>
-    requires { IsGraph
+) -> Result<Vec<Vec<u8>>, AllocError>
+    requires processes { 0 < plan.now.processes }
+    requires graph { IsGraph
         (plan_of (O.sequential plan.now.object) plan.now.processes plan.now.row plan.now.calls.items)
         graph.now.paths.items graph.now.targets.items }
     ensures { IfOk result (λ texts. AreEdges
         (plan_of (O.sequential plan.now.object) plan.now.processes plan.now.row plan.now.calls.items)
         O.language O.state_text graph.now.paths.items graph.now.targets.items texts.items) }
 {
-    let mut worlds = no_worlds(alloc, &graph.paths).map_err(of_graph)?;
+    let Ok(mut worlds) = no_worlds(alloc, &graph.paths) else {
+        return Err(AllocError);
+    };
     let mut texts = Vec::new(alloc);
     for target in &graph.targets {
         let k = texts.len();
         let text = edge_text(alloc, plan, graph, &mut worlds, k, *target)?;
-        if texts.push(text).is_err() {
-            return Err(PlayFault::from(AllocError));
-        }
+        texts.push(text)?;
     }
     Ok(texts)
 }

@@ -1,6 +1,7 @@
 //! Refusals.
 
 ghost use Rattle.std.specs.Prelude.{◌≡◌, Some};
+ghost use Rattle.uni_script.specs.declared.fault.BenchFault.{BenchFault as Fault};
 ghost use Rattle.run_play.specs.Fault.{play_fault_text};
 
 use run_graph::ExploreFault;
@@ -17,7 +18,7 @@ pub enum PlayFault {
     Refused,
     /// The script ends an era, or begins at another number than 1.
     Eras,
-    /// There are more than 100,000 worlds.
+    /// There are more than 20,000 worlds.
     TooManyWorlds,
 }
 
@@ -29,7 +30,7 @@ impl fmt::Display for PlayFault {
             PlayFault::Script(fault) => write!(f, "{fault}"),
             PlayFault::Refused => write!(f, "a command of the script is refused"),
             PlayFault::Eras => write!(f, "the script has more than one era"),
-            PlayFault::TooManyWorlds => write!(f, "there are more than 100,000 worlds"),
+            PlayFault::TooManyWorlds => write!(f, "there are more than 20,000 worlds"),
         }
     }
 }
@@ -56,7 +57,9 @@ impl From<AllocError> for PlayFault {
 }
 
 /// The fault of a page whose graph isn't found. A world of a run that was stored can be opened, but for memory.
-pub(crate) fn of_graph(fault: ExploreFault) -> PlayFault {
+pub(crate) fn of_graph(fault: ExploreFault) -> PlayFault
+    ensures { (e : Fault) → result ≡ PlayFault.Script e → e ≡ Fault.Memory }
+{
     match fault {
         ExploreFault::Limit => PlayFault::TooManyWorlds,
         ExploreFault::Opening(_) | ExploreFault::Memory => PlayFault::Script(BenchFault::Memory),

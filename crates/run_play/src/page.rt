@@ -24,7 +24,7 @@ use uni_script::{
 };
 
 /// The most worlds that a page can have.
-pub const MOST_WORLDS: usize = 100_000;
+pub const MOST_WORLDS: usize = 20_000;
 
 /// Whether a command was refused.
 fn any_refused(remarks: &[PlacedRemark]) -> bool
@@ -87,7 +87,9 @@ fn page_of_record<O: Spoken + Copy>(
     recorded: &Recorded<O>,
 ) -> Result<Vec<u8>, PlayFault>
     ensures page { IfOk result (λ text. IsPageOf (spoken O.sequential O.language recorded.now.world.object) O.state_text
-        name.now recorded.now.processes recorded.now.world.row (events_shown recorded.now.events) text.items) }
+        name.now recorded.now.processes recorded.now.world.row recorded.now.first (events_shown recorded.now.events)
+        text.items) }
+    ensures memory { (e : Fault) → IsErrOf result (PlayFault.Script e) → e ≡ Fault.Memory }
 {
     recorded.promise();
     if recorded.first() != 1 || recorded.processes() == 0 || !has_one_era(recorded) {
@@ -118,6 +120,7 @@ fn page_of_run(alloc: Global, run: &ScriptRun<ScriptRecord>) -> Result<Vec<u8>, 
     ensures accepted { OnOk result (any_refused run.now.remarks.items ≡ false) }
     ensures page { IfOk result (λ text. (version : Version)
         → IsPageOfSession (session_of_record version run.now.record) text.items) }
+    ensures memory { (e : Fault) → IsErrOf result (PlayFault.Script e) → e ≡ Fault.Memory }
 {
     if any_refused(&run.remarks) {
         return Err(PlayFault::Refused);

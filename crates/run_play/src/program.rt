@@ -1,6 +1,6 @@
 //! The program over its ends, and its statuses.
 
-ghost use Rattle.std.specs.Prelude.{◌≡◌, ◌≢◌, ◌×◌, ◌⊎◌, ℕ, List, true, false};
+ghost use Rattle.std.specs.Prelude.{◌≡◌, ◌≢◌, ◌⊎◌, ℕ, List, true, false};
 ghost use Rattle.std.specs.Io.KnownBytes.{Appends};
 ghost use Rattle.uni_script.specs.Ends.{AppendsPrefix};
 ghost use Rattle.run_play.specs.Fault.{IsStatusOfPlay, TellsPlayFault};
@@ -48,10 +48,18 @@ fn report<F: TextOut>(alloc: Global, fault: PlayFault, faults: &mut F) -> u8
     ensures told { TellsPlayFault (F.contents faults.old) (F.contents faults.new) (F.has_failed faults.new) result }
 {
     match fault {
-        PlayFault::Script(fault) => return report_fault(alloc, fault, faults),
-        PlayFault::Refused => tell(faults, b"a command of the script is refused\n"),
-        PlayFault::Eras => tell(faults, b"the script has more than one era\n"),
-        PlayFault::TooManyWorlds => tell(faults, b"there are more than 100,000 worlds\n"),
+        PlayFault::Script(fault) => report_fault(alloc, fault, faults),
+        PlayFault::Refused => {
+            tell(faults, b"a command of the script is refused\n");
+            2
+        }
+        PlayFault::Eras => {
+            tell(faults, b"the script has more than one era\n");
+            2
+        }
+        PlayFault::TooManyWorlds => {
+            tell(faults, b"there are more than 20,000 worlds\n");
+            2
+        }
     }
-    2
 }
