@@ -33,5 +33,5 @@ not_0 (Script f) status is zero = elim is [
 pub of_write : (status : ℕ) → IsStatusOf Write status → status ≡ 3
 of_write status is = elim is [
   | inl same ↦ same
-  | inr other ↦ elim other.0 [ | inl two ↦ absurd (omega arith) | inr five ↦ absurd (omega arith) ]
+  | inr other ↦ elim other.0 [ inl two ↦ absurd (omega arith) | inr five ↦ absurd (omega arith) ]
 ]

@@ -27,9 +27,9 @@ escaped_byte b = if b == 60 then codes "\\u003c" else b ∷ []
 abbrev pub escaped : List ℕ → List ℕ
 escaped json = flat_map escaped_byte json
 
--- JSON between the fixed texts
-unfoldable pub page_text : List ℕ → List ℕ
-page_text json = START.now ++ escaped json ++ END.now
+-- JSON, escaped, between two texts
+abbrev pub text_between : (start json end : List ℕ) → List ℕ
+text_between start json end = start ++ escaped json ++ end
 
 -- a graph with what its page needs beside it: the name of the object, how many processes and calls of a row, the first state
 abbrev pub graph_members : (name : List ℕ) → (n row : ℕ) → (state : List ℕ) → (edges : List (List ℕ)) → List Member
@@ -51,8 +51,8 @@ pub record IsPageOf {S I R : Type 0} (o : SpokenObject S I R) (text : S → List
   pub graph : IsGraph (plan_of o.object n row calls) paths targets
   pub edges : List (Vec ℕ Global)
   pub edges_are : AreEdges (plan_of o.object n row calls) o.language text paths targets edges
-  pub page_is : page ≡ page_text (object_text (graph_members name n row (text o.object.initial)
-      (map (λ (e : Vec ℕ Global). e.items) edges)))
+  pub page_is : page ≡ text_between START.now (object_text (graph_members name n row (text o.object.initial)
+      (map (λ (e : Vec ℕ Global). e.items) edges))) END.now
 
 -- that of the session which a script leaves
 abbrev pub IsPageOfSession : ScriptSession → (page : List ℕ) → Type 0

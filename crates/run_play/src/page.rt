@@ -1,6 +1,7 @@
 //! From the bytes of a script to the page.
 
-ghost use Rattle.std.specs.Prelude.{◌≡◌, ◌++◌, ◌<◌, IfOk, OnOk, IfErr, IsErrOf, false, true};
+ghost use Rattle.std.specs.Prelude.{◌≡◌, ◌++◌, IfOk, OnOk, IsErrOf, false, map};
+ghost use Rattle.json_text.specs.Json.{object_text};
 ghost use Rattle.uni_record.specs.Event.{events_shown};
 ghost use Rattle.uni_script.specs.Objects.{spoken};
 ghost use Rattle.uni_script.specs.Replay.{HasFault, IsFaultOfScript};
@@ -8,7 +9,7 @@ ghost use Rattle.uni_script.specs.ScriptRun.{session_of_record};
 ghost use Rattle.uni_script.specs.Scripts.{scripts_of};
 ghost use Rattle.uni_script.specs.declared.fault.BenchFault.{BenchFault as Fault};
 ghost use Rattle.uni_script.specs.declared.grammar.Version.{Version};
-ghost use Rattle.run_play.specs.Play.{any_refused, escaped, escaped_byte, page_text, IsPageOf, IsPageOfSession, IsPlayed};
+ghost use Rattle.run_play.specs.Play.{any_refused, escaped, escaped_byte, graph_members, text_between, IsPageOf, IsPageOfSession, IsPlayed};
 
 use crate::edges::edge_texts;
 use crate::fault::{PlayFault, of_graph};
@@ -16,7 +17,7 @@ use crate::plan::{has_one_era, plan_of};
 use crate::viewer::{END, START};
 use json_text::{Member, Value, push_list, push_object};
 use ready_objects::Spoken;
-use run_graph::explore;
+use run_graph::{Plan, explore};
 use std::alloc::{AllocError, Global};
 use uni_record::Recorded;
 use uni_script::{
@@ -64,17 +65,44 @@ fn push_escaped(text: &mut Vec<u8>, json: &[u8]) -> Result<(), AllocError>
     Ok(())
 }
 
-/// JSON, escaped, between the fixed texts.
+/// JSON, escaped, between two texts.
 ///
 /// An `Err` says that memory was refused.
-#[tactic(auto, unfolding(crate::specs::Play::page_text))]
-fn page_text(alloc: Global, json: &[u8]) -> Result<Vec<u8>, AllocError>
-    ensures { IfOk result (λ text. text.items ≡ page_text json.now) }
+fn between(alloc: Global, start: &str, json: &[u8], end: &str) -> Result<Vec<u8>, AllocError>
+    ensures { IfOk result (λ text. text.items ≡ text_between start.now json.now end.now) }
 {
     let mut text = Vec::new(alloc);
-    text.extend_from_slice(START.as_bytes())?;
+    text.extend_from_slice(start.as_bytes())?;
     push_escaped(&mut text, json)?;
-    text.extend_from_slice(END.as_bytes())?;
+    text.extend_from_slice(end.as_bytes())?;
+    Ok(text)
+}
+
+/// A graph with what its page needs beside it, as JSON.
+///
+/// An `Err` says that memory was refused.
+fn graph_text<O: Spoken + Copy>(
+    alloc: Global,
+    name: &str,
+    plan: &Plan<O>,
+    edges: &[Vec<u8>],
+) -> Result<Vec<u8>, AllocError>
+    ensures { IfOk result (λ text. text.items ≡ object_text (graph_members name.now plan.now.processes plan.now.row
+        (O.state_text (O.sequential plan.now.object).initial) (map (λ e. e.items) edges.now))) }
+{
+    let mut list = Vec::new(alloc);
+    push_list(&mut list, edges)?;
+    let mut state = Vec::new(alloc);
+    O::push_state(&mut state, &plan.object.start(alloc)?)?;
+    let members = [
+        Member("object", Value::Text(name.as_bytes())),
+        Member("processes", Value::Number(plan.processes)),
+        Member("row", Value::Number(plan.row)),
+        Member("state", Value::Text(&state)),
+        Member("edges", Value::Json(&list)),
+    ];
+    let mut text = Vec::new(alloc);
+    push_object(&mut text, &members)?;
     Ok(text)
 }
 
@@ -96,21 +124,14 @@ fn page_of_record<O: Spoken + Copy>(
         return Err(PlayFault::Eras);
     }
     let plan = plan_of(alloc, recorded)?;
-    let graph = explore(alloc, &plan, MOST_WORLDS).map_err(of_graph)?;
-    let mut edges = Vec::new(alloc);
-    push_list(&mut edges, &edge_texts(alloc, &plan, &graph)?)?;
-    let mut state = Vec::new(alloc);
-    O::push_state(&mut state, &plan.object.start(alloc)?)?;
-    let mut json = Vec::new(alloc);
-    let members = [
-        Member("object", Value::Text(name.as_bytes())),
-        Member("processes", Value::Number(plan.processes)),
-        Member("row", Value::Number(plan.row)),
-        Member("state", Value::Text(&state)),
-        Member("edges", Value::Json(&edges)),
-    ];
-    push_object(&mut json, &members)?;
-    Ok(page_text(alloc, &json)?)
+    let graph = match explore(alloc, &plan, MOST_WORLDS) {
+        Ok(graph) => graph,
+        Err(fault) => return Err(of_graph(fault)),
+    };
+    let edges = edge_texts(alloc, &plan, &graph)?;
+    let json = graph_text(alloc, name, &plan, &edges)?;
+    let page = between(alloc, START, &json, END)?;
+    Ok(page)
 }
 
 /// The page of the calls of a script's run, by its object.
