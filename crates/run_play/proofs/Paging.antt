@@ -6,7 +6,7 @@ use Rattle.json_text.specs.Json.{object_text}
 use Rattle.ready_objects.specs.Spoken.{Language}
 use Rattle.seq_object.specs.Sequential.{Sequential}
 use Rattle.uni_model.specs.Worlds.{Event}
-use Rattle.uni_script.specs.Objects.{spoken}
+use Rattle.uni_script.specs.Objects.{SpokenObject, spoken}
 use Rattle.uni_script.specs.declared.grammar.Version.{Version}
 use Rattle.uni_script.specs.declared.script_run.ScriptRun.{ScriptRun}
 use Rattle.uni_script.specs.declared.script_run.ScriptRecord.{ScriptRecord}
@@ -40,6 +40,11 @@ IsPlayed-run options left run same ran accepted page paged =
       accepted = accepted;
       page_of = subst (λ b. IsPageOfSession b page) (sym of.session) (paged of.version);
     }
+
+-- the same name
+pub IsPageOf-named : {S I R : Type 0} {o : SpokenObject S I R} {text : S → List ℕ} {name name' : List ℕ} {n row number : ℕ} {events : List (Event I)} {page : List ℕ} → name ≡ name'
+    → IsPageOf o text name n row number events page → IsPageOf o text name' n row number events page
+IsPageOf-named {o = o} {text = text} {n = n} {row = row} {number = number} {events = events} {page = page} same is = subst (λ (x : List ℕ). IsPageOf o text x n row number events page) same is
 
 -- the page of a plan that has the object, the counts and the calls of a run
 pub IsPageOf-plan : {O S I R : Type 0} (sequential : O → Sequential S I R) (l : Language I R) (text : S → List ℕ) (name : List ℕ) (object object' : O) (n n' row row' number : ℕ) (events : List (Event I))

@@ -1,7 +1,6 @@
 -- What is told of an event, by any world that is the same.
-use Rattle.std.proofs.Common.{◌≡◌, ◌∙◌, ℕ, ◌*◌, ◌/◌, ◌%◌, ◌<◌, List, [], ◌∷◌, ◌++◌, length, refl, ap, sym, subst, Option, None, Some, arith, nat_lt, option_map, slice_index_or, true}
+use Rattle.std.proofs.Common.{◌≡◌, ◌∙◌, ℕ, ◌*◌, ◌/◌, ◌%◌, ◌<◌, List, [], ◌∷◌, ◌++◌, length, refl, ap, sym, subst, Option, None, Some, arith, false, is_some, option_map, slice_index_or, IsSome}
 use Rattle.std.proofs.Math.Nat.{div-lt_iff_lt-mul}
-use Rattle.std.proofs.lemmas.Bool.Decides.{nat_tests}
 use Rattle.std.specs.Prelude.{codes, option_and_then, Vec}
 use Rattle.std.specs.Option.{option_map_or}
 use Rattle.std.specs.declared.alloc.Global.{Global}
@@ -10,13 +9,13 @@ use Rattle.ready_objects.specs.Spoken.{Language}
 use Rattle.uni_model.specs.Places.{memory_with}
 use Rattle.uni_model.specs.Stages.{Pending}
 use Rattle.uni_model.specs.Transition.{place_of}
-use Rattle.uni_model.specs.Worlds.{WorldOf, Event, calls_in_era, response_of_step, world_after_step}
+use Rattle.uni_model.specs.Worlds.{WorldOf, Event, response_of_step, world_after_step}
 use Rattle.uni_model.specs.Worlds.Event.{Call, Step, Trim, Reshape}
 use Rattle.uni_core.specs.Readers.{kind_of}
 use Rattle.uni_core.specs.Same.{without_counts}
 use Rattle.run_trace.specs.Held.{alone, held}
 use Rattle.run_trace.specs.Proposal.{proposal_of}
-use Rattle.run_trace.specs.Frames.{Begun, Stepped, Begins, Steps, Ends, begun, frame_of, stepped}
+use Rattle.run_trace.specs.Frames.{Begins, Steps, Ends, frame_of, stepped}
 use Rattle.run_graph.specs.Graph.{path_of, shown_at, IsGraph, LeadsTo}
 use Rattle.run_graph.specs.Schedule.{Plan, event_of, moved, shown, world_at}
 use Rattle.run_graph.proofs.Reached.{shown-next, shown_at-path, some-same}
@@ -93,29 +92,11 @@ module _ {S I R : Type 0} (plan : Plan S I R) (paths : List (Vec ℕ Global)) (t
       sym (leads to is).world ∙ shown-next plan (path_of paths (k / plan.n)) (k % plan.n) w (shown_at-path plan paths (k / plan.n) (without_counts w) told)
       ∙ ap (option_map without_counts) moves
 
-is_lt : (a b : ℕ) → a < b → nat_lt a b ≡ true
-is_lt a b below = grind (arith, nat_tests)
+-- where something is mapped, there is something, and where nothing is, there is nothing
+pub some_mapped : {A B : Type 0} (f : A → B) (o : Option A) (b : B) → Some b ≡ option_map f o → IsSome o
+some_mapped f None b e = absurd (cc)
+some_mapped f (Some a) b e = refl
 
-module _ {S I R : Type 0} (plan : Plan S I R) (w : WorldOf S I R) (p : ℕ) (inside : p < w.n) where
-  event-step : (c : Pending) → w.call p ≡ Some c → event_of plan w p ≡ Some (Step p)
-  event-step c pending = rw (is_lt p w.n inside, pending) refl
-
-  event-call : (i : I) → w.call p ≡ None → calls_in_era w p < plan.row → plan.call p (w.begun p) ≡ Some i → event_of plan w p ≡ Some (Call p i)
-  event-call i idle room next = rw (is_lt p w.n inside, idle, is_lt (calls_in_era w p) plan.row room, next) refl
-
-  module _ (l : Language I R) (text : S → List ℕ) where
-    -- the frame of a step
-    pub frame-step : (s : Stepped) → Some s ≡ option_map (stepped plan.object l text w p) (w.call p)
-        → Some (Steps s) ≡ option_and_then (frame_of plan.object l text w) (event_of plan w p)
-    frame-step s is = at (w.call p) refl is where
-      at : (o : Option Pending) → w.call p ≡ o → Some s ≡ option_map (stepped plan.object l text w p) o
-          → Some (Steps s) ≡ option_and_then (frame_of plan.object l text w) (event_of plan w p)
-      at None pending e = absurd (cc)
-      at (Some c) pending e =
-          ap (λ k. Some (Steps k)) (some-same _ _ e)
-          ∙ sym (ap (option_and_then (frame_of plan.object l text w)) (event-step c pending) ∙ ap (option_map (λ call. Steps (stepped plan.object l text w p call))) pending)
-
-    -- the frame of a call
-    pub frame-call : (i : I) (b : Begun) → w.call p ≡ None → calls_in_era w p < plan.row → plan.call p (w.begun p) ≡ Some i → b ≡ begun plan.object l text w p i
-        → Some (Begins b) ≡ option_and_then (frame_of plan.object l text w) (event_of plan w p)
-    frame-call i b idle room next is = ap (λ k. Some (Begins k)) is ∙ sym (ap (option_and_then (frame_of plan.object l text w)) (event-call i idle room next))
+pub none_mapped : {A B : Type 0} (f : A → B) (o : Option A) → is_some (option_map f o) ≡ false → o ≡ None
+none_mapped f None e = refl
+none_mapped f (Some a) e = absurd (cc)
