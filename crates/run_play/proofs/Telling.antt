@@ -1,5 +1,5 @@
 -- What is told of an event, by any world that is the same.
-use Rattle.std.proofs.Common.{◌≡◌, ◌∙◌, ℕ, ◌*◌, ◌/◌, ◌%◌, ◌<◌, List, [], ◌∷◌, ◌++◌, length, refl, ap, sym, subst, Option, None, Some, arith, false, is_some, option_map, slice_index_or, IsSome}
+use Rattle.std.proofs.Common.{◌≡◌, ◌∙◌, ℕ, ◌*◌, ◌/◌, ◌%◌, ◌<◌, List, [], ◌∷◌, ◌++◌, length, refl, ap, sym, subst, Option, None, Some, arith, false, is_some, option_map, slice_index_or, IsSome, Result, Ok, Err, OnOk}
 use Rattle.std.proofs.Math.Nat.{div-lt_iff_lt-mul}
 use Rattle.std.specs.Prelude.{codes, option_and_then, Vec}
 use Rattle.std.specs.Option.{option_map_or}
@@ -19,7 +19,9 @@ use Rattle.run_trace.specs.Frames.{Begins, Steps, Ends, frame_of, stepped}
 use Rattle.run_graph.specs.Graph.{path_of, shown_at, IsGraph, LeadsTo}
 use Rattle.run_graph.specs.Schedule.{Plan, event_of, moved, shown, world_at}
 use Rattle.run_graph.proofs.Reached.{shown-next, shown_at-path, some-same}
-use Rattle.run_play.specs.Edges.{frame_at, frame_text, step_text}
+use Rattle.run_trace.specs.Shown.{frame_shown}
+use Rattle.run_trace.specs.declared.frame.Frame.{Frame as FrameOfCode}
+use Rattle.run_play.specs.Edges.{edge_text, frame_at, frame_text, step_text}
 
 module _ {S I R : Type 0} (object : Sequential S I R) (l : Language I R) (text : S → List ℕ) (to : ℕ) where
   stepped-memory : (w : WorldOf S I R) (p : ℕ) (c : Option Pending) → (world_after_step object w p c).memory ≡ (world_after_step object (without_counts w) p c).memory
@@ -91,6 +93,23 @@ module _ {S I R : Type 0} (plan : Plan S I R) (paths : List (Vec ℕ Global)) (t
   shown-target to w v is told moves =
       sym (leads to is).world ∙ shown-next plan (path_of paths (k / plan.n)) (k % plan.n) w (shown_at-path plan paths (k / plan.n) (without_counts w) told)
       ∙ ap (option_map without_counts) moves
+
+map_or_mapped : {A B C : Type 0} (f : B → C) (h : A → B) (d : C) (o : Option A) → option_map_or f (option_map h o) d ≡ option_map_or (λ x. f (h x)) o d
+map_or_mapped f h d None = refl
+map_or_mapped f h d (Some x) = refl
+
+-- the text of an edge, by what the event of its process does in a world of its node
+pub edge_told : {S I R : Type 0} (plan : Plan S I R) (l : Language I R) (text : S → List ℕ) (paths : List (Vec ℕ Global)) (k to : ℕ) (w : WorldOf S I R) (o : Option FrameOfCode)
+    → shown_at plan paths (k / plan.n) ≡ Some (without_counts w) → option_map frame_shown o ≡ option_and_then (frame_of plan.object l text w) (event_of plan w (k % plan.n))
+    → edge_text plan l text paths k (Some to) ≡ option_map_or (λ f. frame_text to (frame_shown f)) o (codes "null")
+edge_told plan l text paths k to w o shown is =
+    told_at-path plan l text to (path_of paths (k / plan.n)) (k % plan.n) w (shown_at-path plan paths (k / plan.n) (without_counts w) shown)
+    ∙ ap (λ f. option_map_or (frame_text to) f (codes "null")) (sym is) ∙ map_or_mapped (frame_text to) frame_shown (codes "null") o
+
+-- what holds anyway holds of an answer that is Ok
+pub OnOk-all : {A E : Type 0} (r : Result A E) (P : Type 0) → P → OnOk r P
+OnOk-all (Ok a) P p = p
+OnOk-all (Err e) P p = tt
 
 -- where something is mapped, there is something, and where nothing is, there is nothing
 pub some_mapped : {A B : Type 0} (f : A → B) (o : Option A) (b : B) → Some b ≡ option_map f o → IsSome o

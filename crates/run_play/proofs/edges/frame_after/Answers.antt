@@ -18,7 +18,7 @@ pub returns-in_ok-begun_of-in-Some-clause-anchor : goal.returns-in_ok-begun_of-i
 returns-in_ok-begun_of-in-Some-clause-anchor g c =
     let there = c.if-p-processes.false in
     let count = c.processes.ensures in
-    ap (λ (w : WorldOf g.row.O-State.Denot g.row.O-Inv.Denot g.row.O-Resp.Denot). new_of w.memory Anchor) c.in_ok-begun_of.ensures.world
+    ap (λ (w : WorldOf g.row.O-State.Denot g.row.O-Inv.Denot g.row.O-Resp.Denot). new_of w.memory Anchor) c.in_ok-begun_of-in-Some.ensures.world
     ∙ anchor_stays (g.O.SeqObject.sequential c.args.world.now.object) (world_of c.args.world.now) (Call c.args.p c.in-Some.inv.now) c.shape.ensures.sound
     (omega arith, none_mapped _ _ (ap is_some (sym c.current.ensures) ∙ sym c.if-is_some.ensures)) tt
 
@@ -31,4 +31,4 @@ returns-in_ok-begun_of-in-Some-clause-moved g c =
     moved-call (plan_of (g.O.SeqObject.sequential c.args.world.now.object) (world_of c.args.world.now).n c.args.plan.now.row c.args.plan.now.calls.items) (world_of c.args.world.now) c.args.p c.in-Some.inv.now
     (omega arith) (none_mapped _ _ (ap is_some (sym c.current.ensures) ∙ sym c.if-is_some.ensures)) (omega arith)
     (ap (call_in c.args.plan.now.calls.items c.args.p) (sym c.begun.ensures) ∙ sym c.in-Some.ensures)
-    ∙ ap Some (sym c.in_ok-begun_of.ensures.world)
+    ∙ ap Some (sym c.in_ok-begun_of-in-Some.ensures.world)
