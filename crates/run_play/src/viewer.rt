@@ -26,7 +26,7 @@ button:focus-visible, textarea:focus-visible { outline: 3px solid var(--touched)
 .changed { background: var(--mark); color: var(--on); font-weight: bold; } .touched { outline: 3px solid var(--touched); }
 .scroll { overflow-x: auto; } .lanes { border-collapse: collapse; }
 .lanes td { min-width: 1.1em; text-align: center; padding: 0; border-bottom: 1px solid var(--pale); } .lanes .pale { opacity: 0.6; }
-.lanes .point { text-decoration: underline; font-weight: bold; }
+.lanes th { position: sticky; left: 0; background: Canvas; padding-right: 0.3em; } .lanes .point { text-decoration: underline; font-weight: bold; }
 #code { margin: 0; font-size: 0.9em; } #code .last { background: var(--mark); color: var(--on); }
 textarea { width: 100%; height: 9em; } table { border-collapse: collapse; } #ends td, #ends th { padding: 0.1em 0.6em; text-align: left; }
 .count { white-space: nowrap; } .entry { display: inline-block; margin-right: 1.2em; } #ends tr { border-bottom: 1px solid var(--pale); }
