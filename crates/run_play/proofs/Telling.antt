@@ -1,5 +1,5 @@
 -- What is told of an event, by any world that is the same.
-use Rattle.std.proofs.Common.{◌≡◌, ◌∙◌, ℕ, ◌*◌, ◌/◌, ◌%◌, ◌<◌, List, [], ◌∷◌, ◌++◌, length, refl, ap, sym, subst, Option, None, Some, arith, false, is_some, option_map, slice_index_or, IsSome, Result, Ok, Err, OnOk}
+use Rattle.std.proofs.Common.{◌≡◌, ◌∙◌, ℕ, ◌/◌, ◌%◌, ◌<◌, List, [], ◌∷◌, ◌++◌, length, refl, ap, sym, subst, Option, None, Some, arith, false, is_some, option_map, slice_index_or, IsSome, Result, Ok, Err, OnOk}
 use Rattle.std.proofs.Math.Nat.{div-lt_iff_lt-mul}
 use Rattle.std.specs.Prelude.{codes, option_and_then, Vec}
 use Rattle.std.specs.Option.{option_map_or}
@@ -15,7 +15,7 @@ use Rattle.uni_core.specs.Readers.{kind_of}
 use Rattle.uni_core.specs.Same.{without_counts}
 use Rattle.run_trace.specs.Held.{alone, held}
 use Rattle.run_trace.specs.Proposal.{proposal_of}
-use Rattle.run_trace.specs.Frames.{Begins, Steps, Ends, frame_of, stepped}
+use Rattle.run_trace.specs.Frames.{Steps, frame_of, stepped}
 use Rattle.run_graph.specs.Graph.{path_of, shown_at, IsGraph, LeadsTo}
 use Rattle.run_graph.specs.Schedule.{Plan, event_of, moved, shown, world_at}
 use Rattle.run_graph.proofs.Reached.{shown-next, shown_at-path, some-same}

@@ -29,7 +29,8 @@ fn frame_after<O: Spoken>(
     p: u64,
 ) -> Result<Option<Frame>, AllocError>
     ensures object { world.new.object ≡ world.old.object }
-    ensures anchor { OnOk result (new_of (world_of world.new).memory Anchor ≡ new_of (world_of world.old).memory Anchor) }
+    ensures anchor { OnOk result (new_of (world_of world.new).memory Anchor
+        ≡ new_of (world_of world.old).memory Anchor) }
     ensures moved { IfOk result (λ frame. moved
         (plan_of (O.sequential world.old.object) (world_of world.old).n plan.now.row plan.now.calls.items)
         p (world_of world.old) ≡ option_map (λ _. world_of world.new) frame) }

@@ -9,7 +9,8 @@ ghost use Rattle.uni_script.specs.ScriptRun.{session_of_record};
 ghost use Rattle.uni_script.specs.Scripts.{scripts_of};
 ghost use Rattle.uni_script.specs.declared.fault.BenchFault.{BenchFault as Fault};
 ghost use Rattle.uni_script.specs.declared.grammar.Version.{Version};
-ghost use Rattle.run_play.specs.Play.{any_refused, escaped, escaped_byte, graph_members, text_between, IsPageOf, IsPageOfSession, IsPlayed};
+ghost use Rattle.run_play.specs.Play.{any_refused, escaped, escaped_byte, graph_members, text_between};
+ghost use Rattle.run_play.specs.Play.{IsPageOf, IsPageOfSession, IsPlayed};
 
 use crate::edges::edge_texts;
 use crate::fault::{PlayFault, of_graph};

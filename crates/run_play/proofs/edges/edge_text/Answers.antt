@@ -1,4 +1,4 @@
-use Rattle.std.proofs.Common.{◌≡◌, ◌∙◌, ◌/◌, ◌%◌, ap, arith, codes, length, sym, subst, option_map, Some}
+use Rattle.std.proofs.Common.{◌∙◌, ◌/◌, ◌%◌, ap, arith, codes, length, sym, subst, option_map}
 use Rattle.std.proofs.lemmas.Result.{IfOk-weaker}
 use Rattle.std.specs.Prelude.{option_and_then}
 use Rattle.std.specs.Option.{option_map_or}
