@@ -26,12 +26,11 @@ drop-past (x ∷ xs) zero past = absurd (omega arith)
 drop-past (x ∷ xs) (suc i) past = drop-past xs i (omega arith)
 
 -- one event more, as it is told of a world over the same object
-pub along-taken : {O S I R : Type 0} (sequential : O → Sequential S I R) (object object' : O) (n n' row row' : ℕ) (calls : List (Vec I Global)) (w : WorldOf S I R) (o end : Option (WorldOf S I R))
-    (path : List ℕ) (i : ℕ) → object' ≡ object → row' ≡ row → i < length path → moved (plan_of (sequential object') n' row' calls) (get_or path i 0) w ≡ o
+pub along-taken : {O S I R : Type 0} (sequential : O → Sequential S I R) (object object' : O) (n n' row : ℕ) (calls : List (Vec I Global)) (w : WorldOf S I R) (o end : Option (WorldOf S I R))
+    (path : List ℕ) (i : ℕ) → object' ≡ object → i < length path → moved (plan_of (sequential object') n' row calls) (get_or path i 0) w ≡ o
     → along (plan_of (sequential object) n row calls) (Some w) (drop i path) ≡ end → along (plan_of (sequential object) n row calls) o (drop (i + 1) path) ≡ end
-along-taken sequential object object' n n' row row' calls w o end path i objects rows below told left =
+along-taken sequential object object' n n' row calls w o end path i objects below told left =
     let p = get_or path i 0 in
     let plan = plan_of (sequential object) n row calls in
-    let same : moved plan p w ≡ o =
-    sym (ap (λ x. moved (plan_of (sequential x) n row' calls) p w) objects ∙ ap (λ r. moved (plan_of (sequential object) n r calls) p w) rows) ∙ told in
+    let same : moved plan p w ≡ o = sym (ap (λ x. moved (plan_of (sequential x) n row calls) p w) objects) ∙ told in
     ap (λ z. along plan z (drop (i + 1) path)) (sym same) ∙ sym (along-more plan w path i p below refl) ∙ left

@@ -2,3 +2,4 @@ pub mod Along
 pub mod Parts
 pub mod Moves
 pub mod Reached
+pub mod AtHand

@@ -1,5 +1,5 @@
 -- How a graph grows.
-use Rattle.std.proofs.Common.{◌≡◌, ◌∙◌, ℕ, suc, zero, ◌+◌, ◌*◌, ◌/◌, ◌%◌, ◌<◌, ◌≤◌, List, [], ◌∷◌, ◌++◌, length, get_or, refl, ap, sym, subst, ◌⊎◌, inl, inr, Option, None, Some, arith, slice_get, IfSome, IsSome, length-append}
+use Rattle.std.proofs.Common.{◌≡◌, ◌∙◌, ℕ, suc, zero, ◌+◌, ◌*◌, ◌/◌, ◌%◌, ◌<◌, ◌≤◌, List, [], ◌∷◌, ◌++◌, length, get_or, refl, ap, sym, subst, ◌⊎◌, inl, inr, Option, None, Some, arith, slice_get, IsSome, length-append}
 use Rattle.std.proofs.Math.ListN.{get_or-append}
 use Rattle.std.proofs.Math.Seq.{get_or-append_seam}
 use Rattle.std.proofs.Math.Nat.{div-lt_iff_lt-mul}
@@ -15,7 +15,7 @@ use Rattle.uni_core.specs.Same.{without_counts}
 use Rattle.std.specs.Prelude.{option_map}
 use Rattle.run_graph.specs.Graph.{path_of, shown_at, LeadsTo, IsEdge, IsPart, IsMore}
 
-slice_get-left : {X : Type 0} (xs ys : List X) (k : ℕ) → k < length xs → slice_get (xs ++ ys) k ≡ slice_get xs k
+pub slice_get-left : {X : Type 0} (xs ys : List X) (k : ℕ) → k < length xs → slice_get (xs ++ ys) k ≡ slice_get xs k
 slice_get-left [] ys k below = absurd (omega arith)
 slice_get-left (x ∷ xs) ys zero below = refl
 slice_get-left (x ∷ xs) ys (suc k) below = slice_get-left xs ys k (omega arith)
@@ -24,7 +24,7 @@ slice_get-seam : {X : Type 0} (xs : List X) (y : X) → slice_get (xs ++ y ∷ [
 slice_get-seam [] y = refl
 slice_get-seam (x ∷ xs) y = slice_get-seam xs y
 
-path_of-read : (paths : List (Vec ℕ Global)) (i : ℕ) (v : Vec ℕ Global) → i < length paths → v ≡ get_or paths i v → path_of paths i ≡ v.items
+pub path_of-read : (paths : List (Vec ℕ Global)) (i : ℕ) (v : Vec ℕ Global) → i < length paths → v ≡ get_or paths i v → path_of paths i ≡ v.items
 path_of-read paths i v below read = ap (λ o. option_map_or (λ (path : Vec ℕ Global). path.items) o []) (slice_get_read paths (length paths) i v refl below read)
 
 module _ {S I R : Type 0} (plan : Plan S I R) where
@@ -116,24 +116,15 @@ module _ {S I R : Type 0} (plan : Plan S I R) where
   shown_at-found paths j v w w' below read at same =
       ap (option_and_then (λ (path : Vec ℕ Global). shown plan path.items)) (slice_get_read paths (length paths) j v refl below read) ∙ ap (option_map without_counts) at ∙ ap Some same
 
-  -- the node that was found is at the end of the path
-  pub LeadsTo-found : (paths : List (Vec ℕ Global)) (path : List ℕ) (found : Option ℕ) (w : WorldOf S I R) → IsSome found → IfSome found (λ j. j < length paths)
-      → IfSome found (λ j. shown_at plan paths j ≡ Some (without_counts w)) → world_at plan path ≡ Some w → LeadsTo plan paths path found
-  LeadsTo-found paths path None w some node same at = absurd (cc)
-  LeadsTo-found paths path (Some j) w some node same at = record { node = node; world = ap (option_map without_counts) at ∙ sym same }
-
-  pub LeadsTo-none : (paths : List (Vec ℕ Global)) (path : List ℕ) → world_at plan path ≡ None → LeadsTo plan paths path None
-  LeadsTo-none paths path at = record { node = tt; world = ap (option_map without_counts) at }
-
   pub shown-some : (path : List ℕ) (w : WorldOf S I R) → world_at plan path ≡ Some w → IsSome (shown plan path)
   shown-some path w at = subst (λ o. IsSome (option_map without_counts o)) (sym at) refl
 
   -- one edge more, to a node that is there or a new one
-  pub IsPart-edge : (old new : List (Vec ℕ Global)) (targets : List (Option ℕ)) (i p : ℕ) (v : Vec ℕ Global) (path : List ℕ) (target : Option ℕ) → i < length old → p < plan.n
-      → length targets ≡ i * plan.n + p → v ≡ get_or old i v → path ≡ v.items ++ p ∷ [] → IsMore plan old new → IsPart plan old targets → LeadsTo plan new path target
+  pub IsPart-edge : (old new : List (Vec ℕ Global)) (targets : List (Option ℕ)) (i p : ℕ) (target : Option ℕ) → i < length old → p < plan.n
+      → length targets ≡ i * plan.n + p → IsMore plan old new → IsPart plan old targets → LeadsTo plan new (path_of old i ++ p ∷ []) target
       → IsPart plan new (targets ++ target ∷ [])
-  IsPart-edge old new targets i p v path target node process counted read is more part leads =
+  IsPart-edge old new targets i p target node process counted more part leads =
       let positive : 0 < plan.n = omega arith in
       let below : i * plan.n + p < length old * plan.n = (div-lt_iff_lt-mul positive).0 (subst (λ q. q < length old) (sym (div-mul-add i plan.n p process)) node) in
       IsPart-target new targets i p target process counted (IsPart-more old new more targets positive (omega arith) part)
-      (subst (λ q. LeadsTo plan new q target) (is ∙ ap (λ xs. xs ++ p ∷ []) (sym (path_of-more old new more i node ∙ path_of-read old i v node read))) leads)
+      (subst (λ q. LeadsTo plan new (q ++ p ∷ []) target) (sym (path_of-more old new more i node)) leads)

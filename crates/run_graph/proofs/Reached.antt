@@ -14,7 +14,7 @@ use Rattle.run_graph.specs.Schedule.{Plan, along, event_from, moved, shown, worl
 use Rattle.run_graph.specs.Graph.{path_of, shown_at, LeadsTo, IsGraph, HasEachWorld}
 use Rattle.run_graph.proofs.Along.{along-none}
 
-some-same : {A : Type 0} (x y : A) → Some x ≡ Some y → x ≡ y
+pub some-same : {A : Type 0} (x y : A) → Some x ≡ Some y → x ≡ y
 some-same x y e = cc
 
 none-some : {A : Type 0} {X : Type 0} (x : A) → None ≡ Some x → X
@@ -65,20 +65,25 @@ module _ {S I R : Type 0} (plan : Plan S I R) where
   along-snoc o [] p = refl
   along-snoc o (q ∷ path) p = along-snoc (option_and_then (moved plan q) o) path p
 
+  -- the event of a process in a world, told by another world that is the same
+  moved_at : (p : ℕ) (w : WorldOf S I R) (o : Option (WorldOf S I R)) → option_map without_counts o ≡ Some (without_counts w)
+      → option_map without_counts (option_and_then (moved plan p) o) ≡ option_map without_counts (moved plan p w)
+  moved_at p w None e = none-some _ e
+  moved_at p w (Some u) e = moved-same p u w (some-same _ _ e)
+
+  -- what is shown after an event at the end of a path, told by a world that is the same
+  pub shown-next : (path : List ℕ) (p : ℕ) (w : WorldOf S I R) → shown plan path ≡ Some (without_counts w) → shown plan (path ++ p ∷ []) ≡ option_map without_counts (moved plan p w)
+  shown-next path p w is = ap (option_map without_counts) (along-snoc (Some (opened_world plan.n plan.object.initial 1)) path p) ∙ moved_at p w (world_at plan path) is
+
+  -- what is shown of a node is shown at the end of its path
+  pub shown_at-path : (paths : List (Vec ℕ Global)) (i : ℕ) (u : WorldOf S I R) → shown_at plan paths i ≡ Some u → shown plan (path_of paths i) ≡ Some u
+  shown_at-path paths i u is = read (slice_get paths i) is where
+    read : (o : Option (Vec ℕ Global)) → option_and_then (λ (path : Vec ℕ Global). shown plan path.items) o ≡ Some u
+        → shown plan (option_map_or (λ (path : Vec ℕ Global). path.items) o []) ≡ Some u
+    read None e = none-some u e
+    read (Some path) e = e
+
   module _ (paths : List (Vec ℕ Global)) (targets : List (Option ℕ)) (graph : IsGraph plan paths targets) where
-    shown_at-path : (i : ℕ) (u : WorldOf S I R) → shown_at plan paths i ≡ Some u → shown plan (path_of paths i) ≡ Some u
-    shown_at-path i u is = read (slice_get paths i) is where
-      read : (o : Option (Vec ℕ Global)) → option_and_then (λ (path : Vec ℕ Global). shown plan path.items) o ≡ Some u
-          → shown plan (option_map_or (λ (path : Vec ℕ Global). path.items) o []) ≡ Some u
-      read None e = none-some u e
-      read (Some path) e = e
-
-    -- the event of a process in the world of a node, told by another world that is the same
-    moved_at : (p : ℕ) (w : WorldOf S I R) (o : Option (WorldOf S I R)) → option_map without_counts o ≡ Some (without_counts w)
-        → option_map without_counts (option_and_then (moved plan p) o) ≡ option_map without_counts (moved plan p w)
-    moved_at p w None e = none-some _ e
-    moved_at p w (Some u) e = moved-same p u w (some-same _ _ e)
-
     target_of : (u : WorldOf S I R) (path : List ℕ) (target : Option ℕ) → LeadsTo plan paths path target → shown plan path ≡ Some u
         → (j : ℕ) × (j < length paths) × (shown_at plan paths j ≡ Some u)
     target_of u path None leads is = none-some u (sym leads.world ∙ is)
@@ -95,8 +100,7 @@ module _ {S I R : Type 0} (plan : Plan S I R) where
         target_of (without_counts v) (path_of paths i ++ p ∷ []) (slice_index_or targets (i * plan.n + p) None)
         (subst (λ q. LeadsTo plan paths (path_of paths i ++ q ∷ []) (slice_index_or targets (i * plan.n + p) None)) (mod-mul-add i plan.n p process)
         (subst (λ q. LeadsTo plan paths (path_of paths q ++ ((i * plan.n + p) % plan.n) ∷ []) (slice_index_or targets (i * plan.n + p) None)) at leads))
-        (ap (option_map without_counts) (along-snoc (Some (opened_world plan.n plan.object.initial 1)) (path_of paths i) p)
-        ∙ moved_at p w (world_at plan (path_of paths i)) (shown_at-path i (without_counts w) is) ∙ ap (option_map without_counts) e)
+        (shown-next (path_of paths i) p w (shown_at-path paths i (without_counts w) is) ∙ ap (option_map without_counts) e)
 
     reached : (path : List ℕ) (w : WorldOf S I R) (i : ℕ) → w.n ≡ plan.n → i < length paths → shown_at plan paths i ≡ Some (without_counts w)
         → IsSome (along plan (Some w) path) → (j : ℕ) × (j < length paths) × (shown_at plan paths j ≡ option_map without_counts (along plan (Some w) path))

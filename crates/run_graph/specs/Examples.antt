@@ -1,6 +1,6 @@
 -- Two processes share a register that keeps the last number and answers the one before, from 9. Process 0 asks it to keep 7, and
 -- process 1 makes no call.
-use Rattle.std.specs.Prelude.{◌≡◌, ℕ, ◌==◌, ◌&&◌, if◌then◌else◌, [], ◌∷◌, Option, None, Some, option_map, refl}
+use Rattle.std.specs.Prelude.{◌≡◌, ℕ, ◌==◌, ◌&&◌, if◌then◌else◌, [], ◌∷◌, None, Some, option_map, refl}
 use Rattle.seq_object.specs.Sequential.{Sequential}
 use Rattle.uni_model.specs.Places.Name.{Anchor, Of}
 use Rattle.uni_model.specs.Stages.Stage.{ScanHead}

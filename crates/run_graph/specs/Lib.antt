@@ -1,3 +1,4 @@
 pub mod Schedule
 pub mod Graph
 pub mod Examples
+pub mod AtHand

@@ -8,6 +8,7 @@ mod laws;
 mod plan;
 mod replay;
 mod schedules;
+mod worlds;
 
 pub use fault::ExploreFault;
 pub use graph::Graph;
@@ -15,3 +16,4 @@ pub use laws::each_world_has_a_node;
 pub use plan::Plan;
 pub use replay::world_at;
 pub use schedules::explore;
+pub use worlds::{keep_world, no_worlds, take_world};

@@ -1,6 +1,6 @@
 //! The world at the end of a path.
 
-ghost use Rattle.std.specs.Prelude.{◌≡◌, None, Some, IfOk, IfSome, IsSome, option_map, slice_get, if◌then◌else◌};
+ghost use Rattle.std.specs.Prelude.{◌≡◌, None, Some, IfOk, IfSome, IsSome, false, option_map, slice_get, if◌then◌else◌};
 ghost use Rattle.uni_model.specs.Places.{new_of};
 ghost use Rattle.uni_model.specs.Places.Name.{Anchor};
 ghost use Rattle.uni_core.specs.World.{world_of, KeepsFixed};
@@ -13,16 +13,18 @@ use std::alloc::Global;
 use uni_core::World;
 
 /// The event of process `p`: the next step of its pending call, or else its next call, where it has
-/// one and room for it. The answer is whether it has one. An `Err` says that memory was refused.
-fn take_event<O: SeqObject>(
+/// one and room for it. The answer is whether it has one; where it has none, the world stays. An `Err`
+/// says that memory was refused.
+pub(crate) fn take_event<O: SeqObject>(
     world: &mut World<O>,
     alloc: Global,
     plan: &Plan<O>,
     p: u64,
 ) -> Result<bool, ExploreFault>
     ensures moved { IfOk result (λ taken. moved (plan_of (O.sequential world.old.object) (world_of world.old).n
-        world.old.row plan.now.calls.items) p (world_of world.old)
+        plan.now.row plan.now.calls.items) p (world_of world.old)
         ≡ (if taken then Some (world_of world.new) else None)) }
+    ensures still { IfOk result (λ taken. taken ≡ false → world.new ≡ world.old) }
     ensures anchor { IfOk result (λ taken. new_of (world_of world.new).memory Anchor
         ≡ new_of (world_of world.old).memory Anchor) }
     ensures processes { (world_of world.new).n ≡ (world_of world.old).n }
@@ -38,7 +40,7 @@ fn take_event<O: SeqObject>(
             Err(_) => Err(ExploreFault::Memory),
         };
     }
-    if world.calls_in_era(p) >= world.row() {
+    if world.calls_in_era(p) >= plan.row {
         return Ok(false);
     }
     let Some(inv) = plan.call(p, world.begun(p)) else {

@@ -1,11 +1,10 @@
 //! The exploration, breadth first.
 
 ghost use Rattle.std.specs.Prelude.{◌≡◌, ◌+◌, ◌*◌, ◌<◌, ◌≤◌, ◌++◌, ◌∷◌, []};
-ghost use Rattle.std.specs.Prelude.{ℕ, None, Some, IfOk, OnOk, IfSome, IsSome, length, slice_get};
-ghost use Rattle.uni_model.specs.Places.{new_of};
-ghost use Rattle.uni_model.specs.Places.Name.{Anchor};
+ghost use Rattle.std.specs.Prelude.{ℕ, None, Some, IfOk, OnOk, IfSome, IsSome, IsTrue, length, unwrap_or};
 ghost use Rattle.uni_core.specs.World.{world_of};
 ghost use Rattle.uni_core.specs.Same.{without_counts};
+ghost use Rattle.run_graph.specs.AtHand.{AreAtHand, IsTold};
 ghost use Rattle.run_graph.specs.Schedule.{plan_of, shown};
 ghost use Rattle.run_graph.specs.Graph.{IsPart, IsGraph, LeadsTo, IsMore, path_of, shown_at};
 
@@ -13,7 +12,8 @@ use crate::fault::ExploreFault;
 use crate::graph::Graph;
 use crate::index::{Index, key_of};
 use crate::plan::Plan;
-use crate::replay::world_at;
+use crate::replay::{take_event, world_at};
+use crate::worlds::{keep_world, no_worlds, push_one, take_world};
 use seq_object::SeqObject;
 use std::alloc::Global;
 use uni_core::World;
@@ -25,10 +25,41 @@ fn longer(alloc: Global, path: &[u64], p: u64) -> Result<Vec<u64>, ExploreFault>
     let Ok(mut next) = Vec::with_capacity(alloc, path.len() + 1) else {
         return Err(ExploreFault::Memory);
     };
-    if next.extend_from_slice(path).is_err() || next.push(p).is_err() {
+    if next.extend_from_slice(path).is_err() {
         return Err(ExploreFault::Memory);
     }
+    push_one(&mut next, p)?;
     Ok(next)
+}
+
+/// Whether the world of node `j` is the same.
+fn is_at<O: SeqObject + Copy>(
+    alloc: Global,
+    plan: &Plan<O>,
+    paths: &[Vec<u64>],
+    worlds: &[Vec<World<O>>],
+    j: usize,
+    world: &World<O>,
+) -> Result<bool, ExploreFault>
+    requires node { j < length paths.now }
+    requires at_hand { AreAtHand plan.now.object
+        (plan_of (O.sequential plan.now.object) plan.now.processes plan.now.row plan.now.calls.items)
+        paths.now worlds.now }
+    requires told { IsTold plan.now.object (O.sequential plan.now.object).initial
+        (Some (without_counts (world_of world.now))) world.now }
+    ensures { IfOk result (λ same. IsTrue same → shown_at
+        (plan_of (O.sequential plan.now.object) plan.now.processes plan.now.row plan.now.calls.items)
+        paths.now j ≡ Some (without_counts (world_of world.now))) }
+{
+    if let Some(here) = worlds.get(j) {
+        if let Some(there) = here.last() {
+            return Ok(there.is_same(world));
+        }
+    }
+    match world_at(alloc, plan, &paths[j])? {
+        Some(there) => Ok(there.is_same(world)),
+        None => Ok(false),
+    }
 }
 
 /// The node whose world is the same, where there is one.
@@ -36,15 +67,19 @@ fn find<O: SeqObject + Copy>(
     alloc: Global,
     plan: &Plan<O>,
     paths: &[Vec<u64>],
+    worlds: &[Vec<World<O>>],
     index: &Index,
     world: &World<O>,
     key: u64,
 ) -> Result<Option<usize>, ExploreFault>
-    requires object { world.now.object ≡ plan.now.object }
-    requires anchor { new_of (world_of world.now).memory Anchor ≡ Some ((O.sequential plan.now.object).initial, None) }
+    requires at_hand { AreAtHand plan.now.object
+        (plan_of (O.sequential plan.now.object) plan.now.processes plan.now.row plan.now.calls.items)
+        paths.now worlds.now }
+    requires told { IsTold plan.now.object (O.sequential plan.now.object).initial
+        (Some (without_counts (world_of world.now))) world.now }
     ensures node { IfOk result (λ found. IfSome found (λ j. j < length paths.now)) }
-    ensures same { IfOk result (λ found. IfSome found (λ j.
-        shown_at (plan_of (O.sequential plan.now.object) plan.now.processes plan.now.row plan.now.calls.items)
+    ensures same { IfOk result (λ found. IfSome found (λ j. shown_at
+        (plan_of (O.sequential plan.now.object) plan.now.processes plan.now.row plan.now.calls.items)
         paths.now j ≡ Some (without_counts (world_of world.now)))) }
 {
     let mut node = index.first(key);
@@ -56,10 +91,8 @@ fn find<O: SeqObject + Copy>(
             if j >= paths.len() {
                 return Ok(None);
             }
-            if let Some(there) = world_at(alloc, plan, &paths[j])? {
-                if there.is_same(world) {
-                    return Ok(Some(j));
-                }
+            if is_at(alloc, plan, paths, worlds, j, world)? {
+                return Ok(Some(j));
             }
         }
         node = index.next(j);
@@ -67,41 +100,90 @@ fn find<O: SeqObject + Copy>(
     Ok(None)
 }
 
-/// The node at the end of a path, where it leads to one: the one that is there, or a new one.
+/// The node of the world at the end of a path: the one that is there, or a new one.
 fn node_at<O: SeqObject + Copy>(
     alloc: Global,
     plan: &Plan<O>,
     limit: usize,
     paths: &mut Vec<Vec<u64>>,
+    worlds: &mut Vec<Vec<World<O>>>,
     index: &mut Index,
     path: Vec<u64>,
-) -> Result<Option<usize>, ExploreFault>
-    requires { length paths.old.items ≤ limit }
-    ensures more { IfOk result (λ _. IsMore
+    world: &World<O>,
+) -> Result<usize, ExploreFault>
+    requires few { length paths.old.items ≤ limit }
+    requires at_hand { AreAtHand plan.now.object
+        (plan_of (O.sequential plan.now.object) plan.now.processes plan.now.row plan.now.calls.items)
+        paths.old.items worlds.old.items }
+    requires told { IsTold plan.now.object (O.sequential plan.now.object).initial
+        (shown (plan_of (O.sequential plan.now.object) plan.now.processes plan.now.row plan.now.calls.items)
+        path.items) world.now }
+    ensures few { OnOk result (length paths.new.items ≤ limit) }
+    ensures more { OnOk result (IsMore
         (plan_of (O.sequential plan.now.object) plan.now.processes plan.now.row plan.now.calls.items)
         paths.old.items paths.new.items) }
-    ensures leads { IfOk result (λ target. LeadsTo
+    ensures at_hand { OnOk result (AreAtHand plan.now.object
         (plan_of (O.sequential plan.now.object) plan.now.processes plan.now.row plan.now.calls.items)
-        paths.new.items path.items target) }
-    ensures few { IfOk result (λ _. length paths.new.items ≤ limit) }
+        paths.new.items worlds.new.items) }
+    ensures node { IfOk result (λ j. j < length paths.new.items) }
+    ensures same { IfOk result (λ j. shown_at
+        (plan_of (O.sequential plan.now.object) plan.now.processes plan.now.row plan.now.calls.items)
+        paths.new.items j ≡ Some (without_counts (world_of world.now))) }
 {
-    let Some(world) = world_at(alloc, plan, &path)? else {
-        return Ok(None);
-    };
-    let key = key_of(&world);
-    let found = find(alloc, plan, paths, index, &world, key)?;
-    if found.is_some() {
-        return Ok(found);
+    let key = key_of(world);
+    if let Some(j) = find(alloc, plan, paths, worlds, index, world, key)? {
+        return Ok(j);
     }
     let j = paths.len();
     if j == limit {
         return Err(ExploreFault::Limit);
     }
     index.add(key)?;
-    match paths.push(path) {
-        Ok(()) => Ok(Some(j)),
-        Err(_) => Err(ExploreFault::Memory),
+    push_one(paths, path)?;
+    push_one(worlds, Vec::new(alloc))?;
+    Ok(j)
+}
+
+/// Takes the event of process `p` in the world of node `i`: the node that it leads to, where it comes.
+fn target_of<O: SeqObject + Copy>(
+    alloc: Global,
+    plan: &Plan<O>,
+    limit: usize,
+    paths: &mut Vec<Vec<u64>>,
+    worlds: &mut Vec<Vec<World<O>>>,
+    index: &mut Index,
+    i: usize,
+    p: u64,
+    world: &mut World<O>,
+) -> Result<Option<usize>, ExploreFault>
+    requires node { i < length paths.old.items }
+    requires few { length paths.old.items ≤ limit }
+    requires at_hand { AreAtHand plan.now.object
+        (plan_of (O.sequential plan.now.object) plan.now.processes plan.now.row plan.now.calls.items)
+        paths.old.items worlds.old.items }
+    requires told { IsTold plan.now.object (O.sequential plan.now.object).initial (shown_at
+        (plan_of (O.sequential plan.now.object) plan.now.processes plan.now.row plan.now.calls.items)
+        paths.old.items i) world.old }
+    ensures few { OnOk result (length paths.new.items ≤ limit) }
+    ensures more { OnOk result (IsMore
+        (plan_of (O.sequential plan.now.object) plan.now.processes plan.now.row plan.now.calls.items)
+        paths.old.items paths.new.items) }
+    ensures at_hand { OnOk result (AreAtHand plan.now.object
+        (plan_of (O.sequential plan.now.object) plan.now.processes plan.now.row plan.now.calls.items)
+        paths.new.items worlds.new.items) }
+    ensures leads { IfOk result (λ target. LeadsTo
+        (plan_of (O.sequential plan.now.object) plan.now.processes plan.now.row plan.now.calls.items)
+        paths.new.items (path_of paths.old.items i ++ p ∷ []) target) }
+    ensures told { IfOk result (λ target. IsTold plan.now.object (O.sequential plan.now.object).initial (shown_at
+        (plan_of (O.sequential plan.now.object) plan.now.processes plan.now.row plan.now.calls.items)
+        paths.new.items (unwrap_or target i)) world.new) }
+{
+    if !take_event(world, alloc, plan, p)? {
+        return Ok(None);
     }
+    let path = longer(alloc, &paths[i], p)?;
+    let j = node_at(alloc, plan, limit, paths, worlds, index, path, world)?;
+    Ok(Some(j))
 }
 
 /// Adds the target of process `p` in node `i`.
@@ -110,6 +192,7 @@ fn add_edge<O: SeqObject + Copy>(
     plan: &Plan<O>,
     limit: usize,
     graph: &mut Graph,
+    worlds: &mut Vec<Vec<World<O>>>,
     index: &mut Index,
     i: usize,
     p: u64,
@@ -121,19 +204,25 @@ fn add_edge<O: SeqObject + Copy>(
     requires part { IsPart
         (plan_of (O.sequential plan.now.object) plan.now.processes plan.now.row plan.now.calls.items)
         graph.old.paths.items graph.old.targets.items }
+    requires at_hand { AreAtHand plan.now.object
+        (plan_of (O.sequential plan.now.object) plan.now.processes plan.now.row plan.now.calls.items)
+        graph.old.paths.items worlds.old.items }
     ensures next { OnOk result (length graph.new.targets.items ≡ i * plan.now.processes + p + 1) }
     ensures node { OnOk result (i < length graph.new.paths.items) }
     ensures few { OnOk result (length graph.new.paths.items ≤ limit) }
     ensures part { OnOk result (IsPart
         (plan_of (O.sequential plan.now.object) plan.now.processes plan.now.row plan.now.calls.items)
         graph.new.paths.items graph.new.targets.items) }
+    ensures at_hand { OnOk result (AreAtHand plan.now.object
+        (plan_of (O.sequential plan.now.object) plan.now.processes plan.now.row plan.now.calls.items)
+        graph.new.paths.items worlds.new.items) }
 {
-    let path = longer(alloc, &graph.paths[i], p)?;
-    let target = node_at(alloc, plan, limit, &mut graph.paths, index, path)?;
-    match graph.targets.push(target) {
-        Ok(()) => Ok(()),
-        Err(_) => Err(ExploreFault::Memory),
-    }
+    let mut world = take_world(alloc, plan, &graph.paths, worlds, i)?;
+    let paths = &mut graph.paths;
+    let target = target_of(alloc, plan, limit, paths, worlds, index, i, p, &mut world)?;
+    keep_world(worlds, target.unwrap_or(i), world)?;
+    push_one(&mut graph.targets, target)?;
+    Ok(())
 }
 
 /// The opening alone.
@@ -153,9 +242,7 @@ fn opening<O: SeqObject + Copy>(
     };
     index.add(key_of(&world))?;
     let mut paths = Vec::new(alloc);
-    if paths.push(start).is_err() {
-        return Err(ExploreFault::Memory);
-    }
+    push_one(&mut paths, start)?;
     Ok(Graph {
         paths,
         targets: Vec::new(alloc),
@@ -181,12 +268,22 @@ pub fn explore<O: SeqObject + Copy>(
     }
     let mut index = Index::new(alloc)?;
     let mut graph = opening(alloc, plan, &mut index)?;
+    let mut worlds = no_worlds(alloc, &graph.paths)?;
     for i in 0..limit {
         if i == graph.paths.len() {
             return Ok(graph);
         }
         for p in 0..plan.processes {
-            add_edge(alloc, plan, limit, &mut graph, &mut index, i, p)?;
+            add_edge(
+                alloc,
+                plan,
+                limit,
+                &mut graph,
+                &mut worlds,
+                &mut index,
+                i,
+                p,
+            )?;
         }
     }
     Ok(graph)

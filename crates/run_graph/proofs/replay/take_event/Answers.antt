@@ -1,4 +1,4 @@
-use Rattle.std.proofs.Common.{◌∙◌, ap, sym, Some}
+use Rattle.std.proofs.Common.{◌∙◌, ap, arith, sym, Some}
 use Rattle.uni_model.specs.Places.{new_of}
 use Rattle.uni_model.specs.Places.Name.{Anchor}
 use Rattle.uni_model.specs.Worlds.{WorldOf}
@@ -15,8 +15,8 @@ returns-in-Ok-clause-anchor g c =
 
 pub returns-in-Ok-begin-clause-moved : goal.returns-in-Ok-begin-clause-moved
 returns-in-Ok-begin-clause-moved g c =
-    moved-call (plan_of (g.O.SeqObject.sequential c.args.world.now.object) (world_of c.args.world.now).n c.args.world.now.row c.args.plan.now.calls.items) (world_of c.args.world.now) c.args.p c.in-Some.inv.now
-    c.in-Ok-begin.ensures.could.0 c.in-Ok-begin.ensures.could.1 c.in-Ok-begin.ensures.could.2
+    moved-call (plan_of (g.O.SeqObject.sequential c.args.world.now.object) (world_of c.args.world.now).n c.args.plan.now.row c.args.plan.now.calls.items) (world_of c.args.world.now) c.args.p c.in-Some.inv.now
+    c.in-Ok-begin.ensures.could.0 c.in-Ok-begin.ensures.could.1 (let made = c.calls_in_era.ensures in let room = c.if-calls_in_era-plan.false in omega arith)
     (ap (call_in c.args.plan.now.calls.items c.args.p) (sym c.begun.ensures) ∙ sym c.in-Some.ensures)
     ∙ ap Some (sym c.in-Ok-begin.ensures.begun)
 

@@ -10,7 +10,6 @@ use Rattle.run_graph.proofs.replay.world_at.Goals as goal
 pub loop-p-init : goal.loop-p-init
 loop-p-init g c = record {
   object = c.in-Ok.ensures.fixed.0;
-  row = c.in-Ok.ensures.fixed.1;
   anchor = ap (λ (w : WorldOf g.row.O-State.Denot g.row.O-Inv.Denot g.row.O-Resp.Denot). new_of w.memory Anchor) c.in-Ok.ensures.opened;
   left = ap (λ w. along (plan_of (g.O.SeqObject.sequential c.args.plan.now.object) c.args.plan.now.processes c.args.plan.now.row c.args.plan.now.calls.items) (Some w) c.args.path.now) c.in-Ok.ensures.opened;
 }
@@ -18,17 +17,16 @@ loop-p-init g c = record {
 pub loop-p-preserved : goal.loop-p-preserved
 loop-p-preserved g c = record {
   object = c.in_ok-take_event.ensures.fixed.object ∙ c.loop-p.invariant.object;
-  row = c.in_ok-take_event.ensures.fixed.row ∙ c.loop-p.invariant.row;
   anchor = c.in_ok-take_event.ensures.anchor ∙ c.loop-p.invariant.anchor;
-  left = along-taken g.O.SeqObject.sequential c.args.plan.now.object c.loop-p.world.object c.args.plan.now.processes (world_of c.loop-p.world).n c.args.plan.now.row c.loop-p.world.row c.args.plan.now.calls.items (world_of c.loop-p.world)
-      (Some (world_of c.take_event.new.world)) _ c.args.path.now c.loop-p.p-index c.loop-p.invariant.object c.loop-p.invariant.row c.loop-p-test.true
+  left = along-taken g.O.SeqObject.sequential c.args.plan.now.object c.loop-p.world.object c.args.plan.now.processes (world_of c.loop-p.world).n c.args.plan.now.row c.args.plan.now.calls.items (world_of c.loop-p.world)
+      (Some (world_of c.take_event.new.world)) _ c.args.path.now c.loop-p.p-index c.loop-p.invariant.object c.loop-p-test.true
       (c.in_ok-take_event.ensures.moved ∙ ap (λ b. if b then Some (world_of c.take_event.new.world) else None) c.if-not-branch.false) c.loop-p.invariant.left;
 }
 
 pub returns-then-not-branch-clause-world : goal.returns-then-not-branch-clause-world
 returns-then-not-branch-clause-world g c =
-    sym (along-taken g.O.SeqObject.sequential c.args.plan.now.object c.loop-p.world.object c.args.plan.now.processes (world_of c.loop-p.world).n c.args.plan.now.row c.loop-p.world.row c.args.plan.now.calls.items (world_of c.loop-p.world)
-    None _ c.args.path.now c.loop-p.p-index c.loop-p.invariant.object c.loop-p.invariant.row c.loop-p-test.true
+    sym (along-taken g.O.SeqObject.sequential c.args.plan.now.object c.loop-p.world.object c.args.plan.now.processes (world_of c.loop-p.world).n c.args.plan.now.row c.args.plan.now.calls.items (world_of c.loop-p.world)
+    None _ c.args.path.now c.loop-p.p-index c.loop-p.invariant.object c.loop-p-test.true
     (c.in_ok-take_event.ensures.moved ∙ ap (λ b. if b then Some (world_of c.take_event.new.world) else None) c.if-not-branch.true) c.loop-p.invariant.left)
     ∙ along-none (plan_of (g.O.SeqObject.sequential c.args.plan.now.object) c.args.plan.now.processes c.args.plan.now.row c.args.plan.now.calls.items) (drop (c.loop-p.p-index + 1) c.args.path.now)
 

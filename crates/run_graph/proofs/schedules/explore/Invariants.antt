@@ -1,4 +1,5 @@
 use Rattle.std.proofs.Common.{◌≡◌, ◌+◌, ◌*◌, ◌<◌, ◌≤◌, length}
+use Rattle.run_graph.specs.AtHand.{AreAtHand}
 use Rattle.run_graph.specs.Schedule.{plan_of}
 use Rattle.run_graph.specs.Graph.{IsPart}
 use Rattle.run_graph.proofs.schedules.explore.Given as goal
@@ -8,6 +9,7 @@ invariant-loop-i g l = record {
   part : IsPart (plan_of (g.O.SeqObject.sequential l.plan.object) l.plan.processes l.plan.row l.plan.calls.items) l.graph.paths.items l.graph.targets.items;
   counted : length l.graph.targets.items ≡ l.i * l.plan.processes;
   few : length l.graph.paths.items ≤ l.limit;
+  at_hand : AreAtHand l.plan.object (plan_of (g.O.SeqObject.sequential l.plan.object) l.plan.processes l.plan.row l.plan.calls.items) l.graph.paths.items l.worlds.items;
   within : l.i ≤ length l.graph.paths.items;
 }
 
@@ -16,5 +18,6 @@ invariant-loop-p g l = record {
   part : IsPart (plan_of (g.O.SeqObject.sequential l.plan.object) l.plan.processes l.plan.row l.plan.calls.items) l.graph.paths.items l.graph.targets.items;
   counted : length l.graph.targets.items ≡ l.i * l.plan.processes + l.p;
   few : length l.graph.paths.items ≤ l.limit;
+  at_hand : AreAtHand l.plan.object (plan_of (g.O.SeqObject.sequential l.plan.object) l.plan.processes l.plan.row l.plan.calls.items) l.graph.paths.items l.worlds.items;
   node : l.i < length l.graph.paths.items;
 }

@@ -1,0 +1,59 @@
+"use strict";
+// Walks through the graph of a page at random, and compares what the page expects of each walk's script with what
+// `unibench replay` answers: node walk.js PAGE UNIBENCH [WALKS]
+//
+// The page's own program makes the script and the answers. So a page whose graph differs from the construction, or
+// whose program tells it wrongly, fails.
+
+const { execFileSync } = require("child_process");
+const fs = require("fs");
+const vm = require("vm");
+
+// the graph of a page, and the functions of its program
+function read(path) {
+  const [, graph, program] = /<script type="application\/json" id="graph">([^]*?)<\/script>\s*<script>([^]*?)<\/script>/
+    .exec(fs.readFileSync(path, "utf8"));
+  const page = vm.createContext({});
+  vm.runInContext(`${program}\nthis.randomRun = randomRun; this.scriptOf = scriptOf;`, page);
+  return { graph: JSON.parse(graph), page };
+}
+
+// random numbers from a seed, the same on each run (mulberry32)
+function randomFrom(seed) {
+  let state = seed;
+  return () => {
+    state = (state + 0x6d2b79f5) | 0;
+    let t = Math.imul(state ^ (state >>> 15), 1 | state);
+    t = (t + Math.imul(t ^ (t >>> 7), 61 | t)) ^ t;
+    return ((t ^ (t >>> 14)) >>> 0) / 4294967296;
+  };
+}
+
+function main(path, unibench, walks) {
+  const { graph, page } = read(path);
+  for (let seed = 1; seed <= walks; seed++) {
+    const random = randomFrom(seed);
+    const stopped = seed % 2 === 0 ? Math.floor(random() * graph.processes) : null;
+    let walk;
+    try {
+      walk = page.scriptOf(graph, page.randomRun(graph, random, stopped, Math.floor(random() * 30)));
+    } catch (error) {
+      console.log(`walk ${seed} is none: ${error.message}`);
+      process.exit(1);
+    }
+    const { lines, answers } = walk;
+    const told = execFileSync(unibench, ["replay"], { input: `${lines.join("\n")}\n`, encoding: "utf8" });
+    if (told !== `${answers.join("\n")}\n`) {
+      console.log(`walk ${seed} differs\n${lines.join("\n")}\nexpected\n${answers.join("\n")}\nanswered\n${told}`);
+      process.exit(1);
+    }
+  }
+  const edges = graph.edges.filter((edge) => edge !== null).length;
+  console.log(`${walks} walks agree: ${graph.edges.length / graph.processes} worlds, ${edges} edges`);
+}
+
+if (process.argv.length < 4) {
+  console.log("usage: node walk.js PAGE UNIBENCH [WALKS]");
+  process.exit(2);
+}
+main(process.argv[2], process.argv[3], Number(process.argv[4] || 200));

@@ -1,0 +1,3 @@
+pub mod Telling
+pub mod Statuses
+pub mod Paging

@@ -1,0 +1,16 @@
+use Rattle.std.proofs.Common.{◌≡◌, ◌<◌, ℕ, None, length, slice_index_or}
+use Rattle.run_graph.specs.AtHand.{AreAtHand}
+use Rattle.run_graph.specs.Schedule.{plan_of}
+use Rattle.run_play.specs.Edges.{edge_text, text_at}
+use Rattle.run_play.proofs.edges.edge_texts.Given as goal
+
+-- the texts so far
+abbrev pub invariant-loop-target : goal.invariant-loop-target
+invariant-loop-target g l =
+    let plan = plan_of (g.O.SeqObject.sequential l.plan.object) l.plan.processes l.plan.row l.plan.calls.items in
+    record {
+      count : length l.texts.items ≡ l.target-index;
+      at_hand : AreAtHand l.plan.object plan l.graph.paths.items l.worlds.items;
+      each : (k : ℕ) → k < l.target-index
+          → text_at l.texts.items k ≡ edge_text plan g.O.Spoken.language g.O.Spoken.state_text l.graph.paths.items k (slice_index_or l.graph.targets.items k None);
+    }

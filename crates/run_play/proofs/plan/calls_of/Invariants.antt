@@ -1,0 +1,8 @@
+use Rattle.std.proofs.Common.{◌≡◌, ◌++◌}
+use Rattle.uni_record.specs.Event.{events_shown}
+use Rattle.run_play.specs.Plans.{calls_of}
+use Rattle.run_play.proofs.plan.calls_of.Given as goal
+
+-- the calls so far, and those that are left
+abbrev pub invariant-loop-event : goal.invariant-loop-event
+invariant-loop-event g l = l.calls.items ++ calls_of l.p (events_shown l.event-iterator) ≡ calls_of l.p (events_shown l.recorded.events)

@@ -1,0 +1,4 @@
+pub mod Fault
+pub mod Plans
+pub mod Edges
+pub mod Play

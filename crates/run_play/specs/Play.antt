@@ -1,0 +1,86 @@
+-- The page of all schedules of a script's calls.
+use Rattle.std.specs.Prelude.{◌≡◌, ℕ, ◌≤◌, ◌==◌, Bool, true, false, if◌then◌else◌, List, [], ◌∷◌, ◌++◌, Option, None, Some, map, codes, length, Vec, refl}
+use Rattle.std.specs.List.{flat_map}
+use Rattle.std.specs.declared.alloc.Global.{Global}
+use Rattle.json_text.specs.Json.{Number, Text, Json, Member, named, object_text, list_text}
+use Rattle.uni_model.specs.Worlds.{Event}
+use Rattle.uni_script.specs.declared.remarks.PlacedRemark.{PlacedRemark}
+use Rattle.uni_script.specs.declared.remarks.Remark.{Remark}
+use Rattle.uni_script.specs.declared.remarks.Remark.TheVariants.{Heading, Note, Refused}
+use Rattle.uni_script.specs.Objects.{SpokenObject, spoken_of}
+use Rattle.uni_script.specs.Outcome.{outcome_of_script}
+use Rattle.uni_script.specs.Remarks.{remark_at, remarks_of_script}
+use Rattle.uni_script.specs.Replay.{IsInput, fault_of_script}
+use Rattle.uni_script.specs.Schedules.{word_of_object}
+use Rattle.uni_script.specs.Scripts.{ScriptSession, scripts_of}
+use Rattle.run_layout.specs.Subject.{state_text_of}
+use Rattle.run_graph.specs.Graph.{IsGraph}
+use Rattle.run_graph.specs.Schedule.{plan_of}
+use Rattle.run_play.specs.Plans.{AreCallsOf, has_one_era}
+use Rattle.run_play.specs.Edges.{AreEdges}
+use Rattle.run_play.specs.declared.viewer.TheConstants.{START, END}
+
+-- a byte of JSON as it stands in a page: `<`, which JSON has in strings alone, by its code, so that it ends no element
+abbrev pub escaped_byte : ℕ → List ℕ
+escaped_byte b = if b == 60 then codes "\\u003c" else b ∷ []
+
+abbrev pub escaped : List ℕ → List ℕ
+escaped json = flat_map escaped_byte json
+
+-- JSON, escaped, between two texts
+abbrev pub text_between : (start json end : List ℕ) → List ℕ
+text_between start json end = start ++ escaped json ++ end
+
+-- a graph with what its page needs beside it: the name of the object, how many processes and calls of a row, the first state
+abbrev pub graph_members : (name : List ℕ) → (n row : ℕ) → (state : List ℕ) → (edges : List (List ℕ)) → List Member
+graph_members name n row state edges =
+    named (codes "object") (Text name) ∷ named (codes "processes") (Number n) ∷ named (codes "row") (Number row)
+    ∷ named (codes "state") (Text state) ∷ named (codes "edges") (Json (list_text edges)) ∷ []
+
+-- The page of the calls of some events of n processes from a number, on an object of this name whose states have these texts: it
+-- tells the graph of all their schedules.
+pub record IsPageOf {S I R : Type 0} (o : SpokenObject S I R) (text : S → List ℕ) (name : List ℕ) (n row number : ℕ)
+    (events : List (Event I)) (page : List ℕ) : Type 0 where
+  pub from_1 : number ≡ 1
+  pub one_era : has_one_era events ≡ true
+  pub calls : List (Vec I Global)
+  pub calls_are : AreCallsOf n events calls
+  pub paths : List (Vec ℕ Global)
+  pub targets : List (Option ℕ)
+  pub few : length paths ≤ 20000
+  pub graph : IsGraph (plan_of o.object n row calls) paths targets
+  pub edges : List (Vec ℕ Global)
+  pub edges_are : AreEdges (plan_of o.object n row calls) o.language text paths targets edges
+  pub page_is : page ≡ text_between START.now (object_text (graph_members name n row (text o.object.initial)
+      (map (λ (e : Vec ℕ Global). e.items) edges))) END.now
+
+-- that of the session which a script leaves
+abbrev pub IsPageOfSession : ScriptSession → (page : List ℕ) → Type 0
+IsPageOfSession b page =
+    IsPageOf (spoken_of b.object) (state_text_of b.object) (word_of_object b.object) b.session.processes b.session.row
+    b.session.first b.session.events page
+
+-- whether a remark is a refusal
+abbrev pub is_refusal : Remark → Bool
+is_refusal (Refused refusal) = true
+is_refusal (Heading text) = false
+is_refusal (Note text) = false
+
+abbrev pub any_refused : List PlacedRemark → Bool
+any_refused [] = false
+any_refused (one ∷ remarks) = if is_refusal one.remark then true else any_refused remarks
+
+-- the reader had a script without a fault, of which no command is refused, and this is the page of its calls
+pub record IsPlayed (left : Option (List ℕ)) (page : List ℕ) : Type 0 where
+  pub script : List ℕ
+  pub input : IsInput left script
+  pub good : fault_of_script (scripts_of 1048576) script ≡ None
+  pub session : ScriptSession
+  pub session_is : (outcome_of_script (scripts_of 1048576) script).session ≡ Some session
+  pub remarks : List PlacedRemark
+  pub remarks_are : remarks_of_script (scripts_of 1048576) script ≡ map remark_at remarks
+  pub accepted : any_refused remarks ≡ false
+  pub page_of : IsPageOfSession session page
+
+escaped_note : escaped (codes "a</script>") ≡ codes "a\\u003c/script>"
+escaped_note = refl
