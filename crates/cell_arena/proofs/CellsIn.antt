@@ -1,11 +1,22 @@
 -- Columns, seen as a list of cells.
-use Rattle.std.proofs.Common.{◌≡◌, ◌≢◌, ◌∙◌, ◌∷◌, [], ◌<◌, ◌≤◌, ℕ, List, Option, None, inl, inr, length, get_or, slice_index_or, slice_set, replicate, refl, ap, sym, arith, get_or-set_same, get_or-set_other}
-use Rattle.std.proofs.lemmas.List.{get_or_past, get_or_default, get_or-replicate, length-replicate, ext_get_or}
+use Rattle.std.proofs.Common.{◌≡◌, ◌≢◌, ◌∙◌, ◌∷◌, [], ◌++◌, ◌+◌, ◌-◌, ◌<◌, ◌≤◌, ℕ, zero, suc, Bool, true, if◌then◌else◌, List, Option, None, inl, inr, length, get_or, slice_index_or, slice_set, replicate, refl, ap, sym, arith, get_or-set_same, get_or-set_other}
+use Rattle.std.proofs.lemmas.List.{get_or_past, get_or_default, get_or-replicate, length-append, length-replicate, ext_get_or}
 use Rattle.std.proofs.lemmas.List.FromFn.{length-map-range_with_len, get_or-map-range_with_len}
 use Rattle.std.proofs.lemmas.Bool.{cases_eq, cases_lt}
 use Rattle.std.proofs.Math.ListN.{length-set}
-use Rattle.cell_arena.specs.CellRecord.{CellRecord, anchor_with, with_seq, with_new}
-use Rattle.cell_arena.specs.Columns.{Fields, AreEven, blank, cell_in, cells_in}
+use Rattle.cell_arena.specs.CellRecord.{CellRecord, with_seq}
+use Rattle.cell_arena.specs.Columns.{Fields, AreEven, Reserved, blank, cell_in, cells_in, filled}
+
+-- a default at the end changes nothing that is read
+pub get_or-and_default : {A : Type 0} (xs : List A) (j : ℕ) (d : A) → slice_index_or (xs ++ d ∷ []) j d ≡ slice_index_or xs j d
+get_or-and_default [] zero d = refl
+get_or-and_default [] (suc j) d = refl
+get_or-and_default (x ∷ xs) zero d = refl
+get_or-and_default (x ∷ xs) (suc j) d = get_or-and_default xs j d
+
+-- a push that isn't refused
+pub pushed : {A : Type 0} (old new : List A) (x : A) (ok : Bool) → new ≡ (if ok then old ++ x ∷ [] else old) → ok ≡ true → new ≡ old ++ x ∷ []
+pushed old new x ok is fits = is ∙ ap (λ o. if o then old ++ x ∷ [] else old) fits
 
 -- an index that each column has
 pub record IsWithin {S I R : Type 0} (c : Fields S I R) (i : ℕ) : Type 0 where
@@ -102,28 +113,61 @@ module _ {S I R : Type 0} where
     new-read v read =
         ap (λ x. x.new) (get_or-cells_in c even i) ∙ sym (read ∙ get_or_default c.new i v None (omega (arith, even.new, length-cells_in c)))
 
-  -- an anchor that is written field by field
-  pub anchor-written : (cells : List (CellRecord S I R)) (state : S) (seq : ℕ) → 0 < length cells →
-      (after_clear after_seq : List (CellRecord S I R)) → after_clear ≡ slice_set cells 0 blank → after_seq ≡ slice_set after_clear 0 (with_seq seq (slice_index_or after_clear 0 blank))
-      → slice_set after_seq 0 (with_new (state, None) (slice_index_or after_seq 0 blank)) ≡ slice_set cells 0 (anchor_with state seq)
-  anchor-written [] state seq some _ _ _ _ = absurd (omega arith)
-  anchor-written (x ∷ xs) state seq some a b a_is b_is = rw (b_is, a_is) refl
+  -- the columns with a blank place more
+  abbrev pub and_blank : Fields S I R → Fields S I R
+  and_blank c = record { inv = c.inv ++ None ∷ []; seq = c.seq ++ 0 ∷ []; before = c.before ++ None ∷ []; after = c.after ++ None ∷ []; new = c.new ++ None ∷ [] }
 
-  pub fields-even : (n : ℕ) (c : Fields S I R) → c.inv ≡ replicate n None → c.seq ≡ replicate n 0 → c.before ≡ replicate n None → c.after ≡ replicate n None → c.new ≡ replicate n None
-      → AreEven c × (cells_in c ≡ replicate n blank)
-  fields-even n c inv seq before after new =
-      let even : AreEven c = record {
-        inv = rw (inv, seq) (length-replicate n _ ∙ sym (length-replicate n 0));
-        before = rw (before, seq) (length-replicate n _ ∙ sym (length-replicate n 0));
-        after = rw (after, seq) (length-replicate n _ ∙ sym (length-replicate n 0));
-        new = rw (new, seq) (length-replicate n _ ∙ sym (length-replicate n 0));
-      } in
-      let long : length c.seq ≡ n = ap length seq ∙ length-replicate n 0 in (
-        even,
-        ext_get_or blank (cells_in c) (replicate n blank) (length-cells_in c ∙ long ∙ sym (length-replicate n blank))
-            (λ i among. get_or-cells_in c even i ∙ (let within : i < n = omega (arith, length-cells_in c) in
-            rw (inv, seq, before, after, new, get_or-replicate {A = Option I} n i None None within, get_or-replicate {A = ℕ} n i 0 0 within, get_or-replicate {A = Option ℕ} n i None None within, get_or-replicate {A = Option (S × Option R)} n i None None within, get_or-replicate n i blank blank within) refl)),
-      )
+  pub AreEven-and_blank : (c : Fields S I R) → AreEven c → AreEven (and_blank c)
+  AreEven-and_blank c even = record {
+    inv = omega (arith, even.inv, length-append c.inv (None ∷ []), length-append c.seq (0 ∷ []));
+    before = omega (arith, even.before, length-append c.before (None ∷ []), length-append c.seq (0 ∷ []));
+    after = omega (arith, even.after, length-append c.after (None ∷ []), length-append c.seq (0 ∷ []));
+    new = omega (arith, even.new, length-append c.new (None ∷ []), length-append c.seq (0 ∷ []));
+  }
+
+  cell_in-and_blank : (c : Fields S I R) (j : ℕ) → cell_in (and_blank c) j ≡ cell_in c j
+  cell_in-and_blank c j = rw (get_or-and_default c.inv j None, get_or-and_default c.seq j 0, get_or-and_default c.before j None, get_or-and_default c.after j None, get_or-and_default c.new j None) refl
+
+  pub cells_in-and_blank : (c : Fields S I R) → AreEven c → cells_in (and_blank c) ≡ cells_in c ++ blank ∷ []
+  cells_in-and_blank c even =
+      ext_get_or blank (cells_in (and_blank c)) (cells_in c ++ blank ∷ [])
+      (omega (arith, length-cells_in (and_blank c), length-cells_in c, length-append c.seq (0 ∷ []), length-append (cells_in c) (blank ∷ [])))
+      (λ j among. get_or-cells_in (and_blank c) (AreEven-and_blank c even) j ∙ cell_in-and_blank c j ∙ sym (get_or-cells_in c even j) ∙ sym (get_or-and_default (cells_in c) j blank))
+
+  -- what is filled holds no other cell
+  pub get_or-filled : (c : Reserved S I R) (len i : ℕ) → slice_index_or (filled c len).cells i blank ≡ slice_index_or c.cells i blank
+  get_or-filled c len i = go c.cells (len - length c.cells) i
+    where
+      blanks : (n i : ℕ) → slice_index_or (replicate n (blank {S = S} {I = I} {R = R})) i blank ≡ blank
+      blanks n i = elim (cases_lt i n) [
+        | inl within ↦ get_or-replicate n i blank blank within
+        | inr past ↦ get_or_past _ i blank (omega (arith, length-replicate n (blank {S = S} {I = I} {R = R})))
+      ]
+
+      go : (cells : List (CellRecord S I R)) (n i : ℕ) → slice_index_or (cells ++ replicate n blank) i blank ≡ slice_index_or cells i blank
+      go [] n i = blanks n i
+      go (x ∷ cells) n zero = refl
+      go (x ∷ cells) n (suc i) = go cells n i
+
+  pub length-filled : (c : Reserved S I R) (len : ℕ) → length (filled c len).cells ≡ length c.cells + (len - length c.cells)
+  length-filled c len = length-append c.cells (replicate (len - length c.cells) blank) ∙ ap (λ n. length c.cells + n) (length-replicate (len - length c.cells) blank)
+
+  pub filled-one : (c : Reserved S I R) → record c { cells = c.cells ++ blank ∷ [] } ≡ filled c (length c.cells + 1)
+  filled-one c = ap (λ n. record c { cells = c.cells ++ replicate n blank }) (let one : 1 ≡ length c.cells + 1 - length c.cells = omega arith in one)
+
+  -- the same room, and the same at each index
+  same_reserved : (c d : Reserved S I R) → c.room ≡ d.room → length c.cells ≡ length d.cells → ((i : ℕ) → slice_index_or c.cells i blank ≡ slice_index_or d.cells i blank) → c ≡ d
+  same_reserved c d room long same =
+      ap (λ n. record { room = n; cells = c.cells }) room ∙ ap (λ cells. record { room = d.room; cells = cells }) (ext_get_or blank c.cells d.cells long (λ i among. same i))
+
+  pub filled-full : (c : Reserved S I R) (len : ℕ) → len ≤ length c.cells → c ≡ filled c len
+  filled-full c len full = same_reserved c (filled c len) refl (omega (arith, length-filled c len)) (λ i. sym (get_or-filled c len i))
+
+  pub filled-more : (c : Reserved S I R) (len : ℕ) → length c.cells ≤ len → filled (filled c len) (length (filled c len).cells + 1) ≡ filled c (len + 1)
+  filled-more c len part =
+      same_reserved (filled (filled c len) (length (filled c len).cells + 1)) (filled c (len + 1)) refl
+      (omega (arith, length-filled (filled c len) (length (filled c len).cells + 1), length-filled c len, length-filled c (len + 1)))
+      (λ i. get_or-filled (filled c len) (length (filled c len).cells + 1) i ∙ get_or-filled c len i ∙ sym (get_or-filled c (len + 1) i))
 
   -- what the check's own answers need of columns
   pub ruleset columns = (length-cells_in, get_or-cells_in)

@@ -5,8 +5,9 @@ use Rattle.std.proofs.lemmas.Nat.{mul-add-lt}
 use Rattle.std.proofs.lemmas.Bool.{cases_eq, cases_lt}
 use Rattle.std.proofs.Math.ListN.{length-set}
 use Rattle.cell_arena.specs.CellRecord.{CellRecord, ChangesOnly, HasOnlyAnchor, anchor_for, anchor_with, index_of, owner_of, nth_of}
-use Rattle.cell_arena.specs.Columns.{blank}
+use Rattle.cell_arena.specs.Columns.{Reserved, blank, filled, with_cell}
 use Rattle.cell_arena.specs.ColumnCells.{Flat, IsFlat, at, made_by_owner, made_cell, made_cells}
+use Rattle.cell_arena.proofs.CellsIn.{get_or-filled, length-filled}
 use Rattle.cell_arena.proofs.Changes.{at_same, at_other}
 use Rattle.cell_arena.proofs.Places.{owner_of-index_of, nth_of-index_of, index_of-owner_of}
 
@@ -86,24 +87,22 @@ module _ {S I R : Type 0} where
       rw (ap (option_map f) (there-is cells i there))
       (ChangesOnly-set cells i (f (slice_index_or cells i blank)) (there-within cells i there) (λ made. ap (λ o. is_some o) (keeps (slice_index_or cells i blank)) ∙ there-inv cells i made there))
 
-  -- where nothing but the anchor stands
-  HasOnlyAnchor-blank : (cells : List (CellRecord S I R)) → 0 < length cells → ((i : ℕ) → 0 < i → slice_index_or cells i blank ≡ blank)
-      → HasOnlyAnchor (λ i. slice_index_or (made_cells cells) i None) (Some (slice_index_or cells 0 blank))
-  HasOnlyAnchor-blank cells some blanks i = elim (cases_eq i 0) [
-    | inl anchor ↦ rw anchor (get_or-made_cells_anchor cells some)
-    | inr later ↦ get_or-made_cells cells i (omega arith) ∙ ap (λ c. made_cell c) (blanks i (omega arith)) ∙ sym (at_other i 0 _ _ later)
-  ]
-
-  pub IsFlat-blank : (a : Flat S I R) → (1 ≤ length a.made) × (length a.made ≤ 64) → a.row ≤ 4096 → a.row * length a.made < length a.cells
-      → ((p : ℕ) → slice_index_or a.made p 0 ≡ 0) → ((i : ℕ) → 0 < i → at a i ≡ blank) → IsFlat a
-  IsFlat-blank a processes row room none blanks = record {
+  -- nobody has made a cell, and there is the anchor alone
+  pub IsFlat-begun : (row room : ℕ) (made : List ℕ) (anchor : CellRecord S I R) → (1 ≤ length made) × (length made ≤ 64) → row ≤ 4096 → row * length made < room → ((p : ℕ) → slice_index_or made p 0 ≡ 0)
+      → IsFlat (record { row = row; made = made; columns = record { room = room; cells = anchor ∷ [] } })
+  IsFlat-begun row room made anchor processes few fits none = record {
     processes = processes;
-    row = row;
+    row = few;
     made = λ p. rw (none p) (omega arith);
-    room = room;
-    there = λ i later made. absurd (let zero_is = none (owner_of (length a.made) i) in omega arith);
-    nothing = λ i later unmade. blanks i later;
+    room = fits;
+    anchor = omega arith;
+    there = λ i later made_then. absurd (let zero_is = none (owner_of (length made) i) in omega arith);
+    nothing = λ i later unmade. past i later;
   }
+    where
+      past : (i : ℕ) → 0 < i → slice_index_or (anchor ∷ []) i blank ≡ blank
+      past zero later = absurd (omega arith)
+      past (suc i) later = refl
 
   -- the anchor for a cell whose state is taken
   pub anchor_for-is : (c : CellRecord S I R) (state : S) → option_map (λ new. new.0) c.new ≡ Some state → anchor_for c ≡ anchor_with state c.seq
@@ -124,18 +123,18 @@ module _ {S I R : Type 0} where
 
   -- the cells that are there are those that their owners made
   pub flat-is_some : (a : Flat S I R) → IsFlat a → (p nth : ℕ) → p < length a.made
-      → (IsSome (slice_index_or (made_cells a.cells) (index_of (length a.made) p nth) None)) ↔ (nth < slice_index_or a.made p 0)
+      → (IsSome (slice_index_or (made_cells a.columns.cells) (index_of (length a.made) p nth) None)) ↔ (nth < slice_index_or a.made p 0)
   flat-is_some a flat p nth within =
       let i = index_of (length a.made) p nth in (
         λ some. elim (cases_lt nth (slice_index_or a.made p 0)) [
           | inl made ↦ made
-          | inr unmade ↦ absurd (let is = there-inv a.cells i (omega arith) some in let none = ap (λ c. is_some c.inv) (at-unmade a flat p nth within unmade) in cc)
+          | inr unmade ↦ absurd (let is = there-inv a.columns.cells i (omega arith) some in let none = ap (λ c. is_some c.inv) (at-unmade a flat p nth within unmade) in cc)
         ],
-        λ made. ap (λ o. is_some o) (get_or-made_cells a.cells i (omega arith)
+        λ made. ap (λ o. is_some o) (get_or-made_cells a.columns.cells i (omega arith)
             ∙ is_made _ (flat.there i (omega arith) (rw (owner_of-index_of (length a.made) p nth within, nth_of-index_of (length a.made) p nth within) made))),
       )
 
-  pub flat-no_others : (a : Flat S I R) → IsFlat a → (i : ℕ) → IsSome (slice_index_or (made_cells a.cells) i None)
+  pub flat-no_others : (a : Flat S I R) → IsFlat a → (i : ℕ) → IsSome (slice_index_or (made_cells a.columns.cells) i None)
       → (i ≡ 0) ⊎ ((p : ℕ) × (nth : ℕ) × (p < length a.made) × (nth < slice_index_or a.made p 0) × (i ≡ index_of (length a.made) p nth))
   flat-no_others a flat i there =
       let n = length a.made in
@@ -149,43 +148,59 @@ module _ {S I R : Type 0} where
           omega (arith, flat.processes.0),
           elim (cases_lt k (slice_index_or a.made p 0)) [
             | inl made ↦ made
-            | inr unmade ↦ absurd (let is = there-inv a.cells i (omega arith) there in let none = ap (λ c. is_some c.inv) (flat.nothing i (omega arith) unmade) in cc)
+            | inr unmade ↦ absurd (let is = there-inv a.columns.cells i (omega arith) there in let none = ap (λ c. is_some c.inv) (flat.nothing i (omega arith) unmade) in cc)
           ],
           sym (index_of-owner_of n i (omega arith)),
         )
       ]
 
   -- a cell that is there changes, and keeps what its call asks for
-  pub IsFlat-set : (a : Flat S I R) → IsFlat a → (i : ℕ) (x : CellRecord S I R) → IsSome (slice_index_or (made_cells a.cells) i None) → x.inv ≡ (at a i).inv → IsFlat (record a { cells = slice_set a.cells i x })
+  pub IsFlat-set : (a : Flat S I R) → IsFlat a → (i : ℕ) (x : CellRecord S I R) → IsSome (slice_index_or (made_cells a.columns.cells) i None) → x.inv ≡ (at a i).inv → IsFlat (record a { columns = with_cell a.columns i x })
   IsFlat-set a flat i x there keeps =
-      let within : i < length a.cells = there-within a.cells i there in
+      let within : i < length a.columns.cells = there-within a.columns.cells i there in
       record {
         processes = flat.processes;
         row = flat.row;
         made = flat.made;
-        room = simp length-set flat.room;
+        room = flat.room;
+        anchor = simp length-set flat.anchor;
         there = λ j later made. elim (cases_eq j i) [
-          | inl same ↦ rw (same, get_or-set_same a.cells i x blank within) (ap (λ o. is_some o) keeps ∙ there-inv a.cells i (omega arith) there)
-          | inr other ↦ rw (get_or-set_other a.cells i j x blank other) (flat.there j later made)
+          | inl same ↦ rw (same, get_or-set_same a.columns.cells i x blank within) (ap (λ o. is_some o) keeps ∙ there-inv a.columns.cells i (omega arith) there)
+          | inr other ↦ rw (get_or-set_other a.columns.cells i j x blank other) (flat.there j later made)
         ];
         nothing = λ j later unmade. elim (cases_eq j i) [
-          | inl same ↦ absurd (let some = there-inv a.cells i (omega arith) there in let none = ap (λ c. is_some c.inv) (ap (λ k. at a k) (sym same) ∙ flat.nothing j later unmade) in cc)
-          | inr other ↦ rw (get_or-set_other a.cells i j x blank other) (flat.nothing j later unmade)
+          | inl same ↦ absurd (let some = there-inv a.columns.cells i (omega arith) there in let none = ap (λ c. is_some c.inv) (ap (λ k. at a k) (sym same) ∙ flat.nothing j later unmade) in cc)
+          | inr other ↦ rw (get_or-set_other a.columns.cells i j x blank other) (flat.nothing j later unmade)
         ];
       }
 
   -- there is room for each cell that a process can make
-  pub index_of-within : (a : Flat S I R) → IsFlat a → (p nth i : ℕ) → p < length a.made → nth < a.row → i ≡ index_of (length a.made) p nth → i < length a.cells
+  pub index_of-within : (a : Flat S I R) → IsFlat a → (p nth i : ℕ) → p < length a.made → nth < a.row → i ≡ index_of (length a.made) p nth → i < a.columns.room
   index_of-within a flat p nth i among room i_is =
       omega (arith, flat.room, mul-add-lt nth (length a.made) p a.row room among)
 
+  made_cells-filled : (c : Reserved S I R) (len j : ℕ) → 0 < length c.cells → slice_index_or (made_cells (filled c len).cells) j None ≡ slice_index_or (made_cells c.cells) j None
+  made_cells-filled c len j some = elim (cases_eq j 0) [
+    | inl anchor ↦ rw anchor (get_or-made_cells_anchor (filled c len).cells (omega (arith, length-filled c len)) ∙ ap (λ x. Some x) (get_or-filled c len 0) ∙ sym (get_or-made_cells_anchor c.cells some))
+    | inr later ↦ get_or-made_cells (filled c len).cells j (omega arith) ∙ ap (λ x. made_cell x) (get_or-filled c len j) ∙ sym (get_or-made_cells c.cells j (omega arith))
+  ]
+
+  -- a cell that is made past what was filled
+  pub ChangesOnly-made : (c : Reserved S I R) (i : ℕ) (x : CellRecord S I R) → 0 < length c.cells → IsSome x.inv
+      → ChangesOnly (λ j. slice_index_or (made_cells c.cells) j None) (λ j. slice_index_or (made_cells (with_cell (filled c (i + 1)) i x).cells) j None) i (Some x)
+  ChangesOnly-made c i x some made j =
+      ChangesOnly-set (filled c (i + 1)).cells i x (omega (arith, length-filled c (i + 1))) (λ _. made) j
+      ∙ ap (λ o. if j == i then Some x else o) (made_cells-filled c (i + 1) j some)
+
   -- a process makes its next cell
   pub IsFlat-made : (a : Flat S I R) → IsFlat a → (p i : ℕ) (nth : ℕ) (x : CellRecord S I R) → p < length a.made → nth ≡ slice_index_or a.made p 0 → nth < a.row → i ≡ index_of (length a.made) p nth → IsSome x.inv
-      → i < length a.cells → IsFlat (record { row = a.row; made = slice_set a.made p (nth + 1); cells = slice_set a.cells i x })
-  IsFlat-made a flat p i nth x among nth_is room i_is made within =
+      → IsFlat (record { row = a.row; made = slice_set a.made p (nth + 1); columns = with_cell (filled a.columns (i + 1)) i x })
+  IsFlat-made a flat p i nth x among nth_is room i_is made =
       let n = length a.made in
       let few : length (slice_set a.made p (nth + 1)) ≡ n = simp length-set in
-      let long : length (slice_set a.cells i x) ≡ length a.cells = simp length-set in
+      let cells = (filled a.columns (i + 1)).cells in
+      let within : i < length cells = omega (arith, length-filled a.columns (i + 1)) in
+      let stays : (j : ℕ) → slice_index_or cells j blank ≡ at a j = get_or-filled a.columns (i + 1) in
       let own : owner_of n i ≡ p = ap (owner_of n) i_is ∙ owner_of-index_of n p nth among in
       let which : nth_of n i ≡ nth = ap (nth_of n) i_is ∙ nth_of-index_of n p nth among in
       let more : slice_index_or (slice_set a.made p (nth + 1)) p 0 ≡ nth + 1 = get_or-set_same a.made p (nth + 1) 0 among in
@@ -196,10 +211,11 @@ module _ {S I R : Type 0} where
           | inl same ↦ rw (same, more) (omega arith)
           | inr other ↦ rw (get_or-set_other a.made p q (nth + 1) 0 other) (flat.made q)
         ];
-        room = rw (few, long) flat.room;
+        room = rw few flat.room;
+        anchor = simp length-set (omega arith);
         there = λ j later j_made. elim (cases_eq j i) [
-          | inl same ↦ rw (same, get_or-set_same a.cells i x blank within) made
-          | inr other ↦ rw (get_or-set_other a.cells i j x blank other) (flat.there j later (elim (cases_eq (owner_of n j) p) [
+          | inl same ↦ rw (same, get_or-set_same cells i x blank within) made
+          | inr other ↦ rw (get_or-set_other cells i j x blank other ∙ stays j) (flat.there j later (elim (cases_eq (owner_of n j) p) [
             | inl by_p ↦
                 let j_made_then : nth_of n j < nth + 1 = rw (few, by_p, more) at j_made in
                 let not_that : nth_of n j ≢ nth = λ is. other (sym (index_of-owner_of n j later) ∙ ap (λ q. index_of n q (nth_of n j)) by_p ∙ ap (λ k. index_of n p k) is ∙ sym i_is) in
@@ -209,53 +225,25 @@ module _ {S I R : Type 0} where
         ];
         nothing = λ j later unmade. elim (cases_eq j i) [
           | inl same ↦ absurd (let late : nth + 1 ≤ nth = rw (few, same, own, which, more) at unmade in omega arith)
-          | inr other ↦ rw (get_or-set_other a.cells i j x blank other) (flat.nothing j later (elim (cases_eq (owner_of n j) p) [
+          | inr other ↦ rw (get_or-set_other cells i j x blank other ∙ stays j) (flat.nothing j later (elim (cases_eq (owner_of n j) p) [
             | inl by_p ↦ let late : nth + 1 ≤ nth_of n j = rw (few, by_p, more) at unmade in rw (by_p, ← nth_is) (omega arith)
             | inr by_other ↦ rw (few, get_or-set_other a.made p (owner_of n j) (nth + 1) 0 by_other) at unmade
           ]))
         ];
       }
 
-  -- once a cell's state is taken, each cell that was made is emptied, and an anchor is put in
-  pub blank-cleared : (a : Flat S I R) → IsFlat a → (last : ℕ) (taken : CellRecord S I R) (emptied : List (CellRecord S I R)) (anchor : CellRecord S I R) → IsSome (slice_index_or (made_cells a.cells) last None)
-      → ((p nth : ℕ) → p < length a.made → nth < slice_index_or a.made p 0 → slice_index_or emptied (index_of (length a.made) p nth) blank ≡ blank)
-      → ((i : ℕ) → slice_index_or (slice_set a.cells last taken) i blank ≡ blank → slice_index_or emptied i blank ≡ blank)
-      → (i : ℕ) → 0 < i → slice_index_or (slice_set emptied 0 anchor) i blank ≡ blank
-  blank-cleared a flat last taken emptied anchor there cleared stays i later =
-      let n = length a.made in
-      get_or-set_other emptied 0 i anchor blank (λ is. absurd (omega arith))
-      ∙ elim (cases_lt (nth_of n i) (made_by_owner a i)) [
-        | inl made ↦ ap (λ j. slice_index_or emptied j blank) (sym (index_of-owner_of n i later)) ∙ cleared (owner_of n i) (nth_of n i) (omega (arith, flat.processes.0)) made
-        | inr unmade ↦
-            let empty : at a i ≡ blank = flat.nothing i later unmade in
-            let other : i ≢ last = λ is. absurd (let some = there-inv a.cells last (omega arith) there in let none = ap (λ c. is_some c.inv) (ap (λ j. at a j) (sym is) ∙ empty) in cc) in
-            stays i (get_or-set_other a.cells last i taken blank other ∙ empty)
-      ]
+  -- what an era begins with
+  pub HasOnlyAnchor-alone : (anchor : CellRecord S I R) → HasOnlyAnchor (λ i. slice_index_or (made_cells (anchor ∷ [])) i None) (Some anchor)
+  HasOnlyAnchor-alone anchor zero = refl
+  HasOnlyAnchor-alone anchor (suc i) = sym (at_other (suc i) 0 _ _ (λ is. absurd (omega arith)))
 
-  -- the same of columns that are new
-  pub get_or-blank : (n i : ℕ) → slice_index_or (replicate n (blank {S = S} {I = I} {R = R})) i blank ≡ blank
-  get_or-blank n i = elim (cases_lt i n) [
-    | inl within ↦ get_or-replicate n i blank blank within
-    | inr past ↦ get_or_past _ i blank (omega (arith, length-replicate n (blank {S = S} {I = I} {R = R})))
-  ]
-
-  pub blank-new : (n : ℕ) (anchor : CellRecord S I R) (i : ℕ) → 0 < i → slice_index_or (slice_set (replicate n blank) 0 anchor) i blank ≡ blank
-  blank-new n anchor i later = get_or-set_other (replicate n blank) 0 i anchor blank (λ is. absurd (omega arith)) ∙ get_or-blank n i
-
-  pub HasOnlyAnchor-set : (emptied : List (CellRecord S I R)) (anchor : CellRecord S I R) → 0 < length emptied → ((i : ℕ) → 0 < i → slice_index_or (slice_set emptied 0 anchor) i blank ≡ blank)
-      → HasOnlyAnchor (λ i. slice_index_or (made_cells (slice_set emptied 0 anchor)) i None) (Some anchor)
-  HasOnlyAnchor-set emptied anchor some blanks i =
-      HasOnlyAnchor-blank (slice_set emptied 0 anchor) (simp length-set some) blanks i ∙ ap (λ c. if i == 0 then Some c else None) (get_or-set_same emptied 0 anchor blank some)
-
-  -- what an era begins with, once nothing but the anchor stands
-  pub HasOnlyAnchor-begun : (cells emptied : List (CellRecord S I R)) (last : ℕ) (state : S) (seq : ℕ) → IsSome (slice_index_or (made_cells cells) last None) → 0 < length emptied
+  pub HasOnlyAnchor-begun : (cells : List (CellRecord S I R)) (last : ℕ) (state : S) (seq : ℕ) → IsSome (slice_index_or (made_cells cells) last None)
       → option_map (λ new. new.0) (slice_index_or cells last blank).new ≡ Some state → seq ≡ (slice_index_or cells last blank).seq
-      → ((i : ℕ) → 0 < i → slice_index_or (slice_set emptied 0 (anchor_with state seq)) i blank ≡ blank)
-      → HasOnlyAnchor (λ i. slice_index_or (made_cells (slice_set emptied 0 (anchor_with state seq))) i None) (option_map anchor_for (slice_index_or (made_cells cells) last None))
-  HasOnlyAnchor-begun cells emptied last state seq there some settled seq_is blanks =
+      → HasOnlyAnchor (λ i. slice_index_or (made_cells (anchor_with state seq ∷ [])) i None) (option_map anchor_for (slice_index_or (made_cells cells) last None))
+  HasOnlyAnchor-begun cells last state seq there settled seq_is =
       let anchor : anchor_for (slice_index_or cells last blank) ≡ anchor_with state seq = anchor_for-is (slice_index_or cells last blank) state settled ∙ ap (anchor_with state) (sym seq_is) in
       rw (ap (option_map anchor_for) (there-is cells last there) ∙ ap (λ c. Some c) anchor)
-      (HasOnlyAnchor-set emptied (anchor_with state seq) some blanks)
+      (HasOnlyAnchor-alone (anchor_with state seq))
 
 -- nobody has made a cell
 pub get_or-zero : (n p : ℕ) → slice_index_or (replicate {A = ℕ} n 0) p 0 ≡ 0

@@ -1,5 +1,6 @@
 -- Cells that are kept in columns, one for each field.
-use Rattle.std.specs.Prelude.{◌≡◌, ℕ, List, [], ◌∷◌, Option, None, Some, length, map, slice_index_or, refl}
+use Rattle.std.specs.Prelude.{◌≡◌, ◌++◌, ◌-◌, ℕ, List, [], ◌∷◌, Option, None, Some, length, map, replicate, refl}
+use Rattle.std.specs.Prelude.{slice_index_or, slice_set}
 use Rattle.std.specs.List.{range_with_len}
 use Rattle.cell_arena.specs.CellRecord.{CellRecord, fresh, anchor_with}
 
@@ -36,6 +37,19 @@ pub record AreEven {S I R : Type 0} (c : Fields S I R) : Type 0 where
   pub after : length c.after ≡ length c.seq
   pub new : length c.new ≡ length c.seq
 
+-- cells, and for how many there is room
+pub record Reserved (S I R : Type 0) : Type 0 where
+  pub room : ℕ
+  pub cells : List (CellRecord S I R)
+
+-- with another cell at an index
+abbrev pub with_cell : {S I R : Type 0} → Reserved S I R → ℕ → CellRecord S I R → Reserved S I R
+with_cell c i x = record c { cells = slice_set c.cells i x }
+
+-- filled up to a length, with places where no cell is made
+abbrev pub filled : {S I R : Type 0} → Reserved S I R → ℕ → Reserved S I R
+filled c len = record c { cells = c.cells ++ replicate (len - length c.cells) blank }
+
 -- an anchor 9, and a cell of call 5
 cells_in_two : cells_in {S = ℕ} {I = ℕ} {R = ℕ} (record {
   inv = None ∷ Some 5 ∷ [];
@@ -46,3 +60,13 @@ cells_in_two : cells_in {S = ℕ} {I = ℕ} {R = ℕ} (record {
 })
     ≡ anchor_with 9 1 ∷ fresh 5 ∷ []
 cells_in_two = refl
+
+-- room for five cells, of which one is made; the fourth place is filled with what is before it
+filled_four : filled {S = ℕ} {I = ℕ} {R = ℕ} (record { room = 5; cells = anchor_with 9 1 ∷ fresh 5 ∷ [] }) 4
+    ≡ record { room = 5; cells = anchor_with 9 1 ∷ fresh 5 ∷ blank ∷ blank ∷ [] }
+filled_four = refl
+
+-- what is filled stays
+filled_one : filled {S = ℕ} {I = ℕ} {R = ℕ} (record { room = 5; cells = anchor_with 9 1 ∷ fresh 5 ∷ [] }) 1
+    ≡ record { room = 5; cells = anchor_with 9 1 ∷ fresh 5 ∷ [] }
+filled_one = refl

@@ -31,9 +31,9 @@ impl<S, I, R> Model for ColumnCells<S, I, R> {
 
     ghost Value = { Arena S I R };
 
-    ghost view = { λ a. arena_of (record { row = a.row; made = a.made.items; cells = a.columns }) };
+    ghost view = { λ a. arena_of (record { row = a.row; made = a.made.items; columns = a.columns }) };
 
-    ghost invariant = { λ a. IsFlat (record { row = a.row; made = a.made.items; cells = a.columns }) };
+    ghost invariant = { λ a. IsFlat (record { row = a.row; made = a.made.items; columns = a.columns }) };
 }
 
 impl<S: Drop, I: Drop, R: Drop> ColumnCells<S, I, R> {
@@ -51,8 +51,8 @@ impl<S: Drop, I: Drop, R: Drop> ColumnCells<S, I, R> {
         ensures shape { IfOk result (λ arena. (processes_of arena ≡ n) × (arena.row ≡ k)) }
     {
         let made = vec![in alloc; 0; n as usize]?;
-        let mut columns = Columns::blank(alloc, (k * n + 1) as usize)?;
-        columns.set_anchor(state, seq);
+        let mut columns = Columns::reserved(alloc, (k * n + 1) as usize)?;
+        columns.begin(state, seq);
         Ok(ColumnCells {
             row: k,
             made,
@@ -75,18 +75,10 @@ impl<S: Drop, I: Drop, R: Drop> ColumnCells<S, I, R> {
     {
         let at = last.index() as usize;
         let made = vec![in alloc; 0; m as usize]?;
-        let room = (self.row * m + 1) as usize;
+        self.columns.reserve((self.row * m + 1) as usize)?;
         let seq = self.columns.seq(at);
-        if room <= self.columns.len() {
-            let state = self.columns.take_state(at);
-            self.columns.clear_made(&self.made);
-            self.columns.set_anchor(state, seq);
-            self.made = made;
-            return Ok(());
-        }
-        let mut columns = Columns::blank(alloc, room)?;
-        columns.set_anchor(self.columns.take_state(at), seq);
-        self.columns = columns;
+        let state = self.columns.take_state(at);
+        self.columns.begin(state, seq);
         self.made = made;
         Ok(())
     }
@@ -144,7 +136,7 @@ impl<S: Drop, I: Drop, R: Copy> Cells for ColumnCells<S, I, R> {
             return Err((ArenaFault::RowFull(p), inv));
         }
         let id = CellId::of(self.made.len() as u64, p, nth);
-        self.columns.set_inv(id.index() as usize, inv);
+        self.columns.make(id.index() as usize, inv);
         self.made[p as usize] = nth + 1;
         Ok(id)
     }
@@ -207,8 +199,7 @@ impl<S: Drop, I: Drop, R: Copy> Cells for ColumnCells<S, I, R> {
         let at = last.index() as usize;
         let seq = self.columns.seq(at);
         let state = self.columns.take_state(at);
-        self.columns.clear_made(&self.made);
-        self.columns.set_anchor(state, seq);
+        self.columns.begin(state, seq);
         self.made.fill(0);
     }
 }

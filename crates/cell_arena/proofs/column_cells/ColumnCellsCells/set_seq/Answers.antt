@@ -6,9 +6,9 @@ use Rattle.cell_arena.proofs.column_cells.ColumnCellsCells.set_seq.Goals as goal
 pub returns-clause-cell : goal.returns-clause-cell
 returns-clause-cell g c =
     rw (← c.self.view_is, c.set_seq.ensures, c.index.ensures)
-    (ChangesOnly-by_column (with_seq c.args.seq) (λ _. refl) c.self.inside.columns c.args.id (rw (← c.self.view_is) at c.requires))
+    (ChangesOnly-by_column (with_seq c.args.seq) (λ _. refl) c.self.inside.columns.cells c.args.id (rw (← c.self.view_is) at c.requires))
 
 pub invariant_of-self : goal.invariant_of-self
 invariant_of-self g c =
     rw (c.set_seq.ensures, c.index.ensures)
-    (IsFlat-set (record { row = c.self.inside.row; made = c.self.inside.made.items; cells = c.self.inside.columns }) c.self.invariant c.args.id _ (rw (← c.self.view_is) at c.requires) refl)
+    (IsFlat-set (record { row = c.self.inside.row; made = c.self.inside.made.items; columns = c.self.inside.columns }) c.self.invariant c.args.id _ (rw (← c.self.view_is) at c.requires) refl)
