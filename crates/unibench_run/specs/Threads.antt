@@ -183,7 +183,8 @@ abbrev pub OfAgreed : Plan → (List ℕ → Type 0) → Type 0
 OfAgreed plan Holds = (replies : ℕ) × IsCounted plan replies × Holds (agrees_line plan.processes replies)
 
 abbrev pub text_of_fault : ThreadsFault → List ℕ
-text_of_fault fault.NoSuchObject = codes "no such object in this form"
+text_of_fault fault.NoSuchObject =
+    codes "no such object in this form\nlock has queue, directory, book and sticky; words sticky and tally; small all but directory and tally"
 text_of_fault fault.CallsTooMany = codes "calls too many"
 text_of_fault fault.Memory = codes "out of memory"
 text_of_fault fault.Write = codes "cannot write"

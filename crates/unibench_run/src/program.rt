@@ -142,7 +142,11 @@ fn report_threads<F: TextOut>(alloc: Global, fault: ThreadsFault, faults: &mut F
 {
     match fault {
         ThreadsFault::NoSuchObject => {
-            tell(faults, b"no such object in this form\n");
+            tell(
+                faults,
+                b"no such object in this form\n\
+lock has queue, directory, book and sticky; words sticky and tally; small all but directory and tally\n",
+            );
             2
         }
         ThreadsFault::CallsTooMany => {

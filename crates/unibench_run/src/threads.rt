@@ -75,7 +75,11 @@ impl fmt::Display for ThreadsFault {
 
     fn fmt<W: fmt::Write>(&self, f: &mut fmt::Formatter<W>) -> fmt::Result {
         match self {
-            ThreadsFault::NoSuchObject => write!(f, "no such object in this form"),
+            ThreadsFault::NoSuchObject => write!(
+                f,
+                "no such object in this form\n\
+lock has queue, directory, book and sticky; words sticky and tally; small all but directory and tally"
+            ),
             ThreadsFault::CallsTooMany => write!(f, "calls too many"),
             ThreadsFault::Memory => write!(f, "out of memory"),
             ThreadsFault::Write => write!(f, "cannot write"),
