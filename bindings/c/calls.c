@@ -128,6 +128,15 @@ static void seats_end(void) {
     universal_drop(&log);
 }
 
+static void is_entry(const universal_entry *entry, uint64_t seq, uint64_t p, uint64_t of_p, uint64_t inv, uint64_t reply) {
+    IS(entry->seq, seq);
+    IS(entry->process, p);
+    IS(entry->nth, of_p);
+    IS(entry->inv, inv);
+    IS(entry->reply, reply);
+    IS(entry->is_replied, 1);
+}
+
 static void full(void) {
     universal_handle log = UNIVERSAL_NONE;
     IS(universal_open_tally(1, 1, &log), UNIVERSAL_DONE);
@@ -140,13 +149,28 @@ static void full(void) {
     IS(universal_close(&seat), UNIVERSAL_DONE);
     IS(universal_read(&seat, entries, 4, &count), UNIVERSAL_DONE);
     IS(count, 1);
-    IS(entries[0].seq, 2);
-    IS(entries[0].process, 0);
-    IS(entries[0].nth, 0);
-    IS(entries[0].inv, 4);
-    IS(entries[0].reply, 0);
-    IS(entries[0].is_replied, 1);
+    is_entry(&entries[0], 2, 0, 0, 4, 0);
     universal_drop(&seat);
+}
+
+/* Two calls of process 1, and one of process 0. */
+static void entries_are_told(void) {
+    universal_handle log = UNIVERSAL_NONE, first = UNIVERSAL_NONE, second = UNIVERSAL_NONE;
+    IS(universal_open_tally(2, 2, &log), UNIVERSAL_DONE);
+    IS(universal_seat(&log, &first, &process), UNIVERSAL_DONE);
+    IS(universal_seat(&log, &second, &process), UNIVERSAL_DONE);
+    IS(replied(&first, 5), 0);
+    IS(replied(&first, 2), 5);
+    IS(replied(&second, 1), 7);
+    universal_drop(&log);
+    universal_drop(&second);
+    IS(universal_close(&first), UNIVERSAL_DONE);
+    IS(universal_read(&first, entries, 4, &count), UNIVERSAL_DONE);
+    IS(count, 3);
+    is_entry(&entries[0], 2, 1, 0, 5, 0);
+    is_entry(&entries[1], 3, 1, 1, 2, 5);
+    is_entry(&entries[2], 4, 0, 0, 1, 7);
+    universal_drop(&first);
 }
 
 static void busy(void) {
@@ -316,6 +340,7 @@ int main(void) {
     bad_tables();
     seats_end();
     full();
+    entries_are_told();
     busy();
     all_seats();
     misuse();

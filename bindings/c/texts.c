@@ -85,6 +85,18 @@ static void replays(void) {
     is(replay, "universal 1 queue 2 8\n\xff\n", UNIVERSAL_TEXT_BAD_SCRIPT, "line 2: bad byte\n");
 }
 
+/* The line after the last that a script can have. */
+static void lines_past_the_most(void) {
+    static char long_script[100100] = "universal 1 queue 1 1\n";
+    size_t header = strlen(long_script);
+    memset(long_script + header, '\n', 100000);
+    const text_of all[] = {replay, universal_draw, universal_lines};
+    for (size_t i = 0; i < 3; i++)
+        is(all[i], long_script, UNIVERSAL_TEXT_BAD_SCRIPT, "line 100001: too many lines\n");
+    long_script[header + 99999] = 0;
+    is(replay, long_script, UNIVERSAL_TEXT_DONE, "end\n");
+}
+
 static void histories(void) {
     const uint64_t bad[] = {0, 16777217, UINT64_MAX};
     for (size_t i = 0; i < 3; i++) {
@@ -146,6 +158,7 @@ static long each(text_of text, const char *script) {
 
 int main(void) {
     replays();
+    lines_past_the_most();
     histories();
     pictures();
     long of_answers = each(replay, SCRIPT), of_fault = each(replay, ""), of_picture = each(universal_draw, SCRIPT),

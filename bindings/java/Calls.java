@@ -86,6 +86,15 @@ public final class Calls {
         }
     }
 
+    private static void entries() throws Exception {
+        Log log = Log.tally(2, 2);
+        Seat first = log.seat(), second = log.seat();
+        log.close();
+        is(List.of(first.apply(5), first.apply(2), second.apply(1)), List.of(0, 5, 7));
+        second.close();
+        is(first.finish(), List.of(new Entry(2, 1, 0, 5, 0), new Entry(3, 1, 1, 2, 5), new Entry(4, 0, 0, 1, 7)));
+    }
+
     private static void busy() throws Exception {
         Log log = Log.tally(2, 2);
         Seat first = log.seat(), second = log.seat();
@@ -137,6 +146,7 @@ public final class Calls {
         refusals();
         seats();
         full();
+        entries();
         busy();
         told();
         System.out.println("calls: as the header says");

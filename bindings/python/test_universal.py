@@ -58,6 +58,14 @@ class Calls(unittest.TestCase):
         self.assertRaises(ValueError, lambda: seat.apply(1 << 64))
         self.assertEqual(seat.finish(), [Entry(seq=2, process=0, nth=0, inv=4, reply=0)])
 
+    def test_entries(self):
+        with Log.tally(2, 2) as log:
+            first, second = log.seats()
+        self.assertEqual([first.apply(5).reply, first.apply(2).reply, second.apply(1).reply], [0, 5, 7])
+        second.close()
+        told = [(2, 1, 0, 5, 0), (3, 1, 1, 2, 5), (4, 0, 0, 1, 7)]
+        self.assertEqual(first.finish(), [Entry(*entry) for entry in told])
+
     def test_follows(self):
         with Log.tally(2, 1) as log:
             first, second = log.seats()

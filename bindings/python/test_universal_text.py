@@ -1,9 +1,10 @@
 """Scripts on their happy path and each refusal, beside the texts that the cases have: python3 -m unittest"""
 
+import inspect
 import unittest
 from pathlib import Path
 
-from universal.text import BadScript, Svg, TooLong, draw, lines, replay
+from universal.text import HISTORY, BadScript, Svg, TooLong, draw, lines, replay
 
 CASES = Path(__file__).parent.parent.parent / "crates" / "cases" / "data"
 SCRIPT = "universal 1 queue 2 8\ncall 0 enq 10\nstep 0 10\nfinish 0\nlog\n"
@@ -21,6 +22,10 @@ class Scripts(unittest.TestCase):
         for history in [33, 1 << 24]:
             self.assertEqual(replay(SCRIPT, history), answers)
         self.assertEqual(replay(SCRIPT, history=32), "refused history\nrefused idle 0\nrefused idle 0\nend\n")
+
+    def test_history_where_none_is_told(self):
+        self.assertEqual(HISTORY, 1_048_576)
+        self.assertEqual(inspect.signature(replay).parameters["history"].default, HISTORY)
 
     def test_a_limit(self):
         answers = replay(SCRIPT)

@@ -90,6 +90,19 @@ fn a_full_seat_changes_nothing() {
 }
 
 #[test]
+fn entries_tell_processes_and_their_calls() {
+    let mut log = Log::tally(2, 2).unwrap();
+    let (mut first, mut second) = (log.seat().unwrap(), log.seat().unwrap());
+    drop(log);
+    let replies = [first.apply(5), first.apply(2), second.apply(1)].map(|answer| answer.unwrap().reply);
+    assert_eq!(replies, [0, 5, 7]);
+    drop(second);
+    let calls = first.close().unwrap();
+    let told: Vec<_> = calls.iter().map(|call| (call.seq, call.process, call.nth, call.inv, call.reply())).collect();
+    assert_eq!(told, [(2, 1, 0, 5, Some(0)), (3, 1, 1, 2, Some(5)), (4, 0, 0, 1, Some(7))]);
+}
+
+#[test]
 fn a_busy_log_gives_the_seat_back() {
     let mut log = Log::tally(2, 2).unwrap();
     let (mut first, second) = (log.seat().unwrap(), log.seat().unwrap());

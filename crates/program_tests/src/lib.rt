@@ -24,3 +24,5 @@ mod scripts;
 mod svgs;
 #[cfg(test)]
 mod typed;
+#[cfg(test)]
+mod watched;

@@ -2,7 +2,7 @@
 
 use script_advice::Kept;
 use seq_object::CallId;
-use std::alloc::Global;
+use std::alloc::{AllocError, Global};
 use std::io;
 use std::io::{ErrorKind, Read, Write};
 use std::process::Abort;
@@ -151,6 +151,39 @@ fn reader_that_fails(rt: HostRuntime) {
     for &(script, want) in CUT_SHORT {
         replays(&rt, rt.alloc(), by_sevens(script.as_bytes(), true), want);
     }
+}
+
+/// A header and notes, 99,999 lines in all, and then these.
+fn at_the_end(alloc: Global, lines: &str) -> Result<Vec<u8>, AllocError> {
+    let mut script = Vec::from_slice(alloc, b"universal 1 queue 1 1\n")?;
+    for _ in 1..99_999 {
+        script.push(b'\n')?;
+    }
+    script.extend_from_slice(lines.as_bytes())?;
+    Ok(script)
+}
+
+/// The last line that a script can have, and one more, each with its explanation.
+const LAST_LINES: &[(&str, &str)] = &[
+    (
+        "stepp 0\n",
+        "line 100000: bad line\nstepp 0\n^^^^^\nunknown command: the nearest is 'step'\n",
+    ),
+    (
+        "\nstepp 0\n",
+        "line 100001: too many lines\na script has at most 100000 lines\n",
+    ),
+];
+
+#[test]
+fn last_lines_are_explained(rt: HostRuntime) -> Result<(), AllocError> {
+    let words = ["unibench", "replay", "--explain"].as_slice();
+    for &(lines, faults) in LAST_LINES {
+        let script = at_the_end(rt.alloc(), lines)?;
+        let outcome = outcome_of(&rt, rt.alloc(), words, by_sevens(script.as_slice(), false));
+        assert!(rt; outcome.is(b"", faults.as_bytes(), 2), "{lines:?}");
+    }
+    Ok(())
 }
 
 /// Runs the program with an output that has so much room, and then takes no byte or fails.

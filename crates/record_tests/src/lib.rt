@@ -27,6 +27,8 @@ mod seat_calls;
 #[cfg(test)]
 mod seats;
 #[cfg(test)]
+mod texts;
+#[cfg(test)]
 mod threads;
 #[cfg(test)]
 mod worlds;

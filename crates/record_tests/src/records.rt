@@ -138,6 +138,10 @@ fn runs(
         "other outcomes"
     );
     assert!(rt; recorded.events().len() == stored, "other events");
+    assert!(rt;
+        recorded.events().size_hint() == (stored, Some(stored)),
+        "another hint"
+    );
     Ok(())
 }
 

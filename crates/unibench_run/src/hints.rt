@@ -14,9 +14,12 @@ use std::convert::AsStr;
 /// What is said where a word of `replay` may have been meant for a file.
 const TIP: &str = "tip: a script is read from standard input: unibench replay < FILE\n";
 
+/// The options of `replay` that take no value, and the word after which none is an option.
+const ALONE: [&str; 3] = ["--explain", "--echo", "--"];
+
 /// Whether a word may be an option that takes the next word for its value.
 fn may_take_value(word: &str) -> bool {
-    word.starts_with("--") && word != "--" && word != "--explain" && !word.contains('=')
+    word.starts_with("--") && !ALONE.contains(&word) && !word.contains('=')
 }
 
 /// Whether a word may have been meant for a file: it is no option, and the word before it doesn't take it.

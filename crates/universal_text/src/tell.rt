@@ -1,6 +1,6 @@
 //! How a text is told: written where there is room for it, with its length.
 
-ghost use Rattle.std.specs.Prelude.{◌≡◌, ◌≢◌, ◌≤◌, ◌⊎◌};
+ghost use Rattle.std.specs.Prelude.{◌≡◌, ◌≢◌, ◌≤◌, ◌↔◌, ◌⊎◌};
 ghost use Rattle.universal_text.specs.Told.{IsFaultOfPicture, IsTooLong, IsWritten, line_of};
 
 use crate::status::{BAD_SCRIPT, MEMORY, MISDRAWN, SMALL};
@@ -28,7 +28,7 @@ pub(crate) fn tell(status: u32, text: &[u8], out: &mut [u8], written: &mut usize
 /// The status of a fault: 1 of one that a script has, 5 where a drawing does not show its run, and 3 of any other.
 fn status_of(fault: PictureFault) -> u32
     ensures status { (result ≡ 1) ⊎ (result ≡ 3) ⊎ (result ≡ 5) }
-    ensures fault { result ≡ 1 → IsFaultOfPicture fault }
+    ensures fault { (result ≡ 1) ↔ IsFaultOfPicture fault }
     ensures misdrawn { result ≡ 5 → fault ≡ PictureFault.Misdrawn }
 {
     match fault {

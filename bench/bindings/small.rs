@@ -1,0 +1,73 @@
+//! Calls on a shared counter or queue by the Rust crate: `small OBJECT FORM N K R`, as in small.c.
+use std::collections::VecDeque;
+use std::hint::black_box;
+use std::num::NonZeroU64;
+use std::sync::{Barrier, Mutex};
+use std::thread::scope;
+use std::time::Instant;
+use universal::small::{Counter, Queue};
+
+const CAPACITY: u32 = 64;
+
+/// Each worker's calls in a thread of its own: the nanoseconds from the first to the last.
+fn round<W: Send>(workers: Vec<W>, calls: u64, call: impl Fn(&mut W, u64) + Sync) -> u128 {
+    let (barrier, call) = (&Barrier::new(workers.len()), &call);
+    let spans: Vec<(Instant, Instant)> = scope(|threads| {
+        let start = |mut worker: W| {
+            threads.spawn(move || {
+                barrier.wait();
+                let first = Instant::now();
+                (0..calls).for_each(|nth| call(&mut worker, nth));
+                (first, Instant::now())
+            })
+        };
+        let started: Vec<_> = workers.into_iter().map(start).collect();
+        started.into_iter().map(|thread| thread.join().unwrap()).collect()
+    });
+    let first = spans.iter().map(|span| span.0).min().unwrap();
+    let last = spans.iter().map(|span| span.1).max().unwrap();
+    (last - first).as_nanos()
+}
+
+fn measure(object: &str, form: &str, n: u64, calls: u64) -> u128 {
+    match (object, form) {
+        ("counter", "universal") => {
+            let seats = Counter::open(n).unwrap().into_seats().unwrap();
+            round(seats, calls, |seat, nth| drop(black_box(seat.add(nth + 1).unwrap())))
+        }
+        ("counter", _) => {
+            let sum = &Mutex::new(0);
+            round((0..n).collect(), calls, |_, nth| {
+                let mut sum = sum.lock().unwrap();
+                black_box(*sum);
+                *sum += nth + 1;
+            })
+        }
+        (_, "universal") => {
+            let seats = Queue::open(n, CAPACITY).unwrap().into_seats().unwrap();
+            round(seats, calls, |seat, nth| match nth % 2 {
+                0 => drop(black_box(seat.put(NonZeroU64::new(nth + 1).unwrap()))),
+                _ => drop(black_box(seat.take().unwrap())),
+            })
+        }
+        _ => {
+            let row = &Mutex::new(VecDeque::with_capacity(CAPACITY as usize));
+            round((0..n).collect(), calls, |_, nth| {
+                let mut row = row.lock().unwrap();
+                match nth % 2 {
+                    0 if row.len() < CAPACITY as usize => row.push_back(nth + 1),
+                    0 => {}
+                    _ => drop(black_box(row.pop_front())),
+                }
+            })
+        }
+    }
+}
+
+fn main() {
+    let words: Vec<String> = std::env::args().skip(1).collect();
+    let number = |at: usize| words[at].parse::<u64>().unwrap();
+    for _ in 0..number(4) {
+        println!("{}", measure(&words[0], &words[1], number(2), number(3)));
+    }
+}
