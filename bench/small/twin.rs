@@ -4,7 +4,8 @@
 //
 // The twin has the words of the proved form, in their order: S, the announcements, the arguments, and 2n buffers, each
 // with how many calls of each process are in, a reply for each, and the state. Each of its kinds of step is one
-// operation on one of them, and all are sequentially consistent.
+// operation on one of them, and all are sequentially consistent. A thread keeps what its own two buffers hold, and stores
+// only the words that differ.
 
 use std::cell::UnsafeCell;
 use std::hint::{black_box, spin_loop};
@@ -137,6 +138,8 @@ struct Seat {
     copy: Vec<u64>,
     due: Vec<bool>,
     invs: Vec<u64>,
+    /// What its own two buffers hold.
+    held: [Vec<u64>; 2],
 }
 
 trait Form: Sync {
@@ -202,8 +205,12 @@ impl<O: Object> Small<O> {
             O::apply(state, &seat.invs[q * i..(q + 1) * i], &mut replies[q * r..(q + 1) * r]);
         }
         let own = 2 * seat.p as u64 + seat.spare;
+        let held = &mut seat.held[seat.spare as usize];
         for k in 0..seat.copy.len() {
-            self.buffer(own as usize, k).store(seat.copy[k], SeqCst);
+            if held[k] != seat.copy[k] {
+                self.buffer(own as usize, k).store(seat.copy[k], SeqCst);
+                held[k] = seat.copy[k];
+            }
         }
         let new = 128 * (s / 128 + 1) + own;
         self.words[0].compare_exchange(s, new, SeqCst, SeqCst).ok()?;
@@ -300,6 +307,7 @@ fn calls<O: Object>(form: &dyn Form, p: usize, plan: Plan, ready: &AtomicUsize, 
         copy: vec![0; n + n * r + w],
         due: vec![false; n],
         invs: vec![0; n * i],
+        held: [vec![0; n + n * r + w], vec![0; n + n * r + w]],
     };
     let (mut inv, mut reply) = (vec![0; i], vec![0; r]);
     let mut word = 0x9e37_79b9_7f4a_7c15u64;

@@ -1,7 +1,6 @@
 -- What the functions of the word steps ask, in parts.
 use Rattle.std.proofs.Common.{◌≡◌, ℕ, List, sym, subst}
 use Rattle.atomic_table.specs.Table.{Me, keeps, Allows}
-use Rattle.seq_object.specs.Sequential.{Sequential}
 use Rattle.uni_model.specs.AtomicObject.{Act}
 use Rattle.uni_small.specs.Image.{Meaning}
 use Rattle.uni_small.specs.Board.{Board}

@@ -1,16 +1,16 @@
 -- What the words of a closed table show.
-use Rattle.std.proofs.Common.{◌≡◌, ◌∙◌, ℕ, zero, suc, ◌+◌, ◌*◌, ◌<◌, ◌≤◌, refl, sym, ap, subst, List, ◌∷◌, length, Contains, map, slice_index, slice_get, [], arith}
+use Rattle.std.proofs.Common.{◌≡◌, ◌∙◌, ℕ, zero, suc, ◌*◌, ◌<◌, ◌≤◌, refl, sym, ap, subst, List, ◌∷◌, Contains, map, slice_index, slice_get, [], arith}
 use mathlib.Core.Option.{some}
 use lib.ListN.{get_elem?}
-use Rattle.atomic_table.specs.Table.{State, Final, Seen}
+use Rattle.atomic_table.specs.Table.{State}
 use Rattle.seq_object.specs.Sequential.{Sequential}
 use Rattle.uni_small.specs.declared.sizes.Sizes.{Sizes}
 use Rattle.uni_small.specs.Image.{Meaning, Image, state_place}
 use Rattle.uni_small.specs.View.{Local, ProcessReturned, plain}
 use Rattle.uni_small.specs.View.Stage.{Idle}
-use Rattle.uni_small.specs.Board.{Board, buffer_in, buffer_word, words_of}
+use Rattle.uni_small.specs.Board.{Board, buffer_in}
 use Rattle.uni_small.specs.Final.{IsFinal}
-use Rattle.uni_small.specs.Invariant.{IsAt, IsBoard, IsClosed}
+use Rattle.uni_small.specs.Invariant.{IsBoard, IsClosed}
 use Rattle.uni_model.specs.ProcessCalls.{sequential_acts}
 use Rattle.uni_small.specs.Reading.{IsStateIn}
 use Rattle.uni_small.specs.Rule.{Rule}

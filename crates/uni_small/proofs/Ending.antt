@@ -1,19 +1,19 @@
 -- How an attempt goes on after its check, and how a call ends.
-use Rattle.std.proofs.Common.{[], ◌≡◌, ◌≢◌, ◌∙◌, ℕ, ◌+◌, ◌-◌, ◌*◌, ◌<◌, ◌≤◌, inl, inr, refl, sym, ap, subst, List, length, slice_index, Option, Some, None, arith, true, false}
+use Rattle.std.proofs.Common.{[], ◌≡◌, ◌≢◌, ◌∙◌, ℕ, ◌+◌, ◌-◌, ◌*◌, ◌<◌, ◌≤◌, inl, inr, refl, sym, ap, subst, List, length, slice_index, Option, Some, None, arith}
 use Rattle.std.proofs.Math.Nat.{add-mul, mul_assoc, mul_comm}
-use Rattle.std.specs.Prelude.{is_some}
 use Rattle.atomic_table.specs.Table.{Me}
-use Rattle.seq_object.specs.Sequential.{Sequential}
 use Rattle.uni_model.proofs.Written.{number_cases}
 use Rattle.uni_small.specs.declared.sizes.Sizes.{Sizes}
 use Rattle.uni_small.specs.Image.{HasRows, Image, Meaning, buffer_words, spell, read_image}
-use Rattle.uni_small.specs.View.{Local, Returned, Stage, announces, goes, returns}
+use Rattle.uni_small.specs.View.{Local, Returned, Stage, announces, brings, goes, returns}
 use Rattle.uni_small.specs.View.Stage.{Idle, Last, Reading, Ready, Writing}
 use Rattle.uni_small.specs.Board.{buffer_in, version_in}
-use Rattle.uni_small.specs.Plays.{Goes, IsLeft, IsGood, checked, stage_of, with_local}
-use Rattle.uni_small.specs.Standing.{GoesBy, local_of, went, AttemptEnds, BringEnds, CallEnds, ReplyEnds, attempt_steps, call_steps}
+use Rattle.uni_small.specs.Plays.{Goes, IsLeft, IsGood, brought, checked, stage_of, with_local}
+use Rattle.uni_small.specs.Standing.{GoesBy, local_of, went, CallEnds, EndsWithin, IsEnd, ReplyEnds, WritesWithin, attempt_steps, call_steps, end_of}
+use Rattle.uni_small.specs.Belongs.{AreBuffers}
+use Rattle.uni_small.specs.declared.seat.Buffers.{Buffers}
 use Rattle.uni_small.specs.declared.view.View.{View}
-use Rattle.uni_small.proofs.Going.{stage_after, own_after, goes_on, goes_more}
+use Rattle.uni_small.proofs.Going.{add_assoc, stage_after, own_after, spare_after, held_after, goes_on}
 use Rattle.uni_small.proofs.Images.{read-spell, spell-applied}
 
 checked_failed : (sizes : Sizes) (p made tries s : ℕ) (copy : List ℕ) (seen : List (Option (List ℕ))) (found : ℕ) → found ≢ s → checked sizes p made tries s copy seen found ≡ Ready (tries + 1)
@@ -25,7 +25,7 @@ checked_in sizes p made tries s copy seen found same own = elim (number_cases fo
   | inr h ↦ absurd (h.0 same)
 ]
 
-checked_on : (sizes : Sizes) (p made tries s : ℕ) (copy : List ℕ) (seen : List (Option (List ℕ))) (found : ℕ) → found ≡ s → slice_index copy p ≢ made → checked sizes p made tries s copy seen found ≡ Writing tries s (read_image sizes copy) seen 0
+checked_on : (sizes : Sizes) (p made tries s : ℕ) (copy : List ℕ) (seen : List (Option (List ℕ))) (found : ℕ) → found ≡ s → slice_index copy p ≢ made → checked sizes p made tries s copy seen found ≡ Writing tries s (read_image sizes copy) seen
 checked_on sizes p made tries s copy seen found same other = elim (number_cases found s) [
   | inl h ↦ elim (number_cases (slice_index copy p) made) [ inl k ↦ absurd (other k.0) | inr k ↦ rw (h.1, k.1) refl ]
   | inr h ↦ absurd (h.0 same)
@@ -54,38 +54,80 @@ module _ {O : Type 0} (meaning : Meaning) (sizes : Sizes) (p tries s words : ℕ
   pub is_in : again ≡ s → slice_index image.applied p ≡ length (local_of me).own + 1 → GoesBy me (words + 1) (Last s []) me2
   is_in same own = next (Last s []) (checked_in sizes p (length (local_of me1).own + 1) tries s (spell image) seen again same (spell-applied sizes image rows p inside ∙ own ∙ sym own_is))
 
-  pub goes_in : again ≡ s → slice_index image.applied p ≢ length (local_of me).own + 1 → GoesBy me (words + 1) (Writing tries s image seen 0) me2
-  goes_in same other = subst (λ i. GoesBy me (words + 1) (Writing tries s i seen 0) me2) (read-spell sizes image rows)
-      (next (Writing tries s (read_image sizes (spell image)) seen 0) (checked_on sizes p (length (local_of me1).own + 1) tries s (spell image) seen again same (λ own. other (sym (spell-applied sizes image rows p inside) ∙ own ∙ own_is))))
+  pub goes_in : again ≡ s → slice_index image.applied p ≢ length (local_of me).own + 1 → GoesBy me (words + 1) (Writing tries s image seen) me2
+  goes_in same other = subst (λ i. GoesBy me (words + 1) (Writing tries s i seen) me2) (read-spell sizes image rows)
+      (next (Writing tries s (read_image sizes (spell image)) seen) (checked_on sizes p (length (local_of me1).own + 1) tries s (spell image) seen again same (λ own. other (sym (spell-applied sizes image rows p inside) ∙ own ∙ own_is))))
 
   pub good : again ≡ s → IsGood meaning sizes image
   good same = subst (IsGood meaning sizes) (read-spell sizes image rows) ((told (spell image) seen at).1 same)
 
--- the call was in already
-pub ends_in : {O : Type 0} (sizes : Sizes) (tries s words spare : ℕ) (me me1 : Me ℕ (View O)) → words ≤ attempt_steps sizes → buffer_in s < 2 * sizes.processes → (local_of me).spare ≡ spare → GoesBy me words (Last s []) me1
-    → AttemptEnds sizes tries me (Some s) spare me1
-ends_in sizes tries s words spare me me1 few named is first =
-    (words, few, named, first ∙ (λ k. (with_local me.0 (record (local_of me) { stage = Last s []; spare = is k; steps = (local_of me).steps + words }), me.1)))
+module _ {O : Type 0} (sizes : Sizes) (tries words : ℕ) (stage : Stage) (own : Buffers) (me me1 : Me ℕ (View O)) (first : GoesBy me words stage me1) (are : AreBuffers sizes (local_of me) own) where
+  -- the process's buffers stay
+  pub buffers_stay : AreBuffers sizes (local_of me1) own
+  buffers_stay = record {
+    spare = spare_after me me1 words stage first ∙ are.spare;
+    which = are.which;
+    held = held_after me me1 words stage first ∙ are.held;
+    long = are.long;
+  }
 
-module _ {O : Type 0} (sizes : Sizes) (tries words spare : ℕ) (few : words + (buffer_words sizes + 1) ≤ attempt_steps sizes) (stage : Stage) (me me1 me2 : Me ℕ (View O)) (first : GoesBy me words stage me1) (is : (local_of me).spare ≡ spare) where
-  add_assoc : (x y z : ℕ) → x + y + z ≡ x + (y + z)
-  add_assoc x y z = omega arith
+  -- the attempt has ended before anything was written
+  pub ends_here : (most : ℕ) (ended : Option ℕ) → words ≤ most → IsEnd sizes ended → stage ≡ end_of tries ended → EndsWithin sizes most tries me ended own me1
+  ends_here most ended few named is =
+      (words, few, named, first ∙ (λ k. (with_local me.0 (record (local_of me) { stage = is k; spare = are.spare k; held = are.held k; steps = (local_of me).steps + words }), me.1)))
 
-  pub ends_some : (ended : Option ℕ) → is_some ended ≡ true → BringEnds sizes tries me1 ended me2 → AttemptEnds sizes tries me ended (1 - spare) me2
-  ends_some None some h = absurd (let f : false ≡ true = some in cc)
-  ends_some (Some s) some h =
-      let b : ℕ = buffer_words sizes + 1 in
-      let count : (local_of me).steps + words + b ≡ (local_of me).steps + (words + b) = add_assoc (local_of me).steps words b in (
-        words + b,
-        few,
-        h.0,
-        left_more me me1 me2 (λ l. record l { stage = Last s []; spare = 1 - l.spare; steps = l.steps + (buffer_words sizes + 1) }) (went (local_of me) words stage) first h.1
-            ∙ (λ k. (with_local me.0 (record (local_of me) { stage = Last s []; spare = 1 - is k; steps = count k }), me.1)),
+  -- it ends later
+  pub ends_later : (me2 : Me ℕ (View O)) (later most : ℕ) (ended : Option ℕ) (own2 : Buffers) → EndsWithin sizes later tries me1 ended own2 me2 → words + later ≤ most → EndsWithin sizes most tries me ended own2 me2
+  ends_later me2 later most ended own2 h few =
+      let count : (local_of me).steps + words + h.0 ≡ (local_of me).steps + (words + h.0) = add_assoc (local_of me).steps words h.0 in (
+        words + h.0,
+        (let a = h.1 in omega arith),
+        h.2,
+        left_more me me1 me2 (λ l. record l { stage = end_of tries ended; spare = own2.spare; held = own2.held.items; steps = l.steps + h.0 }) (went (local_of me) words stage) first h.3
+            ∙ (λ k. (with_local me.0 (record (local_of me) { stage = end_of tries ended; spare = own2.spare; held = own2.held.items; steps = count k }), me.1)),
       )
 
-  pub ends_none : (ended : Option ℕ) → is_some ended ≡ false → BringEnds sizes tries me1 ended me2 → AttemptEnds sizes tries me ended spare me2
-  ends_none None none h = ((words + (buffer_words sizes + 1), few, goes_more me me1 words stage first me2 (buffer_words sizes + 1) (Ready (tries + 1)) h), is)
-  ends_none (Some s) none h = absurd (let f : true ≡ false = none in cc)
+-- the exchange by which an image is brought in, or isn't
+brought_missed : (l : Local) (tries s new found : ℕ) → found ≢ s → brought l tries s new found ≡ goes l (Ready (tries + 1))
+brought_missed l tries s new found apart = elim (number_cases found s) [ inl h ↦ absurd (apart h.0) | inr h ↦ rw h.1 refl ]
+
+brought_hit : (l : Local) (tries s new found : ℕ) → found ≡ s → brought l tries s new found ≡ brings l new
+brought_hit l tries s new found same = elim (number_cases found s) [ inl h ↦ rw h.1 refl | inr h ↦ absurd (h.0 same) ]
+
+module _ {O : Type 0} (sizes : Sizes) (most tries s new found : ℕ) (own : Buffers) (me me1 me2 : Me ℕ (View O)) (first : WritesWithin me most own.held.items me1) (spare_is : (local_of me).spare ≡ own.spare)
+    (next : IsLeft me1 (brought (local_of me1) tries s new found) me2) where
+  count : (local_of me).steps + first.0 + 1 ≡ (local_of me).steps + (first.0 + 1)
+  count = add_assoc (local_of me).steps first.0 1
+
+  pub bring_fails : found ≢ s → EndsWithin sizes (most + 1) tries me None own me2
+  bring_fails apart = (
+    first.0 + 1,
+    (let a = first.1 in omega arith),
+    tt,
+    next ∙ ap (λ l. (with_local me1.0 l, me1.1)) (brought_missed (local_of me1) tries s new found apart)
+        ∙ ap (λ (m : Me ℕ (View O)). (with_local m.0 (goes (local_of m) (Ready (tries + 1))), m.1)) first.2
+        ∙ (λ k. (with_local me.0 (record (local_of me) { stage = Ready (tries + 1); spare = spare_is k; held = own.held.items; steps = count k }), me.1)),
+  )
+
+  pub bring_hits : found ≡ s → buffer_in new < 2 * sizes.processes → EndsWithin sizes (most + 1) tries me (Some new) (record own { spare = 1 - own.spare }) me2
+  bring_hits same named = (
+    first.0 + 1,
+    (let a = first.1 in omega arith),
+    named,
+    next ∙ ap (λ l. (with_local me1.0 l, me1.1)) (brought_hit (local_of me1) tries s new found same)
+        ∙ ap (λ (m : Me ℕ (View O)). (with_local m.0 (brings (local_of m) new), m.1)) first.2
+        ∙ (λ k. (with_local me.0 (record (local_of me) { stage = Last new []; spare = 1 - spare_is k; held = own.held.items; steps = count k }), me.1)),
+  )
+
+-- what is known of the buffers when an attempt has ended
+pub buffers_at_end : {O : Type 0} (sizes : Sizes) (most tries : ℕ) (ended : Option ℕ) (own : Buffers) (me me1 : Me ℕ (View O)) → EndsWithin sizes most tries me ended own me1 → own.spare ≤ 1
+    → length own.held.items ≡ 2 * buffer_words sizes → AreBuffers sizes (local_of me1) own
+buffers_at_end sizes most tries ended own me me1 h either long = record {
+  spare = ap (λ (m : Me ℕ (View _)). (local_of m).spare) h.3;
+  which = either;
+  held = ap (λ (m : Me ℕ (View _)). (local_of m).held) h.3;
+  long = long;
+}
 
 -- the most steps of a call, added up
 steps_are : (sizes : Sizes) → call_steps sizes ≡ 2 * attempt_steps sizes + sizes.invocation + sizes.reply + 2
@@ -107,40 +149,44 @@ module _ {O : Type 0} (sizes : Sizes) (inv reply : List ℕ) (version : ℕ) (me
   abbrev HasEnded : (s : ℕ) → Me ℕ (View O) → Me ℕ (View O) → Type 0
   HasEnded s me3 me4 = ReplyEnds me3 s reply sizes.reply me4 × (version ≡ version_in s) × ((local_of me3).after < version_in s)
 
-  ends : (s words spare : ℕ) (me3 me4 : Me ℕ (View O)) → words + (sizes.invocation + sizes.reply + 1) ≤ call_steps sizes
-      → IsLeft me2 (record (local_of me2) { stage = Last s []; spare = spare; steps = (local_of me2).steps + words }) me3
-      → HasEnded s me3 me4 → CallEnds sizes me inv reply version spare me4
-  ends s words spare me3 me4 few there returned =
-      let a = left_more me me2 me3 (λ l. record l { stage = Last s []; spare = spare; steps = l.steps + words }) (announces (went (local_of me) sizes.invocation (Idle inv)) inv) begun there in
+  ends : (s words : ℕ) (own : Buffers) (me3 me4 : Me ℕ (View O)) → words + (sizes.invocation + sizes.reply + 1) ≤ call_steps sizes
+      → IsLeft me2 (record (local_of me2) { stage = Last s []; spare = own.spare; held = own.held.items; steps = (local_of me2).steps + words }) me3
+      → HasEnded s me3 me4 → CallEnds sizes me inv reply version own me4
+  ends s words own me3 me4 few there returned =
+      let a = left_more me me2 me3 (λ l. record l { stage = Last s []; spare = own.spare; held = own.held.items; steps = l.steps + words }) (announces (went (local_of me) sizes.invocation (Idle inv)) inv) begun there in
       let b = left_more me me3 me4 (λ l. record (returns l s reply) { steps = l.steps + sizes.reply })
-      (record (announces (went (local_of me) sizes.invocation (Idle inv)) inv) { stage = Last s []; spare = spare; steps = (local_of me).steps + sizes.invocation + 1 + words }) a returned.0 in
+      (record (announces (went (local_of me) sizes.invocation (Idle inv)) inv) { stage = Last s []; spare = own.spare; held = own.held.items; steps = (local_of me).steps + sizes.invocation + 1 + words }) a returned.0 in
       let count : (local_of me).steps + sizes.invocation + 1 + words + sizes.reply ≡ (local_of me).steps + (words + (sizes.invocation + sizes.reply + 1)) = omega (arith) in
       let same : (local_of me3).after ≡ (local_of me).after = ap (λ (m : Me ℕ (View O)). (local_of m).after) a in
-      subst (λ v. CallEnds sizes me inv reply v spare me4) (sym returned.1) (
+      subst (λ v. CallEnds sizes me inv reply v own me4) (sym returned.1) (
         words + (sizes.invocation + sizes.reply + 1),
         few,
         subst (λ v. v < version_in s) same returned.2,
-        b ∙ (λ k. (with_local me.0 (record (returns (record (local_of me) { inv = inv; spare = spare }) s reply) { steps = count k }), me.1)),
+        b ∙ (λ k. (with_local me.0 (record (returns (record (local_of me) { inv = inv; spare = own.spare; held = own.held.items }) s reply) { steps = count k }), me.1)),
       )
 
   -- the first attempt ends it
-  pub ends_first : (s spare : ℕ) (me3 me4 : Me ℕ (View O)) → AttemptEnds sizes 0 me2 (Some s) spare me3 → HasEnded s me3 me4 → CallEnds sizes me inv reply version spare me4
-  ends_first s spare me3 me4 h returned = ends s h.0 spare me3 me4 (let f = h.1 in let e = steps_are sizes in omega arith) h.3 returned
+  pub ends_first : (s : ℕ) (own : Buffers) (me3 me4 : Me ℕ (View O)) → EndsWithin sizes (attempt_steps sizes) 0 me2 (Some s) own me3 → HasEnded s me3 me4 → CallEnds sizes me inv reply version own me4
+  ends_first s own me3 me4 h returned = ends s h.0 own me3 me4 (let f = h.1 in let e = steps_are sizes in omega arith) h.3 returned
 
   -- the second one does
-  pub ends_second : (s spare0 spare : ℕ) (me3 me4 me5 : Me ℕ (View O)) → AttemptEnds sizes 0 me2 None spare0 me3 → AttemptEnds sizes 1 me3 (Some s) spare me4 → HasEnded s me4 me5 → CallEnds sizes me inv reply version spare me5
-  ends_second s spare0 spare me3 me4 me5 failed h returned =
-      let a = left_more me2 me3 me4 (λ l. record l { stage = Last s []; spare = spare; steps = l.steps + h.0 }) (went (local_of me2) failed.0.0 (Ready 1)) failed.0.2 h.3 in
-      let count : (local_of me2).steps + failed.0.0 + h.0 ≡ (local_of me2).steps + (failed.0.0 + h.0) = omega (arith) in
-      ends s (failed.0.0 + h.0) spare me4 me5 (let f = h.1 in let e = failed.0.1 in let q = steps_are sizes in omega arith)
-      (a ∙ (λ k. (with_local me2.0 (record (local_of me2) { stage = Last s []; spare = spare; steps = count k }), me2.1))) returned
+  pub ends_second : (s : ℕ) (own0 own : Buffers) (me3 me4 me5 : Me ℕ (View O)) → EndsWithin sizes (attempt_steps sizes) 0 me2 None own0 me3 → EndsWithin sizes (attempt_steps sizes) 1 me3 (Some s) own me4 → HasEnded s me4 me5
+      → CallEnds sizes me inv reply version own me5
+  ends_second s own0 own me3 me4 me5 failed h returned =
+      let a = left_more me2 me3 me4 (λ l. record l { stage = Last s []; spare = own.spare; held = own.held.items; steps = l.steps + h.0 })
+      (record (local_of me2) { stage = Ready 1; spare = own0.spare; held = own0.held.items; steps = (local_of me2).steps + failed.0 }) failed.3 h.3 in
+      let count : (local_of me2).steps + failed.0 + h.0 ≡ (local_of me2).steps + (failed.0 + h.0) = omega (arith) in
+      ends s (failed.0 + h.0) own me4 me5 (let f = h.1 in let e = failed.1 in let q = steps_are sizes in omega arith)
+      (a ∙ (λ k. (with_local me2.0 (record (local_of me2) { stage = Last s []; spare = own.spare; held = own.held.items; steps = count k }), me2.1))) returned
 
   -- both have failed
-  pub ends_last : (s spare0 spare : ℕ) (me3 me4 me5 me6 : Me ℕ (View O)) → AttemptEnds sizes 0 me2 None spare0 me3 → AttemptEnds sizes 1 me3 None spare me4 → Goes me4 (Last s []) me5 → HasEnded s me5 me6
-      → CallEnds sizes me inv reply version spare me6
-  ends_last s spare0 spare me3 me4 me5 me6 failed again turned returned =
-      let a = goes_more me2 me3 failed.0.0 (Ready 1) failed.0.2 me4 again.0.0 (Ready 2) again.0.2 in
-      let b = goes_on me2 me4 (failed.0.0 + again.0.0) (Ready 2) a me5 (Last s []) turned in
-      let spare_is : (local_of me2).spare ≡ spare = sym (ap (λ (m : Me ℕ (View O)). (local_of m).spare) failed.0.2) ∙ again.1 in
-      ends s (failed.0.0 + again.0.0 + 1) spare me5 me6 (let f = failed.0.1 in let e = again.0.1 in let q = steps_are sizes in omega arith)
-      (b ∙ (λ k. (with_local me2.0 (record (local_of me2) { stage = Last s []; spare = spare_is k; steps = (local_of me2).steps + (failed.0.0 + again.0.0 + 1) }), me2.1))) returned
+  pub ends_last : (s : ℕ) (own0 own : Buffers) (me3 me4 me5 me6 : Me ℕ (View O)) → EndsWithin sizes (attempt_steps sizes) 0 me2 None own0 me3 → EndsWithin sizes (attempt_steps sizes) 1 me3 None own me4
+      → Goes me4 (Last s []) me5 → HasEnded s me5 me6 → CallEnds sizes me inv reply version own me6
+  ends_last s own0 own me3 me4 me5 me6 failed again turned returned =
+      let a = left_more me2 me3 me4 (λ l. record l { stage = Ready 2; spare = own.spare; held = own.held.items; steps = l.steps + again.0 })
+      (record (local_of me2) { stage = Ready 1; spare = own0.spare; held = own0.held.items; steps = (local_of me2).steps + failed.0 }) failed.3 again.3 in
+      let b = left_more me2 me4 me5 (λ l. goes l (Last s []))
+      (record (local_of me2) { stage = Ready 2; spare = own.spare; held = own.held.items; steps = (local_of me2).steps + failed.0 + again.0 }) a turned in
+      let count : (local_of me2).steps + failed.0 + again.0 + 1 ≡ (local_of me2).steps + (failed.0 + again.0 + 1) = omega (arith) in
+      ends s (failed.0 + again.0 + 1) own me5 me6 (let f = failed.1 in let e = again.1 in let q = steps_are sizes in omega arith)
+      (b ∙ (λ k. (with_local me2.0 (record (local_of me2) { stage = Last s []; spare = own.spare; held = own.held.items; steps = count k }), me2.1))) returned

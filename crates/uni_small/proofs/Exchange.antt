@@ -8,7 +8,7 @@ use Rattle.atomic_table.specs.Table.{Me, Step}
 use Rattle.atomic_table.proofs.Lists.{exchanged}
 use Rattle.seq_object.specs.Sequential.{Sequential}
 use Rattle.seq_object.specs.History.{response_at, state_after}
-use Rattle.uni_model.specs.AtomicObject.{Act, Invoked, at_start, set_at}
+use Rattle.uni_model.specs.AtomicObject.{Invoked, at_start, set_at}
 use Rattle.uni_model.specs.AtomicObject.Act.{Linearize}
 use Rattle.uni_model.proofs.Written.{set_at-cases, number_cases, lt_cases}
 use Rattle.uni_model.proofs.Simulation.{set_at_same}
@@ -16,11 +16,11 @@ use Rattle.uni_model.proofs.LawProofs.{set_at_elsewhere, AcceptsAll-append}
 use Rattle.uni_model.proofs.Appended.{slice_get-append_left, slice_get-append_right, response_at-append}
 use Rattle.uni_model.specs.ProcessCalls.{acts_by}
 use Rattle.uni_small.specs.declared.sizes.Sizes.{Sizes}
-use Rattle.uni_small.specs.Image.{Meaning, AreWhole, HasRows, Image, IsSteady, buffer_words, calls_seen, due_at, first_image, image_from, reply_of, reply_place, with_seen}
+use Rattle.uni_small.specs.Image.{Meaning, AreWhole, HasRows, Image, IsSteady, buffer_words, calls_seen, due_at, first_image, image_from, reply_of, reply_place, spell, with_seen}
 use Rattle.uni_small.specs.View.{Local, Returned, Stage, goes, brings}
 use Rattle.uni_small.specs.View.Stage.{Idle, Last, Reading, Ready, Writing}
 use Rattle.uni_small.specs.Board.{Board, in_of, current_word, buffer_in, version_in}
-use Rattle.uni_small.specs.Invariant.{IsBoard, IsSound, IsCallAt, IsAttemptAt, IsClosed, IsOpen, HasTaken, HasSeen, AreIn, IsWritten}
+use Rattle.uni_small.specs.Invariant.{IsBoard, IsSound, IsCallAt, IsAttemptAt, IsClosed, IsOpen, HasTaken, HasSeen, AreIn, MayBeWritten}
 use Rattle.uni_small.specs.Order.{StandsIn, IsOrdered}
 use Rattle.uni_small.specs.Shown.{AreWords}
 use Rattle.uni_small.specs.Laws.{Moves, takes_effect}
@@ -49,7 +49,8 @@ response_stays object s (i ∷ is) js (suc place) r e = response_stays object (o
 module _ (object : Sequential (List ℕ) (List ℕ) (List ℕ)) (sizes : Sizes) (steady : IsSteady object sizes.reply) (few : sizes.processes ≤ 64)
     (g : Board) (local : ℕ → Local) (sound : IsSound object sizes g local) (seen : List (Option (List ℕ))) (long : length seen ≡ sizes.processes) (full : AreWhole sizes seen)
     (p : ℕ) (p_inside : p < sizes.processes) (known : HasSeen g p seen) (not_in : in_of g p < g.announced p)
-    (b : ℕ) (b_inside : b < 2 * sizes.processes) (written : IsWritten object sizes g b (with_seen object g.image 0 seen) (buffer_words sizes)) where
+    (b : ℕ) (b_inside : b < 2 * sizes.processes) (written : MayBeWritten object sizes g b (with_seen object g.image 0 seen))
+    (exactly : (i : ℕ) → i < buffer_words sizes → g.buffer b i ≡ slice_index (spell (with_seen object g.image 0 seen)) i) where
   abbrev image' : Image
   image' = with_seen object g.image 0 seen
 
@@ -175,7 +176,7 @@ module _ (object : Sequential (List ℕ) (List ℕ) (List ℕ)) (sizes : Sizes) 
   call_stays q l (Idle stored) inside h = (closed_stays q l.own inside h.0, h.1)
   call_stays q l (Ready t) inside h = open_stays q l.inv l.own inside h
   call_stays q l (Reading t s copy seen) inside h = open_stays q l.inv l.own inside h
-  call_stays q l (Writing t s image seen k) inside h = open_stays q l.inv l.own inside h
+  call_stays q l (Writing t s image seen) inside h = open_stays q l.inv l.own inside h
   call_stays q l (Last s loaded) inside h = open_stays q l.inv l.own inside h
 
   -- the marks of another buffer stay, and those of this one don't fall
@@ -191,10 +192,9 @@ module _ (object : Sequential (List ℕ) (List ℕ) (List ℕ)) (sizes : Sizes) 
   too_old : (s : ℕ) → (128 * g.version ≤ s → (s ≡ current_word g.version g.current)) → 128 * (g.version + 1) ≤ s → ⊥
   too_old s was_fresh fresh = let e = was_fresh (omega arith) in let c = was.current in omega arith
 
-  written_stays : (q d k : ℕ) (image : Image) → d ≢ b → IsWritten object sizes g d image k → IsWritten object sizes brought_board d image k
-  written_stays q d k image apart h = record {
+  written_stays : (q d : ℕ) (image : Image) → d ≢ b → MayBeWritten object sizes g d image → MayBeWritten object sizes brought_board d image
+  written_stays q d image apart h = record {
     rows = h.rows;
-    words = h.words;
     replies = λ r inside least.
         let held : g.announced r ≤ g.mark d r = subst (λ f. g.announced r ≤ f r) (set_at_elsewhere g.mark b (λ r. slice_index image'.applied r) d apart) least in
         h.replies r inside held ∙ sym (same_reply r (let m = was.marked d r inside in omega arith));
@@ -275,7 +275,7 @@ module _ (object : Sequential (List ℕ) (List ℕ) (List ℕ)) (sizes : Sizes) 
   attempt_stays q d (Idle stored) inside apart h = h
   attempt_stays q d (Ready t) inside apart h = omega arith
   attempt_stays q d (Reading t s copy seen) inside apart h = (h.0, λ fresh. absurd (too_old s (λ f. (h.1 f).0) fresh))
-  attempt_stays q d (Writing t s image seen k) inside apart h = (h.0, (λ fresh. absurd (too_old s (λ f. (h.1 f).0) fresh)), written_stays q d k (with_seen object image 0 seen) apart h.2)
+  attempt_stays q d (Writing t s image seen) inside apart h = (h.0, (λ fresh. absurd (too_old s (λ f. (h.1 f).0) fresh)), written_stays q d (with_seen object image 0 seen) apart h.2)
   attempt_stays q d (Last s loaded) inside apart h = (
     h.0,
     (let m = mark_least (buffer_in s) q inside in let a = h.1 in omega arith),
@@ -288,14 +288,14 @@ module _ (object : Sequential (List ℕ) (List ℕ) (List ℕ)) (sizes : Sizes) 
     current = b_inside;
     image = image_from-append object (first_image object sizes) g.atomic.agreed calls ∙ ap (λ i. image_from object i calls) was.image ∙ sym (with_seen-calls object g.image g.image.applied 0 seen);
     rows = rows';
-    exact = λ i below. written.words i below;
+    exact = exactly;
     marked = λ d r inside. elim (set_at-cases g.mark b (λ r. slice_index image'.applied r) d) [
       | inl here ↦ (let now : brought_board.mark d r ≡ slice_index image'.applied r = ap (λ f. f r) here.1 in omega arith)
       | inr other ↦ (let same : brought_board.mark d r ≡ g.mark d r = ap (λ f. f r) other.1 in let m = was.marked d r inside in let i = in_later r inside in omega arith)
     ];
     at_current = λ r inside. (let now : brought_board.mark b r ≡ slice_index image'.applied r = ap (λ f. f r) (set_at_same g.mark b (λ r. slice_index image'.applied r)) in omega arith);
     kept = λ d r k inside below room least. elim (set_at-cases g.mark b (λ r. slice_index image'.applied r) d) [
-      | inl here ↦ ap (λ e. g.buffer e (reply_place sizes r k)) here.0 ∙ written.words (reply_place sizes r k) (let h = later r sizes.processes sizes.reply below in omega arith) ∙ spell-reply sizes image' rows' r k below room
+      | inl here ↦ ap (λ e. g.buffer e (reply_place sizes r k)) here.0 ∙ exactly (reply_place sizes r k) (let h = later r sizes.processes sizes.reply below in omega arith) ∙ spell-reply sizes image' rows' r k below room
       | inr other ↦
           let held : g.announced r ≤ g.mark d r = subst (λ f. g.announced r ≤ f r) other.1 least in
           was.kept d r k inside below room held ∙ ap (λ ws. slice_index ws k) (sym (same_reply r (let m = was.marked d r below in omega arith)))
@@ -350,7 +350,7 @@ module _ (object : Sequential (List ℕ) (List ℕ) (List ℕ)) (sizes : Sizes) 
     open_at r inv inside due argument l (Idle stored) h = absurd (let a = h.0.announced in let i = h.0.in_is in omega arith)
     open_at r inv inside due argument l (Ready t) h = of_open r inv l due argument h
     open_at r inv inside due argument l (Reading t s copy seen) h = of_open r inv l due argument h
-    open_at r inv inside due argument l (Writing t s image seen k) h = of_open r inv l due argument h
+    open_at r inv inside due argument l (Writing t s image seen) h = of_open r inv l due argument h
     open_at r inv inside due argument l (Last s loaded) h = of_open r inv l due argument h
 
     opened : (j : ℕ) (inv : List ℕ) → slice_get seen j ≡ Some (Some inv) → g.atomic.open_call (0 + j) ≡ Some (record { process = 0 + j; nth = slice_index g.image.applied (0 + j); inv = inv })
@@ -372,21 +372,21 @@ module _ {O : Type 0} (meaning : O → Meaning) (o : O) (sizes : Sizes) (id : �
   abbrev l : Local
   l = me.0.known.local
 
-  module _ (tries s : ℕ) (has : HasWrittenAll sizes tries s me) (new_is : st.second ≡ current_word (version_in s + 1) (2 * p + l.spare)) where
+  module _ (tries s : ℕ) (has : HasWrittenAll object sizes tries s me) (new_is : st.second ≡ current_word (version_in s + 1) (2 * p + l.spare)) where
     abbrev image : Image
     image = has.0
 
     abbrev seen : List (Option (List ℕ))
     seen = has.1.0
 
-    stage : l.stage ≡ Writing tries s image seen (buffer_words sizes)
+    stage : l.stage ≡ Writing tries s image seen
     stage = has.1.1
 
     -- what the seat is told is by what was found
     told : (found : ℕ) (l' : Local) (test : Bool) → (found == s) ≡ test → (if test then brings l st.second else goes l (Ready (tries + 1))) ≡ l'
         → HasBrought st me found (with_local me.0 l', me.1)
-    told found l' test is same tries' s' image' seen' k' stage' =
-        let e : Writing tries s image seen (buffer_words sizes) ≡ Writing tries' s' image' seen' k' = sym stage ∙ stage' in
+    told found l' test is same tries' s' image' seen' stage' =
+        let e : Writing tries s image seen ≡ Writing tries' s' image' seen' = sym stage ∙ stage' in
         let a : tries ≡ tries' = cc in let c : s ≡ s' = cc in
         let here : brought l tries s st.second found ≡ l' = rw is same in
         ap (λ (x : Local). (with_local me.0 x, me.1)) (sym here ∙ (λ k. brought l (a k) (c k) st.second found))
@@ -396,10 +396,10 @@ module _ {O : Type 0} (meaning : O → Meaning) (o : O) (sizes : Sizes) (id : �
       steadily = subst (IsSteady object) f.widths.1 steady
 
       call : IsOpen object g p l.inv l.own
-      call = call_at object sizes g p l (Writing tries s image seen (buffer_words sizes)) f.mine stage
+      call = call_at object sizes g p l (Writing tries s image seen) f.mine stage
 
-      at_it : IsAttemptAt object sizes g p (2 * p + l.spare) (Writing tries s image seen (buffer_words sizes))
-      at_it = attempt_at object sizes g p l (Writing tries s image seen (buffer_words sizes)) f.mine stage
+      at_it : IsAttemptAt object sizes g p (2 * p + l.spare) (Writing tries s image seen)
+      at_it = attempt_at object sizes g p l (Writing tries s image seen) f.mine stage
 
       -- S has changed
       miss : slice_index words 0 ≢ s → Given meaning o sizes me g local (slice_set words 0 (slice_index words 0)) (takes_effect s seen g (slice_index words 0)) (HasBrought st me (slice_index words 0))
@@ -409,6 +409,7 @@ module _ {O : Type 0} (meaning : O → Meaning) (o : O) (sizes : Sizes) (id : �
         sound = sound_same object sizes g local p (goes l (Ready (tries + 1))) f.sound (record {
           spare = f.mine.spare;
           apart = f.mine.apart;
+          held = f.mine.held;
           call = call;
           attempt = elim (lt_cases s (128 * g.version)) [
             | inl old ↦ (let a = at_it.0 in let b = old.0 in omega arith)
@@ -433,38 +434,42 @@ module _ {O : Type 0} (meaning : O → Meaning) (o : O) (sizes : Sizes) (id : �
           let version : version_in s ≡ g.version = ap version_in is ∙ version_of g.version g.current small in
           let b_inside : 2 * p + l.spare < 2 * sizes.processes = (let i = f.inside in let c = f.mine.spare in omega arith) in
           let b_small : 2 * p + l.spare < 128 = omega arith in
-          let written : IsWritten object sizes g (2 * p + l.spare) (with_seen object g.image 0 seen) (buffer_words sizes) = subst (λ i. IsWritten object sizes g (2 * p + l.spare) (with_seen object i 0 seen) (buffer_words sizes)) now.1.0 at_it.2 in
-          let g' : Board = brought_board object sizes steadily few g local f.sound seen now.1.1 now.1.4 p f.inside now.1.2 now.1.3 (2 * p + l.spare) b_inside written in
+          let written : MayBeWritten object sizes g (2 * p + l.spare) (with_seen object g.image 0 seen) = subst (λ i. MayBeWritten object sizes g (2 * p + l.spare) (with_seen object i 0 seen)) now.1.0 at_it.2 in
+          let exactly : (i : ℕ) → i < buffer_words sizes → g.buffer (2 * p + l.spare) i ≡ slice_index (spell (with_seen object g.image 0 seen)) i
+          = (λ i below. f.mine.held.words l.spare i f.mine.spare below ∙ has.1.2 i below ∙ ap (λ m. slice_index (spell (with_seen object m 0 seen)) i) now.1.0) in
+          let g' : Board = brought_board object sizes steadily few g local f.sound seen now.1.1 now.1.4 p f.inside now.1.2 now.1.3 (2 * p + l.spare) b_inside written exactly in
           let word : st.second ≡ current_word (g.version + 1) (2 * p + l.spare) = new_is ∙ ap (λ v. current_word (v + 1) (2 * p + l.spare)) version in
           let named : buffer_in st.second ≡ 2 * p + l.spare = ap buffer_in word ∙ buffer_of (g.version + 1) (2 * p + l.spare) b_small in
           record {
             board = g';
             local' = brings l st.second;
             sound = sound_with object sizes g g' local p (brings l st.second) f.sound
-                (board' object sizes steadily few g local f.sound seen now.1.1 now.1.4 p f.inside now.1.2 now.1.3 (2 * p + l.spare) b_inside written)
+                (board' object sizes steadily few g local f.sound seen now.1.1 now.1.4 p f.inside now.1.2 now.1.3 (2 * p + l.spare) b_inside written exactly)
                 (λ q inside apart h.
                 let other : 2 * q + (local q).spare ≢ 2 * p + l.spare = (λ e. apart (let a = h.spare in let c = f.mine.spare in omega arith)) in
                 record {
                   spare = h.spare;
                   apart = other;
-                  call = call_stays object sizes steadily few g local f.sound seen now.1.1 now.1.4 p f.inside now.1.2 now.1.3 (2 * p + l.spare) b_inside written q (local q) (local q).stage inside h.call;
-                  attempt = attempt_stays object sizes steadily few g local f.sound seen now.1.1 now.1.4 p f.inside now.1.2 now.1.3 (2 * p + l.spare) b_inside written q (2 * q + (local q).spare) (local q).stage inside other h.attempt;
-                  ordered = ordered_stays object sizes steadily few g local f.sound seen now.1.1 now.1.4 p f.inside now.1.2 now.1.3 (2 * p + l.spare) b_inside written q (local q).after (local q).own h.ordered;
+                  held = record { long = h.held.long; words = h.held.words };
+                  call = call_stays object sizes steadily few g local f.sound seen now.1.1 now.1.4 p f.inside now.1.2 now.1.3 (2 * p + l.spare) b_inside written exactly q (local q) (local q).stage inside h.call;
+                  attempt = attempt_stays object sizes steadily few g local f.sound seen now.1.1 now.1.4 p f.inside now.1.2 now.1.3 (2 * p + l.spare) b_inside written exactly q (2 * q + (local q).spare) (local q).stage inside other h.attempt;
+                  ordered = ordered_stays object sizes steadily few g local f.sound seen now.1.1 now.1.4 p f.inside now.1.2 now.1.3 (2 * p + l.spare) b_inside written exactly q (local q).after (local q).own h.ordered;
                 })
                 (record {
                   spare = omega arith;
                   apart = (λ e. let c = f.mine.spare in omega arith);
-                  call = call_stays object sizes steadily few g local f.sound seen now.1.1 now.1.4 p f.inside now.1.2 now.1.3 (2 * p + l.spare) b_inside written p l (Ready 0) f.inside call;
+                  held = record { long = f.mine.held.long; words = f.mine.held.words };
+                  call = call_stays object sizes steadily few g local f.sound seen now.1.1 now.1.4 p f.inside now.1.2 now.1.3 (2 * p + l.spare) b_inside written exactly p l (Ready 0) f.inside call;
                   attempt = (
                     subst (λ b. b < 2 * sizes.processes) (sym named) b_inside,
                     subst (λ b. g.announced p ≤ g'.mark b p) (sym named) (
                         let marked : g'.mark (2 * p + l.spare) p ≡ slice_index (with_seen object g.image 0 seen).applied p = ap (λ f. f p) (set_at_same g.mark (2 * p + l.spare) _) in
-                        let later = in_later object sizes steadily few g local f.sound seen now.1.1 now.1.4 p f.inside now.1.2 now.1.3 (2 * p + l.spare) b_inside written p f.inside in
+                        let later = in_later object sizes steadily few g local f.sound seen now.1.1 now.1.4 p f.inside now.1.2 now.1.3 (2 * p + l.spare) b_inside written exactly p f.inside in
                         let caught = now.1.2.caught p (let w = now.1.1 in let i = f.inside in omega arith) (inl refl) in omega arith),
-                    all_now object sizes steadily few g local f.sound seen now.1.1 now.1.4 p f.inside now.1.2 now.1.3 (2 * p + l.spare) b_inside written p (version_in st.second) (ap version_in word ∙ version_of (g.version + 1) (2 * p + l.spare) b_small),
+                    all_now object sizes steadily few g local f.sound seen now.1.1 now.1.4 p f.inside now.1.2 now.1.3 (2 * p + l.spare) b_inside written exactly p (version_in st.second) (ap version_in word ∙ version_of (g.version + 1) (2 * p + l.spare) b_small),
                     refl,
                   );
-                  ordered = ordered_stays object sizes steadily few g local f.sound seen now.1.1 now.1.4 p f.inside now.1.2 now.1.3 (2 * p + l.spare) b_inside written p l.after l.own f.mine.ordered;
+                  ordered = ordered_stays object sizes steadily few g local f.sound seen now.1.1 now.1.4 p f.inside now.1.2 now.1.3 (2 * p + l.spare) b_inside written exactly p l.after l.own f.mine.ordered;
                 });
             words_are = words_current sizes g g' words f.words_are refl refl refl st.second word;
             said = elim (number_cases (slice_index words 0) s) [

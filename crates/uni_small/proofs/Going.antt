@@ -1,17 +1,19 @@
 -- Seats that go on with a call.
-use Rattle.std.proofs.Common.{◌≡◌, ◌≢◌, ◌∙◌, ℕ, ◌+◌, inl, inr, refl, sym, ap, subst, List, [], ◌∷◌, ◌++◌, length, slice_index, Option, Some, None, arith}
+use Rattle.std.proofs.Common.{◌≡◌, ◌≢◌, ◌∙◌, ℕ, ◌+◌, inl, inr, refl, sym, ap, subst, List, [], ◌∷◌, ◌++◌, ◌≤◌, length, slice_index, slice_set, Option, Some, None, arith}
 use Rattle.atomic_table.specs.Table.{Me}
 use Rattle.seq_object.specs.Sequential.{Sequential}
 use Rattle.uni_model.proofs.Written.{number_cases}
 use Rattle.uni_small.specs.declared.sizes.Sizes.{Sizes}
 use Rattle.uni_small.specs.Image.{Image, with_seen}
-use Rattle.uni_small.specs.View.{Stage, goes}
-use Rattle.uni_small.specs.View.Stage.{Reading, Writing}
-use Rattle.uni_small.specs.Plays.{Goes, looked, stage_of, with_local}
-use Rattle.uni_small.specs.Standing.{IsOf, GoesBy, local_of, went}
+use Rattle.uni_small.specs.View.{Stage, goes, wrote}
+use Rattle.uni_small.specs.View.Stage.{Reading}
+use Rattle.uni_small.specs.Plays.{Goes, IsLeft, looked, stage_of, with_local}
+use Rattle.uni_small.specs.Standing.{IsOf, GoesBy, WritesWithin, local_of, went}
+use Rattle.uni_small.specs.Belongs.{AreBuffers}
+use Rattle.uni_small.specs.declared.seat.Buffers.{Buffers}
 use Rattle.uni_small.specs.declared.view.View.{View}
 
-add_assoc : (x y z : ℕ) → x + y + z ≡ x + (y + z)
+pub add_assoc : (x y z : ℕ) → x + y + z ≡ x + (y + z)
 add_assoc x y z = omega arith
 
 module _ {O : Type 0} (me : Me ℕ (View O)) where
@@ -29,6 +31,9 @@ module _ {O : Type 0} (me : Me ℕ (View O)) where
 
     pub spare_after : (local_of me1).spare ≡ (local_of me).spare
     spare_after = ap (λ (m : Me ℕ (View O)). (local_of m).spare) first
+
+    pub held_after : (local_of me1).held ≡ (local_of me).held
+    held_after = ap (λ (m : Me ℕ (View O)). (local_of m).held) first
 
     pub of_after : {o : O} {sizes : Sizes} {p : ℕ} → IsOf o sizes p me → IsOf o sizes p me1
     of_after {o} {sizes} {p} of = subst (λ (m : Me ℕ (View O)). IsOf o sizes p m) (sym first) (record { object = of.object; sizes = of.sizes; first = of.first; alone = of.alone })
@@ -66,13 +71,48 @@ module _ {O : Type 0} (me me1 me2 : Me ℕ (View O)) (a tries s : ℕ) where
       → GoesBy me (a + length row) (Reading tries s (copy ++ row) []) me2
   copied_more copy row first next = goes_more me me1 a (Reading tries s copy []) first me2 (length row) (Reading tries s (copy ++ row) []) (next copy (stage_after me me1 a (Reading tries s copy []) first))
 
-  -- one more row is written
-  pub wrote_more : (image : Image) (seen : List (Option (List ℕ))) (k : ℕ) (row : List ℕ) → GoesBy me a (Writing tries s image seen k) me1
-      → ((image : Image) (seen : List (Option (List ℕ))) → stage_of me1 ≡ Writing tries s image seen k → GoesBy me1 (length row) (Writing tries s image seen (k + length row)) me2)
-      → GoesBy me (a + length row) (Writing tries s image seen (k + length row)) me2
-  wrote_more image seen k row first next = goes_more me me1 a (Writing tries s image seen k) first me2 (length row) (Writing tries s image seen (k + length row)) (next image seen (stage_after me me1 a (Writing tries s image seen k) first))
+-- a seat that has stored nothing, and one that knows its buffers' words by another name
+pub writes_nothing : {O : Type 0} (me : Me ℕ (View O)) (held : List ℕ) → (local_of me).held ≡ held → WritesWithin me 0 held me
+writes_nothing me held is =
+    let same : (local_of me).steps ≡ (local_of me).steps + 0 = omega arith in
+    (0, (let z : 0 ≤ 0 = omega arith in z), λ k. (with_local me.0 (record (local_of me) { held = is k; steps = same k }), me.1))
 
--- so many word steps and words written, by other names
-pub renamed : {O : Type 0} (me me1 : Me ℕ (View O)) (tries s : ℕ) (image : Image) (seen : List (Option (List ℕ))) (a b k j : ℕ) → a ≡ b → k ≡ j → GoesBy me a (Writing tries s image seen k) me1 → GoesBy me b (Writing tries s image seen j) me1
-renamed me me1 tries s image seen a b k j e f first =
-    subst (λ x. GoesBy me x (Writing tries s image seen j) me1) e (subst (λ x. GoesBy me a (Writing tries s image seen x) me1) f first)
+-- a seat that has stored words of its spare buffer
+module _ {O : Type 0} (me me1 : Me ℕ (View O)) (most : ℕ) (held : List ℕ) (first : WritesWithin me most held me1) where
+  pub writes_stage : stage_of me1 ≡ stage_of me
+  writes_stage = ap (λ (m : Me ℕ (View O)). stage_of m) first.2
+
+  pub writes_of : {o : O} {sizes : Sizes} {p : ℕ} → IsOf o sizes p me → IsOf o sizes p me1
+  writes_of {o} {sizes} {p} of = subst (λ (m : Me ℕ (View O)). IsOf o sizes p m) (sym first.2) (record { object = of.object; sizes = of.sizes; first = of.first; alone = of.alone })
+
+  -- its buffers are as known, where it knew them
+  pub writes_buffers : (sizes : Sizes) (own own1 : Buffers) → AreBuffers sizes (local_of me) own → own1.spare ≡ own.spare → own1.held.items ≡ held → length held ≡ length own.held.items → AreBuffers sizes (local_of me1) own1
+  writes_buffers sizes own own1 are same is long = record {
+    spare = ap (λ (m : Me ℕ (View O)). (local_of m).spare) first.2 ∙ are.spare ∙ sym same;
+    which = (let w = are.which in omega arith);
+    held = ap (λ (m : Me ℕ (View O)). (local_of m).held) first.2 ∙ sym is;
+    long = ap (λ (l : List ℕ). length l) is ∙ long ∙ are.long;
+  }
+
+  -- and stores one more, or none
+  pub writes_one : (me2 : Me ℕ (View O)) (place x : ℕ) → IsLeft me1 (wrote (local_of me1) place x) me2 → WritesWithin me (most + 1) (slice_set held place x) me2
+  writes_one me2 place x next =
+      let count : (local_of me).steps + first.0 + 1 ≡ (local_of me).steps + (first.0 + 1) = add_assoc (local_of me).steps first.0 1 in (
+        first.0 + 1,
+        (let a = first.1 in omega arith),
+        next ∙ ap (λ (m : Me ℕ (View O)). (with_local m.0 (wrote (local_of m) place x), m.1)) first.2
+            ∙ (λ k. (with_local me.0 (record (local_of me) { held = slice_set held place x; steps = count k }), me.1)),
+      )
+
+  pub writes_none : WritesWithin me (most + 1) held me1
+  writes_none = (first.0, (let a = first.1 in omega arith), first.2)
+
+  -- and stores more
+  pub writes_more : (me2 : Me ℕ (View O)) (more : ℕ) (held2 : List ℕ) → WritesWithin me1 more held2 me2 → WritesWithin me (most + more) held2 me2
+  writes_more me2 more held2 next =
+      let count : (local_of me).steps + first.0 + next.0 ≡ (local_of me).steps + (first.0 + next.0) = add_assoc (local_of me).steps first.0 next.0 in (
+        first.0 + next.0,
+        (let a = first.1 in let b = next.1 in omega arith),
+        next.2 ∙ ap (λ (m : Me ℕ (View O)). (with_local m.0 (record (local_of m) { held = held2; steps = (local_of m).steps + next.0 }), m.1)) first.2
+            ∙ (λ k. (with_local me.0 (record (local_of me) { held = held2; steps = count k }), me.1)),
+      )

@@ -1,11 +1,10 @@
 -- A seat takes in another one, of one process with no call pending.
-use Rattle.std.proofs.Common.{◌≡◌, ◌≢◌, ◌∙◌, ℕ, zero, suc, ◌≤◌, inl, inr, refl, sym, ap, subst, List, [], ◌∷◌, Contains, if◌then◌else◌, nat_eq, arith, set}
+use Rattle.std.proofs.Common.{◌≡◌, ◌≢◌, ◌∙◌, ℕ, zero, suc, ◌≤◌, inl, inr, refl, sym, ap, subst, [], ◌∷◌, Contains, if◌then◌else◌, nat_eq, arith, set}
 use Rattle.std.proofs.lemmas.List.Elements.{Contains-append_cases}
 use mathlib.Core.Option.{some}
 use lib.ListN.{get_elem?}
 use Rattle.atomic_table.specs.Table.{Joins}
 use Rattle.atomic_table.proofs.Lists.{at_set, set_else}
-use Rattle.seq_object.specs.Sequential.{Sequential}
 use Rattle.uni_model.proofs.Written.{number_cases}
 use Rattle.uni_small.specs.Image.{Meaning}
 use Rattle.uni_small.specs.declared.sizes.Sizes.{Sizes}

@@ -14,7 +14,7 @@ use Rattle.uni_small.specs.Image.{Meaning, AreWhole, Image, IsSteady, buffer_wor
 use Rattle.uni_small.specs.View.{Local, Returned, Stage, goes, knows}
 use Rattle.uni_small.specs.View.Stage.{Idle, Last, Reading, Ready, Writing}
 use Rattle.uni_small.specs.Board.{Board, in_of, current_word, buffer_in, version_in, announce_word, argument_word, buffer_word}
-use Rattle.uni_small.specs.Invariant.{AreIn, IfFresh, IsAt, IsAttemptAt, IsBeginning, IsBoard, IsCallAt, IsClosed, IsOpen, IsSound, IsWritten, most_calls}
+use Rattle.uni_small.specs.Invariant.{AreIn, IfFresh, IsAt, IsAttemptAt, IsBeginning, IsBoard, IsCallAt, IsClosed, IsOpen, IsSound, MayBeWritten, most_calls}
 use Rattle.uni_small.specs.Shown.{IsShown}
 use Rattle.uni_small.specs.Laws.{Moves, nothing}
 use Rattle.uni_small.specs.Plays.{stage_of, with_local, IsNamed, IsGood, looked, checked, HasStarted, HasCopied, HasLooked, HasAsked, HasChecked, HasTurned, HasFollowed}
@@ -53,7 +53,7 @@ module _ (object : Sequential (List ℕ) (List ℕ) (List ℕ)) (sizes : Sizes) 
     by_stage (Idle stored) c = closed c.0
     by_stage (Ready t) c = opened c
     by_stage (Reading t s copy seen) c = opened c
-    by_stage (Writing t s image seen k) c = opened c
+    by_stage (Writing t s image seen) c = opened c
     by_stage (Last s loaded) c = opened c
 
   -- S names a buffer, and its version leaves room
@@ -98,12 +98,12 @@ module _ {O : Type 0} (meaning : O → Meaning) (o : O) (sizes : Sizes) (id : �
 
   -- the process goes to another stage, of the same call
   at_next : (g : Board) (stage : Stage) → IsAt object sizes g p l → IsCallAt object sizes g p l stage → IsAttemptAt object sizes g p (2 * p + l.spare) stage → IsAt object sizes g p (goes l stage)
-  at_next g stage was call attempt = record { spare = was.spare; apart = was.apart; call = by_stage stage call; attempt = attempt; ordered = was.ordered } where
+  at_next g stage was call attempt = record { spare = was.spare; apart = was.apart; held = was.held; call = by_stage stage call; attempt = attempt; ordered = was.ordered } where
     by_stage : (stage : Stage) → IsCallAt object sizes g p l stage → IsCallAt object sizes g p (goes l stage) stage
     by_stage (Idle stored) c = c
     by_stage (Ready t) c = c
     by_stage (Reading t s copy seen) c = c
-    by_stage (Writing t s image seen k) c = c
+    by_stage (Writing t s image seen) c = c
     by_stage (Last s loaded) c = c
 
   -- an attempt begins
@@ -365,7 +365,7 @@ module _ {O : Type 0} (meaning : O → Meaning) (o : O) (sizes : Sizes) (id : �
 
         by_in : {local : ℕ → Local} {words : List ℕ} (g : Board) (copy : List ℕ) (seen : List (Option (List ℕ))) (x : ℕ) → Found meaning o sizes me g local words → length copy ≡ buffer_words sizes → length seen ≡ sizes.processes → AreWhole sizes seen
             → IsOpen object g p l.inv l.own → IsAttemptAt object sizes g p (2 * p + l.spare) (Reading tries s copy seen) → x ≡ current_word g.version g.current → x ≡ s
-            → (b : Bool) → (slice_index copy p == length l.own + 1) ≡ b → IsAt object sizes g p (goes l (if b then Last s [] else Writing tries s (read_image sizes copy) seen 0))
+            → (b : Bool) → (slice_index copy p == length l.own + 1) ≡ b → IsAt object sizes g p (goes l (if b then Last s [] else Writing tries s (read_image sizes copy) seen))
         by_in g copy seen x f wide long full call was is same true e =
             let mine : slice_index copy p ≡ length l.own + 1 = (let h : (slice_index copy p == length l.own + 1) ≡ true = e in grind (arith, nat_tests, h)) in
             let copied = image_is g copy seen x f wide was is same in
@@ -386,12 +386,11 @@ module _ {O : Type 0} (meaning : O → Meaning) (o : O) (sizes : Sizes) (id : �
             let apart : slice_index copy p ≢ length l.own + 1 = (λ own. let h : (slice_index copy p == length l.own + 1) ≡ false = e in grind (arith, nat_tests, h, own)) in
             let in_now : slice_index copy p ≡ in_of g p = ap (λ ws. slice_index ws p) copied ∙ spell-applied sizes g.image f.sound.board.rows p f.inside in
             let not_in : in_of g p < g.announced p = (let a = call.announced in let m = f.sound.board.in_most p f.inside in omega (arith, apart)) in
-            at_next g (Writing tries s (read_image sizes copy) seen 0) f.mine call (
+            at_next g (Writing tries s (read_image sizes copy) seen) f.mine call (
               was.0,
               (λ fresh. (now.0, (image, long, now.1.1, not_in, full))),
-              subst (λ i. IsWritten object sizes g (2 * p + l.spare) (with_seen object i 0 seen) 0) (sym image) (record {
+              subst (λ i. MayBeWritten object sizes g (2 * p + l.spare) (with_seen object i 0 seen)) (sym image) (record {
                 rows = rows-seen object sizes (subst (IsSteady object) f.widths.1 steady) (width_is object sizes (subst (IsSteady object) f.widths.1 steady) g.atomic.agreed g.image f.sound.board.image f.sound.board.rows) g.image 0 seen f.sound.board.rows;
-                words = λ i below. absurd (omega arith);
                 replies = λ r inside least. ap (reply_of (with_seen object g.image 0 seen)) (let z : r ≡ 0 + r = omega arith in z)
                     ∙ reply-seen object g.image 0 seen r (elim (due_cases seen r) [
                       | inl none ↦ none
@@ -403,17 +402,17 @@ module _ {O : Type 0} (meaning : O → Meaning) (o : O) (sizes : Sizes) (id : �
         checked_at : {local : ℕ → Local} {words : List ℕ} (g : Board) (copy : List ℕ) (seen : List (Option (List ℕ))) (x : ℕ) → Found meaning o sizes me g local words → length copy ≡ buffer_words sizes → length seen ≡ sizes.processes → AreWhole sizes seen
             → IsOpen object g p l.inv l.own → IsAttemptAt object sizes g p (2 * p + l.spare) (Reading tries s copy seen) → x ≡ current_word g.version g.current
             → (b : Bool) → (x == s) ≡ b
-            → IsAt object sizes g p (goes l (if x == s then (if slice_index copy p == length l.own + 1 then Last s [] else Writing tries s (read_image sizes copy) seen 0) else Ready (tries + 1)))
+            → IsAt object sizes g p (goes l (if x == s then (if slice_index copy p == length l.own + 1 then Last s [] else Writing tries s (read_image sizes copy) seen) else Ready (tries + 1)))
         checked_at g copy seen x f wide long full call was is false e =
             let apart : x ≢ s = (λ same. let h : (x == s) ≡ false = e in grind (arith, nat_tests, h, same)) in
-            subst (λ b. IsAt object sizes g p (goes l (if b then (if slice_index copy p == length l.own + 1 then Last s [] else Writing tries s (read_image sizes copy) seen 0) else Ready (tries + 1)))) (sym e)
+            subst (λ b. IsAt object sizes g p (goes l (if b then (if slice_index copy p == length l.own + 1 then Last s [] else Writing tries s (read_image sizes copy) seen) else Ready (tries + 1)))) (sym e)
             (at_next g (Ready (tries + 1)) f.mine call (elim (lt_cases s (128 * g.version)) [
               | inl old ↦ (let a = was.0 in let b = old.0 in omega arith)
               | inr new ↦ absurd (apart (is ∙ sym (was.1 new.0).0))
             ]))
         checked_at {local = local} {words = words} g copy seen x f wide long full call was is true e =
             let same : x ≡ s = (let h : (x == s) ≡ true = e in grind (arith, nat_tests, h)) in
-            subst (λ b. IsAt object sizes g p (goes l (if b then (if slice_index copy p == length l.own + 1 then Last s [] else Writing tries s (read_image sizes copy) seen 0) else Ready (tries + 1)))) (sym e)
+            subst (λ b. IsAt object sizes g p (goes l (if b then (if slice_index copy p == length l.own + 1 then Last s [] else Writing tries s (read_image sizes copy) seen) else Ready (tries + 1)))) (sym e)
             (by_in {local = local} {words = words} g copy seen x f wide long full call was is same (slice_index copy p == length l.own + 1) refl)
 
   -- S is loaded between calls
@@ -429,6 +428,7 @@ module _ {O : Type 0} (meaning : O → Meaning) (o : O) (sizes : Sizes) (id : �
         record {
           spare = f.mine.spare;
           apart = f.mine.apart;
+          held = f.mine.held;
           call = subst (IsCallAt object sizes g p (knows l (version_in s))) (sym stage) closed;
           attempt = f.mine.attempt;
           ordered = record {

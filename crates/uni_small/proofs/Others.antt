@@ -1,15 +1,13 @@
 -- A step of one process by which S, the image and the marks stay leaves the others where they are.
-use Rattle.std.proofs.Common.{◌≡◌, ◌≢◌, ◌∙◌, ℕ, ◌+◌, ◌*◌, ◌<◌, ◌≤◌, inl, inr, refl, sym, ap, subst, List, [], ◌∷◌, ◌++◌, length, map, slice_get, take, Option, arith, append-nil}
+use Rattle.std.proofs.Common.{◌≡◌, ◌∙◌, ℕ, ◌+◌, ◌*◌, ◌<◌, ◌≤◌, sym, ap, subst, List, length, map, slice_get, take, Option, arith}
 use Rattle.seq_object.specs.Sequential.{Sequential}
 use Rattle.seq_object.specs.History.{response_at}
 use Rattle.uni_model.specs.AtomicObject.{Atomic, Act, Invoked}
-use Rattle.uni_model.specs.AtomicObject.Act.{Invoke, Respond}
-use Rattle.uni_model.proofs.Written.{number_cases}
 use Rattle.uni_model.specs.ProcessCalls.{acts_by}
 use Rattle.uni_small.specs.declared.sizes.Sizes.{Sizes}
 use Rattle.uni_small.specs.View.{Local, Returned, Stage}
 use Rattle.uni_small.specs.View.Stage.{Idle, Last, Reading, Ready, Writing}
-use Rattle.uni_small.specs.Board.{Board, in_of}
+use Rattle.uni_small.specs.Board.{Board}
 use Rattle.uni_small.specs.Invariant.{IsAt, IsCallAt, IsAttemptAt, IsClosed, IsOpen, HasTaken, HasSeen}
 use Rattle.uni_small.specs.Order.{IsOrdered}
 
@@ -24,7 +22,7 @@ module _ (object : Sequential (List ℕ) (List ℕ) (List ℕ)) (sizes : Sizes) 
     pub seen : (seen : List (Option (List ℕ))) → HasSeen g q seen → HasSeen quiet q seen
     pub announced : announced' q ≡ g.announced q
     pub argument : argument' q ≡ g.argument q
-    pub buffer : (i : ℕ) → buffer' b i ≡ g.buffer b i
+    pub buffer : (which i : ℕ) → which ≤ 1 → buffer' (2 * q + which) i ≡ g.buffer (2 * q + which) i
     pub marked : (r : ℕ) → r < sizes.processes → announced' r ≤ g.mark b r → g.announced r ≤ g.mark b r
     pub is_open : atomic'.open_call q ≡ g.atomic.open_call q
     pub next : atomic'.next_nth q ≡ g.atomic.next_nth q
@@ -36,10 +34,10 @@ module _ (object : Sequential (List ℕ) (List ℕ) (List ℕ)) (sizes : Sizes) 
     attempt_stays (Idle stored) h = h
     attempt_stays (Ready t) h = let e = spares.since in omega arith
     attempt_stays (Reading t s copy seen) h = ((let e = spares.since in let a = h.0 in omega arith), λ fresh. let now = h.1 fresh in (now.0, (now.1.0, spares.seen seen now.1.1)))
-    attempt_stays (Writing t s image seen k) h = (
+    attempt_stays (Writing t s image seen) h = (
       (let e = spares.since in let a = h.0 in omega arith),
       (λ fresh. let now = h.1 fresh in (now.0, (now.1.0, now.1.1, spares.seen seen now.1.2, (let e = spares.announced in let m = now.1.3 in omega arith), now.1.4))),
-      record { rows = h.2.rows; words = λ i below. spares.buffer i ∙ h.2.words i below; replies = λ r inside least. h.2.replies r inside (spares.marked r inside least) },
+      record { rows = h.2.rows; replies = λ r inside least. h.2.replies r inside (spares.marked r inside least) },
     )
     attempt_stays (Last s loaded) h = (
       h.0,
@@ -73,13 +71,14 @@ module _ (object : Sequential (List ℕ) (List ℕ) (List ℕ)) (sizes : Sizes) 
     call_stays l (Idle stored) h = (closed_stays l.own h.0, ap (take (length stored)) spares.argument ∙ h.1)
     call_stays l (Ready t) h = open_stays l.inv l.own h
     call_stays l (Reading t s copy seen) h = open_stays l.inv l.own h
-    call_stays l (Writing t s image seen k) h = open_stays l.inv l.own h
+    call_stays l (Writing t s image seen) h = open_stays l.inv l.own h
     call_stays l (Last s loaded) h = open_stays l.inv l.own h
 
   pub at_stays : (q : ℕ) (l : Local) → Spares q (2 * q + l.spare) → IsAt object sizes g q l → IsAt object sizes quiet q l
   at_stays q l spares h = record {
     spare = h.spare;
     apart = h.apart;
+    held = record { long = h.held.long; words = λ which i either below. spares.buffer which i either ∙ h.held.words which i either below };
     call = call_stays q (2 * q + l.spare) spares l l.stage h.call;
     attempt = attempt_stays q (2 * q + l.spare) spares l.stage h.attempt;
     ordered = subst (λ agreed. IsOrdered object agreed g.calls_in_version g.version q l.after l.own) (sym spares.agreed) h.ordered;

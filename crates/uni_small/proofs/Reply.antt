@@ -1,5 +1,5 @@
 -- The load of the reply, by which a call returns.
-use Rattle.std.proofs.Common.{◌≡◌, ◌∙◌, ℕ, suc, ◌+◌, ◌*◌, ◌<◌, ◌≤◌, inl, inr, refl, sym, ap, subst, List, [], ◌∷◌, ◌++◌, length, map, slice_index, Some, None, arith, append_assoc, length-append}
+use Rattle.std.proofs.Common.{◌≡◌, ◌∙◌, ℕ, ◌+◌, ◌*◌, ◌<◌, ◌≤◌, inl, inr, refl, sym, ap, subst, List, [], ◌∷◌, ◌++◌, length, map, slice_index, Some, None, arith, append_assoc, length-append}
 use Rattle.std.proofs.lemmas.List.{set-get_or}
 use Rattle.atomic_table.specs.Table.{Me, Step}
 use Rattle.seq_object.specs.Sequential.{Sequential}
@@ -11,7 +11,7 @@ use Rattle.uni_model.proofs.Simulation.{set_at_same}
 use Rattle.uni_model.proofs.LawProofs.{set_at_elsewhere, AcceptsAll-append}
 use Rattle.uni_model.specs.ProcessCalls.{sequential_acts}
 use Rattle.uni_small.specs.declared.sizes.Sizes.{Sizes}
-use Rattle.uni_small.specs.View.{Local, Returned, Stage, ending, goes, plain, returns}
+use Rattle.uni_small.specs.View.{Local, Returned, ending, goes, plain, returns}
 use Rattle.uni_small.specs.View.Stage.{Last}
 use Rattle.uni_small.specs.Board.{Board, in_of, buffer_in, buffer_word, version_in}
 use Rattle.uni_small.specs.Order.{StandsIn}
@@ -66,6 +66,7 @@ module _ {O : Type 0} (meaning : O → Meaning) (o : O) (sizes : Sizes) (id : �
         record {
           spare = f.mine.spare;
           apart = f.mine.apart;
+          held = f.mine.held;
           call = call_at object sizes g p l (Last s loaded) f.mine stage;
           attempt = (was.0, was.1, was.2, reply_found s loaded stage (omega arith) named f);
           ordered = f.mine.ordered;
@@ -141,7 +142,7 @@ module _ {O : Type 0} (meaning : O → Meaning) (o : O) (sizes : Sizes) (id : �
               seen = λ seen k. record { told = k.told; caught = k.caught };
               announced = refl;
               argument = refl;
-              buffer = λ i. refl;
+              buffer = λ which i either. refl;
               marked = λ r inside m. m;
               is_open = set_at_elsewhere g.atomic.open_call p None q apart;
               next = refl;
@@ -151,6 +152,7 @@ module _ {O : Type 0} (meaning : O → Meaning) (o : O) (sizes : Sizes) (id : �
             (record {
               spare = f.mine.spare;
               apart = f.mine.apart;
+              held = record { long = f.mine.held.long; words = f.mine.held.words };
               call = (
                 record {
                   none_open = set_at_same g.atomic.open_call p None;

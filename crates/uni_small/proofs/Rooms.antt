@@ -1,10 +1,10 @@
 -- A room's image, and what it has of the processes that were seen.
-use Rattle.std.proofs.Common.{All, Bool, if◌then◌else◌, true, false, ◌≡◌, ◌∙◌, ℕ, zero, suc, ◌+◌, ◌*◌, ◌<◌, ◌≤◌, refl, sym, ap, List, [], ◌∷◌, ◌++◌, length, map, set, slice_get, slice_index, slice_set, subst, take, Option, Some, None, arith}
+use Rattle.std.proofs.Common.{All, Bool, if◌then◌else◌, true, false, ◌≡◌, ◌∙◌, ℕ, zero, suc, ◌+◌, ◌*◌, ◌<◌, sym, ap, List, [], ◌∷◌, ◌++◌, length, map, set, slice_index, slice_set, subst, take, Some, None, arith}
 use Rattle.std.proofs.Math.Seq.{take-length}
 use Rattle.std.proofs.lemmas.List.{get_or-append-add, get_or_append_left}
 use borrow.Rule.Slice.PartMut.{put_mid}
 use Rattle.seq_object.specs.Sequential.{Sequential}
-use Rattle.uni_small.specs.Image.{AreWhole, HasRows, joined, rows, spell, taken_in, with_seen}
+use Rattle.uni_small.specs.Image.{AreWhole, HasRows, rows, spell, with_seen}
 use Rattle.uni_small.specs.Belongs.{HasInvocation, HasRoom, image_in, image_of_rows, seen_in}
 use Rattle.uni_small.specs.declared.seat.Room.{Room}
 use Rattle.uni_small.specs.declared.seat.Seen.{Seen}

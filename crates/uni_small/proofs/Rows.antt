@@ -1,9 +1,9 @@
 -- Rows of words, and the first words of a list.
-use Rattle.std.proofs.Common.{◌≡◌, ◌∙◌, ℕ, zero, suc, ◌+◌, ◌*◌, ◌<◌, refl, sym, ap, List, [], ◌∷◌, ◌++◌, length, slice_index, slice_index_or, slice_set, arith, take, drop, append_assoc, length-append, suc-mul, mul-le-mul_right, ◌≤◌}
-use Rattle.std.proofs.lemmas.List.{drop-append-le, drop-drop, drop-take, drop_at, get_or-append-add, get_or_append_left, length-drop, length-take-le, nil_from_length, take-append-drop, take_all, take_at, take_more, take_more_set}
+use Rattle.std.proofs.Common.{◌≡◌, ◌∙◌, ℕ, zero, suc, ◌+◌, ◌*◌, ◌<◌, refl, sym, ap, List, [], ◌∷◌, ◌++◌, length, slice_index, slice_index_or, slice_set, arith, take, drop, append_assoc, length-append, suc-mul, mul-le-mul_right, ◌≤◌, get_or-set_other, get_or-set_same, length-set}
+use Rattle.std.proofs.lemmas.List.{drop-append-le, drop-drop, drop-take, drop_at, get_or-append-add, get_or_append_left, length-drop, length-take-le, nil_from_length, take-append-drop, set-get_or, take_all, take_at, take_more, take_more_set}
 use Rattle.std.proofs.lemmas.Slice.{take-put_mid_below}
 use borrow.Rule.Slice.PartMut.{put_mid}
-use Rattle.uni_small.specs.Image.{joined, rows}
+use Rattle.uni_small.specs.Image.{joined, rows, with_row}
 use Rattle.uni_small.specs.Invariant.{IsBeginning}
 
 -- each of the rows has so many words
@@ -107,3 +107,47 @@ module _ (part whole : List ℕ) (begins : IsBeginning part whole) (room : lengt
 -- all of them
 pub begins_whole : (part whole : List ℕ) → IsBeginning part whole → length part ≡ length whole → whole ≡ part
 begins_whole part whole begins long = sym (take_all (length part) whole (omega arith)) ∙ begins
+
+-- a row that is put into words
+pub with_row-length : (words : List ℕ) (from : ℕ) (row : List ℕ) → length (with_row words from row) ≡ length words
+with_row-length words from [] = refl
+with_row-length words from (x ∷ row) = with_row-length (slice_set words from x) (from + 1) row ∙ length-set words from x
+
+pub with_row-append : (words : List ℕ) (from : ℕ) (row more : List ℕ) → with_row words from (row ++ more) ≡ with_row (with_row words from row) (from + length row) more
+with_row-append words from [] more = ap (λ k. with_row words k more) (let e : from ≡ from + 0 = omega arith in e)
+with_row-append words from (x ∷ row) more =
+    with_row-append (slice_set words from x) (from + 1) row more
+    ∙ ap (λ k. with_row (with_row (slice_set words from x) (from + 1) row) k more) (let e : from + 1 + length row ≡ from + suc (length row) = omega arith in e)
+
+-- three rows, one after another
+pub with_rows : (words : List ℕ) (from : ℕ) (a b d : List ℕ) → with_row (with_row (with_row words from a) (from + length a) b) (from + length a + length b) d ≡ with_row words from (a ++ (b ++ d))
+with_rows words from a b d = sym (with_row-append words from a (b ++ d) ∙ with_row-append (with_row words from a) (from + length a) b d)
+
+-- the words before it stay
+with_row-before : (words : List ℕ) (from : ℕ) (row : List ℕ) (j : ℕ) → j < from → slice_index (with_row words from row) j ≡ slice_index words j
+with_row-before words from [] j before = refl
+with_row-before words from (x ∷ row) j before =
+    with_row-before (slice_set words from x) (from + 1) row j (omega arith) ∙ get_or-set_other words from j x 0 (λ (e : j ≡ from). omega arith)
+
+-- its words are there
+pub with_row-index : (words : List ℕ) (from : ℕ) (row : List ℕ) (i : ℕ) → i < length row → from + length row ≤ length words → slice_index (with_row words from row) (from + i) ≡ slice_index row i
+with_row-index words from [] i below room = absurd (omega arith)
+with_row-index words from (x ∷ row) zero below room =
+    with_row-before (slice_set words from x) (from + 1) row (from + 0) (omega arith)
+    ∙ ap (slice_index (slice_set words from x)) (let e : from + 0 ≡ from = omega arith in e) ∙ get_or-set_same words from x 0 (omega arith)
+with_row-index words from (x ∷ row) (suc i) below room =
+    ap (slice_index (with_row (slice_set words from x) (from + 1) row)) (let e : from + suc i ≡ from + 1 + i = omega arith in e)
+    ∙ with_row-index (slice_set words from x) (from + 1) row i (omega arith) (let l = length-set words from x in omega arith)
+
+-- one more of its first words is put there; where it was there before, nothing is to do
+pub with_row-more : (words : List ℕ) (from : ℕ) (row : List ℕ) (i : ℕ) → i < length row
+    → slice_set (with_row words from (take i row)) (from + i) (slice_index row i) ≡ with_row words from (take (i + 1) row)
+with_row-more words from row i below =
+    let l : length (take i row) ≡ i = length-take-le i row (omega arith) in
+    ap (λ k. slice_set (with_row words from (take i row)) (from + k) (slice_index row i)) (sym l)
+    ∙ sym (with_row-append words from (take i row) (slice_index row i ∷ [])) ∙ ap (with_row words from) (sym (take_more row i 0 below))
+
+pub with_row-same : (words : List ℕ) (from : ℕ) (row : List ℕ) (i : ℕ) → i < length row → slice_index (with_row words from (take i row)) (from + i) ≡ slice_index row i
+    → with_row words from (take i row) ≡ with_row words from (take (i + 1) row)
+with_row-same words from row i below same =
+    sym (set-get_or (with_row words from (take i row)) (from + i) 0) ∙ ap (slice_set (with_row words from (take i row)) (from + i)) same ∙ with_row-more words from row i below

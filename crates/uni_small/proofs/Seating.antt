@@ -1,7 +1,7 @@
 -- One more seat in order.
 use Rattle.std.proofs.Common.{All, Some, slice_index_or, ◌≡◌, ◌∙◌, ℕ, ◌+◌, ◌<◌, inl, inr, sym, subst, List, [], ◌∷◌, ◌++◌, length-append, append_assoc, append-nil, flat_map, refl, ap, Contains, arith}
 use Rattle.std.proofs.lemmas.List.Elements.{Contains-append_cases, Contains-append_left, Contains-append_right}
-use Rattle.uni_small.specs.Belongs.{IsFreshSeat, IsSeatOf, AreFirstSeats, HasRoom, known_calls}
+use Rattle.uni_small.specs.Belongs.{AreBuffers, IsFreshSeat, IsSeatOf, AreFirstSeats, HasRoom, known_calls}
 use Rattle.uni_small.specs.View.{ProcessReturned}
 use Rattle.uni_small.specs.declared.log.SmallShared.{SmallShared}
 use Rattle.uni_small.specs.declared.seat.SmallSeat.{SmallSeat}
@@ -9,14 +9,14 @@ use Rattle.uni_small.proofs.Lists.{get_snoc, get-contains, slice_get-index}
 
 pub one_more : {O : Type 0} (shared : SmallShared O) (count : ℕ) (seats later : List (SmallSeat O)) (seat : SmallSeat O) → AreFirstSeats shared count seats → later ≡ seats ++ seat ∷ []
     → seat.seat.table_id ≡ shared.table.shared.table_id → seat.seat.me.0.object ≡ Some shared.setup.object → seat.seat.me.0.known.sizes ≡ shared.setup.sizes → seat.p < shared.setup.sizes.processes → seat.p ≡ count
-    → HasRoom shared.setup.sizes seat.room → seat.seat.me.0.known.local.own ≡ [] → seat.made ≡ 0 → seat.seat.me.0.known.local.after ≡ 0 → seat.seat.me.0.known.taken ≡ [] → AreFirstSeats shared (count + 1) later
-one_more shared count seats later seat are is table object sizes inside place room own made version taken = subst (AreFirstSeats shared (count + 1)) (sym is) (record {
+    → HasRoom shared.setup.sizes seat.room → AreBuffers shared.setup.sizes seat.seat.me.0.known.local seat.own → seat.seat.me.0.known.local.own ≡ [] → seat.made ≡ 0 → seat.seat.me.0.known.local.after ≡ 0 → seat.seat.me.0.known.taken ≡ [] → AreFirstSeats shared (count + 1) later
+one_more shared count seats later seat are is table object sizes inside place room buffers own made version taken = subst (AreFirstSeats shared (count + 1)) (sym is) (record {
   many = length-append seats (seat ∷ []) ∙ (let m = are.many in omega arith);
   each = λ p u e. elim (get_snoc seats seat p u e) [
     | inl old ↦ are.each p u old
     | inr new ↦ (let at : p ≡ count = new.0 ∙ are.many in
         subst (IsFreshSeat shared p) new.1 (record {
-          own = record { table = table; object = object; sizes = sizes; inside = inside; room = room };
+          own = record { table = table; object = object; sizes = sizes; inside = inside; room = room; buffers = buffers };
           process = place ∙ sym at;
           calls = own;
           made = made;

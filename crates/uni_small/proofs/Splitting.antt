@@ -4,7 +4,6 @@ use mathlib.Core.Option.{some, some-injective, some-ne-none}
 use lib.ListN.{get_elem?}
 use Rattle.atomic_table.specs.Table.{Splits}
 use Rattle.atomic_table.proofs.Lists.{at_set}
-use Rattle.seq_object.specs.Sequential.{Sequential}
 use Rattle.uni_model.specs.AtomicObject.{set_at}
 use Rattle.uni_model.proofs.Simulation.{set_at_same}
 use Rattle.uni_model.proofs.LawProofs.{set_at_elsewhere}

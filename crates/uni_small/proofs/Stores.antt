@@ -1,5 +1,5 @@
 -- The word steps that store.
-use Rattle.std.proofs.Common.{◌≡◌, ◌≢◌, ◌∙◌, ℕ, ◌+◌, ◌*◌, ◌<◌, ◌≤◌, inl, inr, refl, sym, ap, subst, List, [], ◌∷◌, ◌++◌, length, slice_index, slice_set, Some, append-nil, arith, length-set}
+use Rattle.std.proofs.Common.{◌≡◌, ◌≢◌, ◌∙◌, ℕ, ◌+◌, ◌*◌, ◌<◌, ◌≤◌, inl, inr, refl, sym, ap, subst, List, [], ◌∷◌, ◌++◌, length, slice_index, slice_set, Some, append-nil, arith, length-set, get_or-set_same, get_or-set_other}
 use Rattle.atomic_table.specs.Table.{Me, Step}
 use Rattle.seq_object.specs.Sequential.{Sequential}
 use Rattle.uni_model.specs.AtomicObject.{Atomic, Act, at_start, set_at}
@@ -8,11 +8,11 @@ use Rattle.uni_model.proofs.Written.{set_at-cases, number_cases}
 use Rattle.uni_model.proofs.Simulation.{set_at_same}
 use Rattle.uni_model.proofs.LawProofs.{set_at_elsewhere, AcceptsAll-append}
 use Rattle.uni_small.specs.declared.sizes.Sizes.{Sizes}
-use Rattle.uni_small.specs.Image.{Meaning, buffer_words, due_at, reply_of, reply_place, spell, with_seen}
-use Rattle.uni_small.specs.View.{Local, announces, goes}
-use Rattle.uni_small.specs.View.Stage.{Idle, Ready, Writing}
+use Rattle.uni_small.specs.Image.{Meaning, buffer_words, due_at, held_place, reply_place, spell, with_seen}
+use Rattle.uni_small.specs.View.{Local, announces, goes, wrote}
+use Rattle.uni_small.specs.View.Stage.{Idle, Writing}
 use Rattle.uni_small.specs.Board.{Board, in_of, announce_word, argument_word, buffer_word}
-use Rattle.uni_small.specs.Invariant.{IsBeginning, IsClosed, IsOpen, most_calls}
+use Rattle.uni_small.specs.Invariant.{AreHeld, IsAttemptAt, IsBeginning, IsCallAt, IsClosed, IsOpen, most_calls}
 use Rattle.uni_small.specs.Laws.{Moves, nothing, begins}
 use Rattle.uni_small.specs.Plays.{HasAnnounced, HasStored, HasWritten, stage_of, with_local}
 use Rattle.uni_small.specs.Standing.{IsStoring, IsWriting}
@@ -23,7 +23,31 @@ use Rattle.uni_small.proofs.Loads.{call_at, attempt_at}
 use Rattle.uni_small.proofs.Acts.{invoked_other, invoked_own}
 use Rattle.uni_small.proofs.Others.{quiet, at_stays}
 use Rattle.uni_small.proofs.Rows.{begins_set, begins_whole}
-use Rattle.uni_small.proofs.Words.{words_announced, words_argument, words_buffer}
+use Rattle.uni_small.proofs.Words.{held_apart, held_inside, words_announced, words_argument, words_buffer}
+
+-- a word of a process's spare buffer is stored: what its buffers hold then
+held_set : (object : Sequential (List ℕ) (List ℕ) (List ℕ)) (sizes : Sizes) (g g' : Board) (p spare k x : ℕ) (held : List ℕ) → spare ≤ 1 → k < buffer_words sizes
+    → ((d i : ℕ) → d ≢ 2 * p + spare → g'.buffer d i ≡ g.buffer d i) → g'.buffer (2 * p + spare) k ≡ x → ((i : ℕ) → i ≢ k → g'.buffer (2 * p + spare) i ≡ g.buffer (2 * p + spare) i)
+    → AreHeld object sizes g p held → AreHeld object sizes g' p (slice_set held (held_place sizes spare k) x)
+held_set object sizes g g' p spare k x held either room other_buffer same_spot other_spot was = record {
+  long = length-set held (held_place sizes spare k) x ∙ was.long;
+  words = words;
+} where
+  words : (which i : ℕ) → which ≤ 1 → i < buffer_words sizes → g'.buffer (2 * p + which) i ≡ slice_index (slice_set held (held_place sizes spare k) x) (held_place sizes which i)
+  words which i one below = elim (number_cases which spare) [
+    | inl here ↦ elim (number_cases i k) [
+      | inl at ↦
+          ap (λ w. g'.buffer (2 * p + w) i) here.0 ∙ ap (g'.buffer (2 * p + spare)) at.0 ∙ same_spot
+          ∙ sym (get_or-set_same held (held_place sizes spare k) x 0 (let h = held_inside sizes spare k either room in let l = was.long in omega arith))
+          ∙ (λ j. slice_index (slice_set held (held_place sizes spare k) x) (held_place sizes (sym here.0 j) (sym at.0 j)))
+      | inr other ↦
+          ap (λ w. g'.buffer (2 * p + w) i) here.0 ∙ other_spot i other.0 ∙ ap (λ w. g.buffer (2 * p + w) i) (sym here.0) ∙ was.words which i one below
+          ∙ sym (get_or-set_other held (held_place sizes spare k) (held_place sizes which i) x 0 (held_apart sizes which i spare k below room (inr other.0)))
+    ]
+    | inr other ↦
+        other_buffer (2 * p + which) i (λ same. other.0 (omega arith)) ∙ was.words which i one below
+        ∙ sym (get_or-set_other held (held_place sizes spare k) (held_place sizes which i) x 0 (held_apart sizes which i spare k below room (inl other.0)))
+  ]
 
 module _ {O : Type 0} (meaning : O → Meaning) (o : O) (sizes : Sizes) (id : ℕ) (st : Step ℕ) (me : Me ℕ (View O)) (single : me.0.known.count ≡ 1) where
   abbrev object : Sequential (List ℕ) (List ℕ) (List ℕ)
@@ -86,7 +110,7 @@ module _ {O : Type 0} (meaning : O → Meaning) (o : O) (sizes : Sizes) (id : �
               };
               announced = refl;
               argument = set_at_elsewhere g.argument p (slice_set (g.argument p) k x) q apart;
-              buffer = λ i. refl;
+              buffer = λ which i either. refl;
               marked = λ r inside m. m;
               is_open = refl;
               next = refl;
@@ -96,6 +120,7 @@ module _ {O : Type 0} (meaning : O → Meaning) (o : O) (sizes : Sizes) (id : �
             (record {
               spare = f.mine.spare;
               apart = f.mine.apart;
+              held = record { long = f.mine.held.long; words = f.mine.held.words };
               call = (record { none_open = closed.none_open; next = closed.next; announced = closed.announced; in_is = closed.in_is; acts = closed.acts }, more);
               attempt = tt;
               ordered = f.mine.ordered;
@@ -180,7 +205,7 @@ module _ {O : Type 0} (meaning : O → Meaning) (o : O) (sizes : Sizes) (id : �
               };
               announced = set_at_elsewhere g.announced p number q apart;
               argument = refl;
-              buffer = λ i. refl;
+              buffer = λ which i either. refl;
               marked = λ r inside m. elim (set_at-cases g.announced p number r) [
                 | inl here ↦ (let a : g.announced r ≡ g.announced p = ap g.announced here.0 in let c = closed.announced in let v = here.1 in omega arith)
                 | inr other ↦ subst (λ x. x ≤ g.mark (2 * q + (local q).spare) r) other.1 m
@@ -193,6 +218,7 @@ module _ {O : Type 0} (meaning : O → Meaning) (o : O) (sizes : Sizes) (id : �
             (record {
               spare = f.mine.spare;
               apart = f.mine.apart;
+              held = record { long = f.mine.held.long; words = f.mine.held.words };
               call = record {
                 is_open = set_at_same g.atomic.open_call p _;
                 next = set_at_same g.atomic.next_nth p _;
@@ -211,15 +237,17 @@ module _ {O : Type 0} (meaning : O → Meaning) (o : O) (sizes : Sizes) (id : �
       })
 
   -- a word of the spare buffer is stored
-  pub writes : (tries s k x : ℕ) → IsWriting object tries s k x me → k < buffer_words sizes
+  pub writes : (k x : ℕ) → IsWriting object k x me → k < buffer_words sizes → st.word ≡ buffer_word sizes (2 * p + l.spare) k
       → Moves meaning o sizes id me (buffer_word sizes (2 * p + l.spare) k) (λ y. x) nothing (λ found me'. HasWritten st me x me')
-  writes tries s k x writing room = step_law meaning o sizes id me (buffer_word sizes (2 * p + l.spare) k) (λ y. x) nothing (λ found me'. HasWritten st me x me') single (λ g local words f fits.
-      let image = writing.0 in
-      let seen = writing.1.0 in
-      let stage : l.stage ≡ Writing tries s image seen k = writing.1.1 in
-      let word : x ≡ slice_index (spell (with_seen object image 0 seen)) k = writing.1.2 in
-      let call : IsOpen object g p l.inv l.own = call_at object sizes g p l (Writing tries s image seen k) f.mine stage in
-      let was = attempt_at object sizes g p l (Writing tries s image seen k) f.mine stage in
+  writes k x writing room word_is = step_law meaning o sizes id me (buffer_word sizes (2 * p + l.spare) k) (λ y. x) nothing (λ found me'. HasWritten st me x me') single (λ g local words f fits.
+      let tries = writing.0 in
+      let s = writing.1 in
+      let image = writing.2 in
+      let seen = writing.3 in
+      let stage : l.stage ≡ Writing tries s image seen = writing.4 in
+      let word : x ≡ slice_index (spell (with_seen object image 0 seen)) k = writing.5 in
+      let call : IsOpen object g p l.inv l.own = call_at object sizes g p l (Writing tries s image seen) f.mine stage in
+      let was = attempt_at object sizes g p l (Writing tries s image seen) f.mine stage in
       let mine : ℕ = 2 * p + l.spare in
       let b = f.sound.board in
       let inside_mine : 2 * p + l.spare < 2 * sizes.processes = (let i = f.inside in let c = f.mine.spare in omega arith) in
@@ -230,8 +258,8 @@ module _ {O : Type 0} (meaning : O → Meaning) (o : O) (sizes : Sizes) (id : �
       let other_spot : (i : ℕ) → i ≢ k → buffer' (2 * p + l.spare) i ≡ g.buffer (2 * p + l.spare) i = (λ i apart. ap (λ h. h i) (set_at_same g.buffer (2 * p + l.spare) _) ∙ set_at_elsewhere (g.buffer (2 * p + l.spare)) k x i apart) in
       record {
         board = g';
-        local' = goes l (Writing tries s image seen (k + 1));
-        sound = sound_with object sizes g g' local p (goes l (Writing tries s image seen (k + 1))) f.sound
+        local' = wrote l (held_place sizes l.spare k) x;
+        sound = sound_with object sizes g g' local p (wrote l (held_place sizes l.spare k) x) f.sound
             (record {
               current = b.current;
               image = b.image;
@@ -265,7 +293,7 @@ module _ {O : Type 0} (meaning : O → Meaning) (o : O) (sizes : Sizes) (id : �
               seen = λ seen k. record { told = k.told; caught = k.caught };
               announced = refl;
               argument = refl;
-              buffer = λ i. other_buffer (2 * q + (local q).spare) i (λ same. apart (let a = h.spare in let c = f.mine.spare in omega arith));
+              buffer = λ which i either. other_buffer (2 * q + which) i (λ same. apart (let c = f.mine.spare in omega arith));
               marked = λ r inside m. m;
               is_open = refl;
               next = refl;
@@ -275,7 +303,8 @@ module _ {O : Type 0} (meaning : O → Meaning) (o : O) (sizes : Sizes) (id : �
             (record {
               spare = f.mine.spare;
               apart = f.mine.apart;
-              call = record {
+              held = held_set object sizes g g' p l.spare k x l.held f.mine.spare room other_buffer same_spot other_spot f.mine.held;
+              call = subst (IsCallAt object sizes g' p (wrote l (held_place sizes l.spare k) x)) (sym stage) (record {
                 is_open = call.is_open;
                 next = call.next;
                 announced = call.announced;
@@ -283,25 +312,18 @@ module _ {O : Type 0} (meaning : O → Meaning) (o : O) (sizes : Sizes) (id : �
                 in_least = call.in_least;
                 taken = λ full. (let t = call.taken full in record { place = t.place; there = t.there; reply_is = t.reply_is });
                 acts = call.acts;
-              };
-              attempt = (
+              });
+              attempt = subst (IsAttemptAt object sizes g' p (2 * p + l.spare)) (sym stage) (
                 was.0,
                 (λ fresh. let now = was.1 fresh in (now.0, (now.1.0, now.1.1, record { told = now.1.2.told; caught = now.1.2.caught }, now.1.3, now.1.4))),
-                record {
-                  rows = was.2.rows;
-                  words = λ i below. elim (number_cases i k) [
-                    | inl at ↦ ap (buffer' (2 * p + l.spare)) at.0 ∙ same_spot ∙ word ∙ ap (slice_index (spell (with_seen object image 0 seen))) (sym at.0)
-                    | inr other ↦ other_spot i other.0 ∙ was.2.words i (omega (arith, below, other.0))
-                  ];
-                  replies = was.2.replies;
-                },
+                record { rows = was.2.rows; replies = was.2.replies },
               );
               ordered = f.mine.ordered;
             });
         words_are = words_buffer sizes g g' words f.words_are refl refl (2 * p + l.spare) k x inside_mine room refl refl refl;
-        said = λ tries' s' image' seen' k' stage'.
-            let e : Writing tries s image seen k ≡ Writing tries' s' image' seen' k' = sym stage ∙ stage' in
-            let a : tries ≡ tries' = cc in let c : s ≡ s' = cc in let d : image ≡ image' = cc in let h : seen ≡ seen' = cc in let i : k ≡ k' = cc in
-            λ j. (with_local me.0 (goes l (Writing (a j) (c j) (d j) (h j) (i j + 1))), me.1);
+        said = λ j at.
+            let here : buffer_word sizes (2 * p + l.spare) k ≡ buffer_word sizes (2 * p + l.spare) j = sym word_is ∙ at ∙ ap (λ z. buffer_word z (2 * p + l.spare) j) f.processes in
+            let same : k ≡ j = omega arith in
+            λ i. (with_local me.0 (wrote l (held_place (sym f.processes i) l.spare (same i)) x), me.1);
         appended = sym (append-nil g.acts);
       })

@@ -2,7 +2,7 @@
 use Rattle.std.proofs.Common.{◌≡◌, ◌≢◌, ◌∙◌, ℕ, suc, ◌+◌, ◌*◌, ◌<◌, ◌≤◌, ◌⊎◌, inl, inr, sym, ap, List, length, slice_index, slice_set, arith, length-set, get_or-set_same, get_or-set_other, mul-le-mul_right, suc-mul}
 use Rattle.uni_model.specs.AtomicObject.{set_at}
 use Rattle.uni_model.proofs.Written.{set_at-cases, number_cases, lt_cases}
-use Rattle.uni_small.specs.Image.{buffer_words, reply_place}
+use Rattle.uni_small.specs.Image.{buffer_words, held_place, reply_place}
 use Rattle.uni_small.specs.Board.{Board, words_of, current_word, announce_word, argument_word, buffer_word}
 use Rattle.uni_small.specs.Shown.{AreWords}
 use Rattle.uni_small.specs.declared.sizes.Sizes.{Sizes}
@@ -52,6 +52,13 @@ module _ (sizes : Sizes) where
     | inl here ↦ apart (let e : b * buffer_words sizes ≡ c * buffer_words sizes = ap (λ k. k * buffer_words sizes) here.0 in omega arith)
     | inr other ↦ apart_buffers b i c j first second other.0 same
   ]
+
+  -- the words of a process's two buffers
+  pub held_inside : (which i : ℕ) → which ≤ 1 → i < buffer_words sizes → held_place sizes which i < 2 * buffer_words sizes
+  held_inside which i either below = let h = further which 2 (buffer_words sizes) (omega arith) in omega arith
+
+  pub held_apart : (which i spare j : ℕ) → i < buffer_words sizes → j < buffer_words sizes → (which ≢ spare) ⊎ (i ≢ j) → held_place sizes which i ≢ held_place sizes spare j
+  held_apart which i spare j first second apart same = buffer_apart which i spare j first second apart (omega arith)
 
   module _ (g g' : Board) (ws : List ℕ) (are : AreWords sizes g ws) where
     -- S

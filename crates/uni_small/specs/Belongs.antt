@@ -1,9 +1,10 @@
 -- Which seats are an object's, and what they have.
-use Rattle.std.specs.Prelude.{All, None, Option, Some, if◌then◌else◌, ◌≡◌, ℕ, ◌*◌, ◌<◌, List, [], ◌∷◌, length, map, slice_get}
-use Rattle.uni_small.specs.Image.{Image, rows}
-use Rattle.uni_small.specs.View.{Returned, ProcessReturned}
+use Rattle.std.specs.Prelude.{All, None, Option, Some, if◌then◌else◌, ◌≡◌, ℕ, ◌*◌, ◌<◌, ◌≤◌, List, [], ◌∷◌, length, map, slice_get}
+use Rattle.uni_small.specs.Image.{Image, buffer_words, rows}
+use Rattle.uni_small.specs.View.{Local, Returned, ProcessReturned}
 use Rattle.uni_small.specs.declared.log.SmallShared.{SmallShared}
 use Rattle.uni_small.specs.declared.seat.SmallSeat.{SmallSeat}
+use Rattle.uni_small.specs.declared.seat.Buffers.{Buffers}
 use Rattle.uni_small.specs.declared.seat.Room.{Room}
 use Rattle.uni_small.specs.declared.seat.Seen.{Seen}
 use Rattle.uni_small.specs.declared.sizes.Sizes.{Sizes}
@@ -45,6 +46,13 @@ version_of seat = seat.seat.me.0.known.local.after
 abbrev pub word_steps_of : {O : Type 0} → SmallSeat O → ℕ
 word_steps_of seat = seat.seat.me.0.known.local.steps
 
+-- what a process knows of its buffers: which one is its spare one, and the words of both
+pub record AreBuffers (sizes : Sizes) (l : Local) (own : Buffers) : Type 0 where
+  pub spare : l.spare ≡ own.spare
+  pub which : own.spare ≤ 1
+  pub held : l.held ≡ own.held.items
+  pub long : length own.held.items ≡ 2 * buffer_words sizes
+
 -- room for the words of an invocation
 abbrev pub HasInvocation : Sizes → Seen → Type 0
 HasInvocation sizes seen = length seen.invocation.items ≡ sizes.invocation
@@ -81,6 +89,7 @@ pub record IsSeatOf {O : Type 0} (shared : SmallShared O) (seat : SmallSeat O) :
   pub sizes : seat.seat.me.0.known.sizes ≡ shared.setup.sizes
   pub inside : seat.p < shared.setup.sizes.processes
   pub room : HasRoom shared.setup.sizes seat.room
+  pub buffers : AreBuffers shared.setup.sizes seat.seat.me.0.known.local seat.own
 
 -- a seat's process with its calls
 abbrev pub calls_of : {O : Type 0} → SmallSeat O → ProcessReturned

@@ -1,5 +1,5 @@
 -- The shared words as plain data, with what is remembered of the run.
-use Rattle.std.specs.Prelude.{◌≡◌, refl, ℕ, zero, ◌+◌, ◌*◌, ◌/◌, ◌%◌, ◌≤◌, List, []}
+use Rattle.std.specs.Prelude.{◌≡◌, refl, ℕ, ◌+◌, ◌*◌, ◌/◌, ◌%◌, ◌≤◌, List, []}
 use Rattle.std.specs.Prelude.{replicate, slice_index}
 use Rattle.seq_object.specs.Sequential.{Sequential}
 use Rattle.uni_model.specs.AtomicObject.{Atomic, Act, at_start}
@@ -60,19 +60,14 @@ argument_word sizes p k = 1 + sizes.processes + (p * sizes.invocation + k)
 abbrev pub buffer_word : Sizes → (b i : ℕ) → ℕ
 buffer_word sizes b i = words_before sizes + b * buffer_words sizes + i
 
--- the words of the buffers at the start: buffer 0 has the start state
-abbrev pub first_word : Sequential (List ℕ) (List ℕ) (List ℕ) → Sizes → (b i : ℕ) → ℕ
-first_word object sizes zero i = slice_index (spell (first_image object sizes)) i
-first_word object sizes b i = 0
-
--- buffer 0 is current, and has the start state
+-- buffer 0 is current, and each buffer has the start state
 abbrev pub opened : Sequential (List ℕ) (List ℕ) (List ℕ) → Sizes → Board
 opened object sizes = record {
   version = 0;
   current = 0;
   announced = λ p. 0;
   argument = λ p. replicate sizes.invocation 0;
-  buffer = first_word object sizes;
+  buffer = λ b i. slice_index (spell (first_image object sizes)) i;
   since = λ p. 0;
   mark = λ b r. 0;
   image = first_image object sizes;

@@ -53,6 +53,15 @@ reply_place sizes r k = sizes.processes + (r * sizes.reply + k)
 abbrev pub state_place : Sizes → (i : ℕ) → ℕ
 state_place sizes i = sizes.processes + (sizes.processes * sizes.reply + i)
 
+-- where among the words of a process's two buffers, one after the other, word i of the first or second one is: `which` is 0 or 1
+abbrev pub held_place : Sizes → (which i : ℕ) → ℕ
+held_place sizes which i = which * buffer_words sizes + i
+
+-- the words with these in place of those from one place on
+abbrev pub with_row : List ℕ → (from : ℕ) → List ℕ → List ℕ
+with_row words from [] = words
+with_row words from (x ∷ row) = with_row (slice_set words from x) (from + 1) row
+
 -- the reply to the last call of process r that is in
 abbrev pub reply_of : Image → (r : ℕ) → List ℕ
 reply_of image r = slice_index_or image.reply r []
@@ -107,6 +116,10 @@ module _ (object : Sequential (List ℕ) (List ℕ) (List ℕ)) where
     state = object.initial;
   }
 
+  -- the words of both buffers of a process at the start
+  abbrev pub first_held : Sizes → List ℕ
+  first_held sizes = spell (first_image sizes) ++ spell (first_image sizes)
+
   -- these calls are applied, the first of them first
   abbrev pub image_from : Image → List (Invoked (List ℕ)) → Image
   image_from image [] = image
@@ -136,6 +149,13 @@ sample_reply = refl
 
 sample_state : slice_index (spell sample) (state_place sample_sizes 0) ≡ 9
 sample_state = refl
+
+-- a buffer has seven words, so the state of the second one is word 13 of both; and a row of two words is put into four
+sample_held : held_place sample_sizes 1 (state_place sample_sizes 0) ≡ 13
+sample_held = refl
+
+sample_row : with_row (1 ∷ 2 ∷ 3 ∷ 4 ∷ []) 1 (7 ∷ 8 ∷ []) ≡ 1 ∷ 7 ∷ 8 ∷ 4 ∷ []
+sample_row = refl
 
 -- a scan sees a call of the second process, its first one
 sample_seen : calls_seen sample.applied 0 (None ∷ Some (7 ∷ []) ∷ []) ≡ record { process = 1; nth = 0; inv = 7 ∷ [] } ∷ []

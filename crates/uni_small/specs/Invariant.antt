@@ -7,7 +7,7 @@ use Rattle.uni_model.specs.AtomicObject.{Invoked, AcceptsAll, at_start}
 use Rattle.uni_model.specs.AtomicObject.Act.{Invoke}
 use Rattle.uni_model.specs.ProcessCalls.{acts_by, sequential_acts}
 use Rattle.uni_small.specs.Order.{IsOrdered}
-use Rattle.uni_small.specs.Image.{AreWhole, Image, HasRows, buffer_words, spell, due_at, first_image, image_from, reply_of, reply_place, with_seen}
+use Rattle.uni_small.specs.Image.{AreWhole, Image, HasRows, buffer_words, spell, due_at, first_image, held_place, image_from, reply_of, reply_place, with_seen}
 use Rattle.uni_small.specs.View.{Local, Returned, Stage, plain}
 use Rattle.uni_small.specs.View.Stage.{Idle, Ready, Reading, Writing, Last}
 use Rattle.uni_small.specs.declared.sizes.Sizes.{Sizes}
@@ -72,12 +72,16 @@ abbrev pub IsAfter : Board → (p tries s : ℕ) → Type 0
 IsAfter g p tries s = 128 * (g.since p + tries) ≤ s
 
 module _ (object : Sequential (List ℕ) (List ℕ) (List ℕ)) (sizes : Sizes) where
-  -- k words of the spare buffer b are those of the image. Its reply to a call that was in when b was last current, and that is
-  -- pending, is that of the current buffer.
-  pub record IsWritten (g : Board) (b : ℕ) (image : Image) (k : ℕ) : Type 0 where
+  -- The image may be written to the spare buffer b: its reply to a call that was in when b was last current, and that is pending, is that
+  -- of the current buffer.
+  pub record MayBeWritten (g : Board) (b : ℕ) (image : Image) : Type 0 where
     pub rows : HasRows sizes image
-    pub words : (i : ℕ) → i < k → g.buffer b i ≡ slice_index (spell image) i
     pub replies : (r : ℕ) → r < sizes.processes → g.announced r ≤ g.mark b r → reply_of image r ≡ reply_of g.image r
+
+  -- these are the words of the two buffers of process p
+  pub record AreHeld (g : Board) (p : ℕ) (held : List ℕ) : Type 0 where
+    pub long : length held ≡ 2 * buffer_words sizes
+    pub words : (which i : ℕ) → which ≤ 1 → i < buffer_words sizes → g.buffer (2 * p + which) i ≡ slice_index held (held_place sizes which i)
 
   -- the call of a process, at its stage
   abbrev pub IsCallAt : Board → (p : ℕ) → Local → Stage → Type 0
@@ -90,10 +94,10 @@ module _ (object : Sequential (List ℕ) (List ℕ) (List ℕ)) (sizes : Sizes) 
   IsAttemptAt g p b (Ready tries) = g.since p + tries ≤ g.version
   IsAttemptAt g p b (Reading tries s copy seen) =
       IsAfter g p tries s × IfFresh g s (IsCopied g copy × HasSeen g p seen)
-  IsAttemptAt g p b (Writing tries s image seen k) =
+  IsAttemptAt g p b (Writing tries s image seen) =
       IsAfter g p tries s
       × IfFresh g s ((image ≡ g.image) × (length seen ≡ sizes.processes) × HasSeen g p seen × (in_of g p < g.announced p) × AreWhole sizes seen)
-      × IsWritten g b (with_seen object image 0 seen) k
+      × MayBeWritten g b (with_seen object image 0 seen)
   IsAttemptAt g p b (Last s loaded) =
       (buffer_in s < 2 * sizes.processes) × (g.announced p ≤ g.mark (buffer_in s) p) × AreIn g p (version_in s)
       × IsBeginning loaded (reply_of g.image p)
@@ -102,6 +106,7 @@ module _ (object : Sequential (List ℕ) (List ℕ) (List ℕ)) (sizes : Sizes) 
   pub record IsAt (g : Board) (p : ℕ) (l : Local) : Type 0 where
     pub spare : l.spare ≤ 1
     pub apart : 2 * p + l.spare ≢ g.current
+    pub held : AreHeld g p l.held
     pub call : IsCallAt g p l l.stage
     pub attempt : IsAttemptAt g p (2 * p + l.spare) l.stage
     pub ordered : IsOrdered object g.atomic.agreed g.calls_in_version g.version p l.after l.own

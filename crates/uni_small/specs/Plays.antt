@@ -2,17 +2,16 @@
 use Rattle.std.specs.Prelude.{◌≡◌, ℕ, ◌+◌, ◌-◌, ◌*◌, ◌<◌, ◌≤◌, ◌==◌, List, [], ◌∷◌, ◌++◌, Option, None, Some, if◌then◌else◌, refl}
 use Rattle.std.specs.Prelude.{length, slice_index}
 use Rattle.atomic_table.specs.Table.{Me, Step}
-use Rattle.seq_object.specs.Sequential.{Sequential}
-use Rattle.uni_small.specs.Image.{AreWidths, Image, IsReached, Meaning, counter_sizes, read_image}
-use Rattle.uni_small.specs.View.{Local, ProcessReturned, Stage, announces, at_rest, everyone, goes, brings, returns, knows}
+use Rattle.uni_small.specs.Image.{AreWidths, Image, IsReached, Meaning, counter_sizes, first_held, held_place, read_image}
+use Rattle.uni_small.specs.View.{Local, ProcessReturned, Stage, announces, at_rest, everyone, goes, brings, returns, knows, wrote}
 use Rattle.uni_small.specs.View.Stage.{Idle, Ready, Reading, Writing, Last}
-use Rattle.uni_small.specs.Board.{buffer_in, version_in}
+use Rattle.uni_small.specs.Board.{buffer_in, buffer_word, version_in}
 use Rattle.uni_small.specs.Invariant.{most_calls}
 use Rattle.uni_small.specs.declared.sizes.Sizes.{Sizes}
 use Rattle.uni_small.specs.declared.view.View.{View}
 
-abbrev pub first_view : {O : Type 0} → O → Sizes → View O
-first_view object sizes = record { marker = record {}; known = everyone sizes; object = Some object }
+abbrev pub first_view : {O : Type 0} → (meaning : O → Meaning) → O → Sizes → View O
+first_view meaning o sizes = record { marker = record {}; known = everyone sizes (first_held (meaning o).object sizes); object = Some o }
 
 -- the first process of a seat, and the others
 abbrev pub first_alone : {O : Type 0} → View O → View O
@@ -31,7 +30,7 @@ took_in v x = record v { known = record v.known { taken = v.known.taken ++ own_i
 
 abbrev pub nobody : {O : Type 0} → View O
 nobody =
-    record { marker = record {}; known = everyone (record { processes = 0; state = 0; invocation = 0; reply = 0 }); object = None }
+    record { marker = record {}; known = everyone (record { processes = 0; state = 0; invocation = 0; reply = 0 }) []; object = None }
 
 -- a seat is left with this local, and has changed in nothing else
 abbrev pub with_local : {O : Type 0} → View O → Local → View O
@@ -87,7 +86,7 @@ HasAsked step me found me' =
 abbrev pub checked : Sizes → (p made tries s : ℕ) (copy : List ℕ) (seen : List (Option (List ℕ))) (found : ℕ) → Stage
 checked sizes p made tries s copy seen found =
     if found == s
-    then (if slice_index copy p == made then Last s [] else Writing tries s (read_image sizes copy) seen 0)
+    then (if slice_index copy p == made then Last s [] else Writing tries s (read_image sizes copy) seen)
     else Ready (tries + 1)
 
 -- an image is that of a state that calls lead to, and counts no more calls than there can be; and the sizes are the object's
@@ -102,10 +101,11 @@ HasChecked meaning step me found me' =
     Goes me (checked v.sizes v.first (length v.local.own + 1) tries s copy seen found) me'
     × (found ≡ s → IsGood meaning v.sizes (read_image v.sizes copy))
 
-abbrev pub HasWritten : {O : Type 0} → Step ℕ → Me ℕ (View O) → ℕ → Me ℕ (View O) → Type 0
+-- a word of the spare buffer is x
+abbrev pub HasWritten : {O : Type 0} → Step ℕ → Me ℕ (View O) → (x : ℕ) → Me ℕ (View O) → Type 0
 HasWritten step me x me' =
-    (tries s : ℕ) (image : Image) (seen : List (Option (List ℕ))) (k : ℕ) → stage_of me ≡ Writing tries s image seen k
-    → Goes me (Writing tries s image seen (k + 1)) me'
+    let v = me.0.known in
+    (k : ℕ) → step.word ≡ buffer_word v.sizes (2 * v.first + v.local.spare) k → IsLeft me (wrote v.local (held_place v.sizes v.local.spare k) x) me'
 
 -- where the exchange finds what the attempt began with, the spare buffer is current
 abbrev pub brought : Local → (tries s new found : ℕ) → Local
@@ -113,7 +113,7 @@ brought l tries s new found = if found == s then brings l new else goes l (Ready
 
 abbrev pub HasBrought : {O : Type 0} → Step ℕ → Me ℕ (View O) → (found : ℕ) → Me ℕ (View O) → Type 0
 HasBrought step me found me' =
-    (tries s : ℕ) (image : Image) (seen : List (Option (List ℕ))) (k : ℕ) → stage_of me ≡ Writing tries s image seen k
+    (tries s : ℕ) (image : Image) (seen : List (Option (List ℕ))) → stage_of me ≡ Writing tries s image seen
     → IsLeft me (brought me.0.known.local tries s step.second found) me'
 
 abbrev pub HasTurned : {O : Type 0} → Step ℕ → Me ℕ (View O) → (s : ℕ) → Me ℕ (View O) → Type 0
@@ -138,13 +138,13 @@ HasFollowed step me s me' =
 
 -- One that fails twice: at the exchange of its first attempt S is another one, and then at the check of its second one. An attempt whose
 -- exchange finds what it began with is at its end, and so is one whose copy has the call.
-sample_misses : (brought at_rest 0 128 257 256).stage ≡ Ready 1
+sample_misses : (brought (at_rest []) 0 128 257 256).stage ≡ Ready 1
 sample_misses = refl
 
 sample_misses_again : checked (counter_sizes 2) 0 1 1 256 (0 ∷ 4 ∷ 0 ∷ 7 ∷ 9 ∷ []) (Some (5 ∷ []) ∷ None ∷ []) 384 ≡ Ready 2
 sample_misses_again = refl
 
-sample_brings : (brought at_rest 0 128 257 128).stage ≡ Last 257 []
+sample_brings : (brought (at_rest []) 0 128 257 128).stage ≡ Last 257 []
 sample_brings = refl
 
 sample_is_in : checked (counter_sizes 2) 0 1 1 256 (1 ∷ 4 ∷ 0 ∷ 7 ∷ 9 ∷ []) (None ∷ None ∷ []) 256 ≡ Last 256 []

@@ -1,5 +1,5 @@
 -- The state in the words of a table.
-use Rattle.std.specs.Prelude.{◌≡◌, ℕ, ◌+◌, ◌*◌, ◌<◌, List, length, slice_index}
+use Rattle.std.specs.Prelude.{◌≡◌, ℕ, ◌<◌, List, length, slice_index}
 use Rattle.uni_small.specs.Board.{buffer_in, buffer_word}
 use Rattle.uni_small.specs.Image.{state_place}
 use Rattle.uni_small.specs.declared.sizes.Sizes.{Sizes}

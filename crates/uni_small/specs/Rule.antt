@@ -1,7 +1,6 @@
 -- The rule of the table, by what the table is told.
-use Rattle.std.specs.Prelude.{ℕ, List}
+use Rattle.std.specs.Prelude.{ℕ}
 use Rattle.atomic_table.specs.Table.{State}
-use Rattle.seq_object.specs.Sequential.{Sequential}
 use Rattle.uni_small.specs.Image.{Meaning}
 use Rattle.uni_small.specs.Shown.{ShowsBoard}
 use Rattle.uni_small.specs.declared.view.View.{View}

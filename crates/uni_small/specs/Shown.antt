@@ -3,7 +3,6 @@ use Rattle.std.specs.Prelude.{◌≡◌, ℕ, List, [], ◌+◌, ◌*◌, ◌<�
 use mathlib.Core.Option.{some}
 use lib.ListN.{get_elem?}
 use Rattle.atomic_table.specs.Table.{State}
-use Rattle.seq_object.specs.Sequential.{Sequential}
 use Rattle.uni_small.specs.Image.{AreWidths, Meaning, buffer_words}
 use Rattle.uni_small.specs.View.{Local, Known, ProcessReturned}
 use Rattle.uni_small.specs.View.Stage.{Idle}

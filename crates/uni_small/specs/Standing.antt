@@ -1,12 +1,13 @@
 -- Where a seat stands, as its functions say it.
-use Rattle.std.specs.Prelude.{◌≡◌, ℕ, ◌+◌, ◌-◌, ◌*◌, ◌<◌, ◌≤◌, List, [], ◌∷◌, ◌++◌, Option, Some, None, length, refl, slice_index}
+use Rattle.std.specs.Prelude.{◌≡◌, ℕ, ◌+◌, ◌*◌, ◌<◌, ◌≤◌, List, [], ◌∷◌, ◌++◌, Option, Some, None, length, refl, slice_index}
 use Rattle.atomic_table.specs.Table.{Me}
 use Rattle.seq_object.specs.Sequential.{Sequential}
-use Rattle.uni_small.specs.Image.{AreWhole, Image, buffer_words, counter_sizes, spell, with_seen}
+use Rattle.uni_small.specs.Image.{AreWhole, Image, buffer_words, counter_sizes, held_place, spell, with_seen}
 use Rattle.uni_small.specs.View.{Local, Stage, returns}
 use Rattle.uni_small.specs.View.Stage.{Idle, Ready, Reading, Writing, Last}
 use Rattle.uni_small.specs.Board.{buffer_in}
 use Rattle.uni_small.specs.Plays.{IsLeft, stage_of}
+use Rattle.uni_small.specs.declared.seat.Buffers.{Buffers}
 use Rattle.uni_small.specs.declared.sizes.Sizes.{Sizes}
 use Rattle.uni_small.specs.declared.view.View.{View}
 
@@ -58,22 +59,27 @@ abbrev pub HasCopy : {O : Type 0} → Sizes → (tries s : ℕ) → (applied : L
 HasCopy sizes tries s applied me =
     (rest : List ℕ) × (stage_of me ≡ Reading tries s (applied ++ rest) []) × (length (applied ++ rest) ≡ buffer_words sizes)
 
--- it writes its image, has written k words of it, and these are the next ones
-abbrev pub HasRow : {O : Type 0} → Sequential (List ℕ) (List ℕ) (List ℕ) → (tries s k : ℕ) → (row : List ℕ) → Me ℕ (View O) → Type 0
-HasRow object tries s k row me =
-    (image : Image) × ((seen : List (Option (List ℕ))) × (stage_of me ≡ Writing tries s image seen k)
-    × ((i : ℕ) → i < length row → slice_index row i ≡ slice_index (spell (with_seen object image 0 seen)) (k + i)))
+-- it writes its image, of which these are the words from word `from` on
+abbrev pub HasRow : {O : Type 0} → Sequential (List ℕ) (List ℕ) (List ℕ) → (from : ℕ) → (row : List ℕ) → Me ℕ (View O) → Type 0
+HasRow object from row me =
+    (tries : ℕ) × (s : ℕ) × (image : Image) × (seen : List (Option (List ℕ))) × (stage_of me ≡ Writing tries s image seen)
+    × ((i : ℕ) → i < length row → slice_index row i ≡ slice_index (spell (with_seen object image 0 seen)) (from + i))
 
--- it writes its image, has written k words of it, and the next one is x
-abbrev pub IsWriting : {O : Type 0} → Sequential (List ℕ) (List ℕ) (List ℕ) → (tries s k x : ℕ) → Me ℕ (View O) → Type 0
-IsWriting object tries s k x me =
-    (image : Image) × ((seen : List (Option (List ℕ))) × (stage_of me ≡ Writing tries s image seen k)
-    × (x ≡ slice_index (spell (with_seen object image 0 seen)) k))
+-- it writes its image, of which word k is x
+abbrev pub IsWriting : {O : Type 0} → Sequential (List ℕ) (List ℕ) (List ℕ) → (k x : ℕ) → Me ℕ (View O) → Type 0
+IsWriting object k x me =
+    (tries : ℕ) × (s : ℕ) × (image : Image) × (seen : List (Option (List ℕ))) × (stage_of me ≡ Writing tries s image seen)
+    × (x ≡ slice_index (spell (with_seen object image 0 seen)) k)
 
--- it has written all of them
-abbrev pub HasWrittenAll : {O : Type 0} → Sizes → (tries s : ℕ) → Me ℕ (View O) → Type 0
-HasWrittenAll sizes tries s me =
-    (image : Image) × ((seen : List (Option (List ℕ))) × (stage_of me ≡ Writing tries s image seen (buffer_words sizes)))
+-- the spare buffer has the words of an image with what was seen applied
+abbrev pub IsWritten : Sequential (List ℕ) (List ℕ) (List ℕ) → Sizes → Local → Image → (seen : List (Option (List ℕ))) → Type 0
+IsWritten object sizes l image seen =
+    (i : ℕ) → i < buffer_words sizes → slice_index l.held (held_place sizes l.spare i) ≡ slice_index (spell (with_seen object image 0 seen)) i
+
+-- it has written all of its image
+abbrev pub HasWrittenAll : {O : Type 0} → Sequential (List ℕ) (List ℕ) (List ℕ) → Sizes → (tries s : ℕ) → Me ℕ (View O) → Type 0
+HasWrittenAll object sizes tries s me =
+    (image : Image) × ((seen : List (Option (List ℕ))) × (stage_of me ≡ Writing tries s image seen) × IsWritten object sizes (local_of me) image seen)
 
 -- the call is in, and k words of its reply are loaded
 abbrev pub IsLoading : {O : Type 0} → (s k : ℕ) → Me ℕ (View O) → Type 0
@@ -91,21 +97,25 @@ call_steps sizes =
 sample_steps : call_steps (counter_sizes 2) ≡ 38
 sample_steps = refl
 
--- after the end of an attempt whose copy was good: its image was brought in by this word, or S has changed
-abbrev pub BringEnds : {O : Type 0} → Sizes → (tries : ℕ) → Me ℕ (View O) → (ended : Option ℕ) → Me ℕ (View O) → Type 0
-BringEnds sizes tries me (Some s) me' =
-    (buffer_in s < 2 * sizes.processes)
-    × IsLeft me (record (local_of me) { stage = Last s []; spare = 1 - (local_of me).spare; steps = (local_of me).steps + (buffer_words sizes + 1) }) me'
-BringEnds sizes tries me None me' = GoesBy me (buffer_words sizes + 1) (Ready (tries + 1)) me'
+-- a seat has stored at most so many words of its spare buffer, its buffers have these words then, and it has changed in nothing else
+abbrev pub WritesWithin : {O : Type 0} → Me ℕ (View O) → (most : ℕ) → (held : List ℕ) → Me ℕ (View O) → Type 0
+WritesWithin me most held me' =
+    (words : ℕ) × (words ≤ most) × IsLeft me (record (local_of me) { held = held; steps = (local_of me).steps + words }) me'
 
--- after an attempt: the call is in, and its reply in the buffer that s names, or the attempt has failed; and which buffer is the
--- spare one
-abbrev pub AttemptEnds : {O : Type 0} → Sizes → (tries : ℕ) → Me ℕ (View O) → (ended : Option ℕ) → (spare : ℕ) → Me ℕ (View O) → Type 0
-AttemptEnds sizes tries me (Some s) spare me' =
-    (words : ℕ) × (words ≤ attempt_steps sizes) × (buffer_in s < 2 * sizes.processes)
-    × IsLeft me (record (local_of me) { stage = Last s []; spare = spare; steps = (local_of me).steps + words }) me'
-AttemptEnds sizes tries me None spare me' =
-    GoesWithin me (attempt_steps sizes) (Ready (tries + 1)) me' × ((local_of me).spare ≡ spare)
+-- where an attempt ends: the call is in, and its reply in the buffer that a word names, or the attempt has failed
+abbrev pub end_of : (tries : ℕ) → (ended : Option ℕ) → Stage
+end_of tries (Some s) = Last s []
+end_of tries None = Ready (tries + 1)
+
+abbrev pub IsEnd : Sizes → (ended : Option ℕ) → Type 0
+IsEnd sizes (Some s) = buffer_in s < 2 * sizes.processes
+IsEnd sizes None = Unit {0}
+
+-- after at most so many word steps an attempt has ended, and these are the process's buffers
+abbrev pub EndsWithin : {O : Type 0} → Sizes → (most tries : ℕ) → Me ℕ (View O) → (ended : Option ℕ) → Buffers → Me ℕ (View O) → Type 0
+EndsWithin sizes most tries me ended own me' =
+    (words : ℕ) × (words ≤ most) × IsEnd sizes ended
+    × IsLeft me (record (local_of me) { stage = end_of tries ended; spare = own.spare; held = own.held.items; steps = (local_of me).steps + words }) me'
 
 -- a reply of so many words is loaded from the buffer that s names, and its call has returned
 abbrev pub ReplyEnds : {O : Type 0} → Me ℕ (View O) → (s : ℕ) → (reply : List ℕ) → (words : ℕ) → Me ℕ (View O) → Type 0
@@ -113,14 +123,15 @@ ReplyEnds me s reply words me' =
     IsLeft me (record (returns (local_of me) s reply) { steps = (local_of me).steps + words }) me'
 
 -- a call has returned with this reply, and is in this version, which is greater than the one that it comes after
-abbrev pub CallEnds : {O : Type 0} → Sizes → Me ℕ (View O) → (inv reply : List ℕ) → (version spare : ℕ) → Me ℕ (View O) → Type 0
-CallEnds sizes me inv reply version spare me' =
+abbrev pub CallEnds : {O : Type 0} → Sizes → Me ℕ (View O) → (inv reply : List ℕ) → (version : ℕ) → Buffers → Me ℕ (View O) → Type 0
+CallEnds sizes me inv reply version own me' =
     let l = local_of me in
     (words : ℕ) × (words ≤ call_steps sizes) × (l.after < version)
     × IsLeft me (record {
       stage = Idle [];
       inv = inv;
-      spare = spare;
+      spare = own.spare;
+      held = own.held.items;
       after = version;
       own = l.own ++ record { inv = inv; reply = reply; after = l.after; version = version } ∷ [];
       steps = l.steps + words;

@@ -1,5 +1,5 @@
 -- What a seat knows.
-use Rattle.std.specs.Prelude.{ℕ, ◌+◌, ◌-◌, List, [], ◌∷◌, ◌++◌, Option}
+use Rattle.std.specs.Prelude.{ℕ, ◌+◌, ◌-◌, List, [], ◌∷◌, ◌++◌, Option, slice_set}
 use Rattle.uni_small.specs.Image.{Image}
 use Rattle.uni_small.specs.Board.{version_in}
 use Rattle.uni_small.specs.declared.sizes.Sizes.{Sizes}
@@ -31,17 +31,18 @@ pub data Stage : Type 0 where
   Ready : (tries : ℕ) → Stage
   -- the words of the buffer are copied, and then the announcements are looked at, and the words of invocations that aren't in
   Reading : (tries s : ℕ) → (copy : List ℕ) → (seen : List (Option (List ℕ))) → Stage
-  -- the copy was good; with what was seen applied, it is written, and k words of it are
-  Writing : (tries s : ℕ) → Image → (seen : List (Option (List ℕ))) → (k : ℕ) → Stage
+  -- the copy was good; with what was seen applied, it is written to the spare buffer, where a word differs
+  Writing : (tries s : ℕ) → Image → (seen : List (Option (List ℕ))) → Stage
   -- the call is in, its reply is in the buffer that s names, and these words of it are loaded
   Last : (s : ℕ) → (loaded : List ℕ) → Stage
 
--- of one process: its stage, the invocation of its latest call, which of its buffers is its spare one, the version that its next calls
--- come after, its calls that have returned, and how many word steps it has taken
+-- of one process: its stage, the invocation of its latest call, which of its buffers is its spare one, the words of both, the version that
+-- its next calls come after, its calls that have returned, and how many word steps it has taken
 pub record Local : Type 0 where
   pub stage : Stage
   pub inv : List ℕ
   pub spare : ℕ
+  pub held : List ℕ
   pub after : ℕ
   pub own : List Returned
   pub steps : ℕ
@@ -55,11 +56,11 @@ pub record Known : Type 0 where
   pub local : Local
   pub taken : List ProcessReturned
 
-abbrev pub at_rest : Local
-at_rest = record { stage = Idle []; inv = []; spare = 1; after = 0; own = []; steps = 0 }
+abbrev pub at_rest : (held : List ℕ) → Local
+at_rest held = record { stage = Idle []; inv = []; spare = 1; held = held; after = 0; own = []; steps = 0 }
 
-abbrev pub everyone : Sizes → Known
-everyone sizes = record { sizes = sizes; first = 0; count = sizes.processes; local = at_rest; taken = [] }
+abbrev pub everyone : Sizes → (held : List ℕ) → Known
+everyone sizes held = record { sizes = sizes; first = 0; count = sizes.processes; local = at_rest held; taken = [] }
 
 -- the process after a step, at its next stage
 abbrev pub goes : Local → Stage → Local
@@ -68,6 +69,10 @@ goes l stage = record l { stage = stage; steps = l.steps + 1 }
 -- after it has announced its next call, of this invocation
 abbrev pub announces : Local → (inv : List ℕ) → Local
 announces l inv = record l { stage = Ready 0; inv = inv; steps = l.steps + 1 }
+
+-- after it has stored x, which is there then among the words of its buffers
+abbrev pub wrote : Local → (place x : ℕ) → Local
+wrote l place x = record l { held = slice_set l.held place x; steps = l.steps + 1 }
 
 -- after it has brought in its spare buffer, by this word
 abbrev pub brings : Local → (s : ℕ) → Local

@@ -7,12 +7,13 @@ ghost use Rattle.uni_small.specs.Plays.{stage_of};
 ghost use Rattle.uni_small.specs.View.Stage.{Last};
 ghost use Rattle.uni_small.specs.Board.{buffer_in, version_in};
 ghost use Rattle.uni_small.specs.Standing.{CallEnds, GoesBy, IsOf, ReplyEnds, call_steps, local_of};
-ghost use Rattle.uni_small.specs.Belongs.{IsSeatOf, HasRoom, calls_made, calls_of, own_calls, process_of};
-ghost use Rattle.uni_small.specs.Belongs.{invocation_width_of, reply_width_of, sizes_of, taken_calls, version_of, word_steps_of};
+ghost use Rattle.uni_small.specs.Belongs.{AreBuffers, IsSeatOf, HasRoom, calls_made, calls_of, own_calls, process_of};
+ghost use Rattle.uni_small.specs.Belongs.{invocation_width_of, reply_width_of, sizes_of, taken_calls, version_of};
+ghost use Rattle.uni_small.specs.Belongs.{word_steps_of};
 
 use crate::log::SmallShared;
 use crate::object::SmallObject;
-use crate::seat::{Room, SmallSeat};
+use crate::seat::{Buffers, Room, SmallSeat};
 use crate::view::View;
 use atomic_table::Seat;
 
@@ -65,7 +66,7 @@ impl<O: SmallObject> SmallShared<O> {
         seat: &mut Seat<u8, View<O>>,
         p: u64,
         number: u64,
-        spare: &mut u64,
+        own: &mut Buffers,
         room: &mut Room,
         invocation: &[u64],
         reply: &mut [u64],
@@ -77,19 +78,19 @@ impl<O: SmallObject> SmallShared<O> {
         requires of { IsOf self.now.setup.object self.now.setup.sizes p seat.old.me }
         requires stage { stage_of seat.old.me ≡ Idle [] }
         requires number { (number ≡ length (local_of seat.old.me).own + 1) × (number ≤ most_calls) }
-        requires spare { ((local_of seat.old.me).spare ≡ spare.old) × (spare.old ≤ 1) }
+        requires own { AreBuffers self.now.setup.sizes (local_of seat.old.me) own.old }
         requires room { HasRoom self.now.setup.sizes room.old }
         ensures same { (seat.new.table_id ≡ seat.old.table_id) × (seat.new.id ≡ seat.old.id) }
-        ensures ends { CallEnds self.now.setup.sizes seat.old.me invocation.now reply.new result spare.new seat.new.me }
-        ensures spare { spare.new ≤ 1 }
+        ensures ends { CallEnds self.now.setup.sizes seat.old.me invocation.now reply.new result own.new seat.new.me }
+        ensures own { AreBuffers self.now.setup.sizes (local_of seat.new.me) own.new }
         ensures room { HasRoom self.now.setup.sizes room.new }
     {
         self.store_argument(seat, p, invocation);
         self.announce(seat, p, number);
-        if let Some(s) = self.attempt(seat, p, number, 0, spare, room) {
+        if let Some(s) = self.attempt(seat, p, number, 0, own, room) {
             return self.load_reply(seat, p, s, reply);
         }
-        if let Some(s) = self.attempt(seat, p, number, 1, spare, room) {
+        if let Some(s) = self.attempt(seat, p, number, 1, own, room) {
             return self.load_reply(seat, p, s, reply);
         }
         let s = self.turn(seat, p, 2);
@@ -143,7 +144,7 @@ impl<O: SmallObject> SmallSeat<O> {
             &mut self.seat,
             self.p,
             self.made + 1,
-            &mut self.spare,
+            &mut self.own,
             &mut self.room,
             invocation,
             reply,

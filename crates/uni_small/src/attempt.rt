@@ -1,17 +1,19 @@
 //! An attempt at a call: copy the current buffer, apply what was announced, and bring the copy in.
-ghost use Rattle.std.specs.Prelude.{All, List, Option, Some, [], ℕ, ◌*◌, ◌+◌, ◌++◌, ◌<◌, ◌≡◌, ◌≤◌, ◌∷◌, length, map, slice_index};
-ghost use Rattle.uni_small.specs.Image.{AreWidths, Image, IsReached, buffer_words, spell, with_seen};
+ghost use Rattle.std.specs.Prelude.{ℕ, ◌*◌, ◌+◌, ◌++◌, ◌<◌, ◌≡◌, ◌≤◌};
+ghost use Rattle.std.specs.Prelude.{All, List, Option, Some, [], ◌∷◌, length, map, slice_index};
+ghost use Rattle.uni_small.specs.Image.{AreWidths, IsReached, buffer_words, held_place, spell, with_row, with_seen};
 ghost use Rattle.uni_small.specs.View.Stage.{Ready, Reading, Writing};
 ghost use Rattle.uni_small.specs.Board.{buffer_in};
 ghost use Rattle.uni_small.specs.Invariant.{most_calls};
 ghost use Rattle.uni_small.specs.Plays.{stage_of, IsNamed, IsGood};
 ghost use Rattle.uni_small.specs.Standing.{GoesBy, GoesWithin, IsAsking, IsCopying, IsLooking, IsOf};
-ghost use Rattle.uni_small.specs.Standing.{HasCopy, HasRow, local_of, AttemptEnds, BringEnds};
-ghost use Rattle.uni_small.specs.Belongs.{HasInvocation, HasRoom, all_seen, image_in, image_of_rows, seen_in};
+ghost use Rattle.uni_small.specs.Standing.{EndsWithin, HasCopy, HasRow, WritesWithin, attempt_steps, local_of};
+ghost use Rattle.uni_small.specs.Belongs.{AreBuffers, HasInvocation, HasRoom};
+ghost use Rattle.uni_small.specs.Belongs.{all_seen, image_in, image_of_rows, seen_in};
 
 use crate::log::SmallShared;
 use crate::object::SmallObject;
-use crate::seat::{Room, Seen};
+use crate::seat::{Buffers, Room, Seen};
 use crate::view::View;
 use atomic_table::Seat;
 
@@ -184,14 +186,12 @@ impl<O: SmallObject> SmallShared<O> {
         }
     }
 
-    /// Writes a row of the spare buffer, from its word `from` on.
+    /// Writes a row of the spare buffer, from its word `from` on: it stores the words that differ.
     fn write_row(
         &self,
         seat: &mut Seat<u8, View<O>>,
         p: u64,
-        tries: u64,
-        s: u64,
-        spare: u64,
+        own: &mut Buffers,
         from: u64,
         row: &[u64],
     )
@@ -199,14 +199,22 @@ impl<O: SmallObject> SmallShared<O> {
         requires inside { (p < self.now.setup.sizes.processes)
             × (from + length row.now ≤ buffer_words self.now.setup.sizes) }
         requires of { IsOf self.now.setup.object self.now.setup.sizes p seat.old.me }
-        requires stage { HasRow (O.meaning self.now.setup.object).object tries s from row.now seat.old.me }
-        requires spare { ((local_of seat.old.me).spare ≡ spare) × (spare ≤ 1) }
+        requires stage { HasRow (O.meaning self.now.setup.object).object from row.now seat.old.me }
+        requires own { AreBuffers self.now.setup.sizes (local_of seat.old.me) own.old }
         ensures same { (seat.new.table_id ≡ seat.old.table_id) × (seat.new.id ≡ seat.old.id) }
-        ensures goes { (image : Image) (seen : List (Option (List ℕ))) → stage_of seat.old.me ≡ Writing tries s image seen from
-            → GoesBy seat.old.me (length row.now) (Writing tries s image seen (from + length row.now)) seat.new.me }
+        ensures goes { WritesWithin seat.old.me (length row.now) own.new.held.items seat.new.me }
+        ensures spare { own.new.spare ≡ own.old.spare }
+        ensures held { own.new.held.items
+            ≡ with_row own.old.held.items (held_place self.now.setup.sizes own.old.spare from) row.now }
     {
+        let spare = own.spare;
+        let first = spare * self.buffer_words() + from;
         for i in 0..row.len() {
-            self.write_word(seat, p, tries, s, spare, from + i as u64, row[i]);
+            let place = (first + i as u64) as usize;
+            if own.held[place] != row[i] {
+                self.write_word(seat, p, spare, from + i as u64, row[i]);
+                own.held[place] = row[i];
+            }
         }
     }
 
@@ -236,32 +244,28 @@ impl<O: SmallObject> SmallShared<O> {
     }
 
     /// Writes an image to the spare buffer.
-    fn write(
-        &self,
-        seat: &mut Seat<u8, View<O>>,
-        p: u64,
-        tries: u64,
-        s: u64,
-        spare: u64,
-        room: &Room,
-    )
+    fn write(&self, seat: &mut Seat<u8, View<O>>, p: u64, own: &mut Buffers, room: &Room)
         requires table { seat.old.table_id ≡ self.now.table.shared.table_id }
         requires inside { p < self.now.setup.sizes.processes }
         requires of { IsOf self.now.setup.object self.now.setup.sizes p seat.old.me }
-        requires stage { HasRow (O.meaning self.now.setup.object).object tries s 0 (spell (image_in self.now.setup.sizes room.now)) seat.old.me }
-        requires spare { ((local_of seat.old.me).spare ≡ spare) × (spare ≤ 1) }
+        requires stage { HasRow (O.meaning self.now.setup.object).object 0
+            (spell (image_in self.now.setup.sizes room.now)) seat.old.me }
+        requires own { AreBuffers self.now.setup.sizes (local_of seat.old.me) own.old }
         requires room { HasRoom self.now.setup.sizes room.now }
         ensures same { (seat.new.table_id ≡ seat.old.table_id) × (seat.new.id ≡ seat.old.id) }
-        ensures goes { (image : Image) (seen : List (Option (List ℕ))) → stage_of seat.old.me ≡ Writing tries s image seen 0
-            → GoesBy seat.old.me (buffer_words self.now.setup.sizes)
-            (Writing tries s image seen (buffer_words self.now.setup.sizes)) seat.new.me }
+        ensures goes { WritesWithin seat.old.me (buffer_words self.now.setup.sizes) own.new.held.items seat.new.me }
+        ensures spare { own.new.spare ≡ own.old.spare }
+        ensures long { length own.new.held.items ≡ length own.old.held.items }
+        ensures held { (i : ℕ) → i < buffer_words self.now.setup.sizes
+            → slice_index own.new.held.items (held_place self.now.setup.sizes own.old.spare i)
+            ≡ slice_index (spell (image_in self.now.setup.sizes room.now)) i }
     {
         let sizes = &self.setup.sizes;
         let n = sizes.processes;
         let at_state = n + n * sizes.reply;
-        self.write_row(seat, p, tries, s, spare, 0, &room.applied);
-        self.write_row(seat, p, tries, s, spare, n, &room.reply);
-        self.write_row(seat, p, tries, s, spare, at_state, &room.state);
+        self.write_row(seat, p, own, 0, &room.applied);
+        self.write_row(seat, p, own, n, &room.reply);
+        self.write_row(seat, p, own, at_state, &room.state);
     }
 
     /// Ends an attempt whose copy was good: applies what was seen to the copy, writes it to the spare
@@ -272,19 +276,23 @@ impl<O: SmallObject> SmallShared<O> {
         p: u64,
         tries: u64,
         s: u64,
-        spare: u64,
+        own: &mut Buffers,
         room: &mut Room,
     ) -> Option<u64>
         requires table { seat.old.table_id ≡ self.now.table.shared.table_id }
         requires inside { p < self.now.setup.sizes.processes }
         requires of { IsOf self.now.setup.object self.now.setup.sizes p seat.old.me }
-        requires stage { stage_of seat.old.me ≡ Writing tries s (image_in self.now.setup.sizes room.old) (all_seen room.old) 0 }
+        requires stage { stage_of seat.old.me
+            ≡ Writing tries s (image_in self.now.setup.sizes room.old) (all_seen room.old) }
         requires named { IsNamed self.now.setup.sizes s }
-        requires good { IsGood (O.meaning self.now.setup.object) self.now.setup.sizes (image_in self.now.setup.sizes room.old) }
-        requires spare { ((local_of seat.old.me).spare ≡ spare) × (spare ≤ 1) }
+        requires good { IsGood (O.meaning self.now.setup.object) self.now.setup.sizes
+            (image_in self.now.setup.sizes room.old) }
+        requires own { AreBuffers self.now.setup.sizes (local_of seat.old.me) own.old }
         requires room { HasRoom self.now.setup.sizes room.old }
         ensures same { (seat.new.table_id ≡ seat.old.table_id) × (seat.new.id ≡ seat.old.id) }
-        ensures ends { BringEnds self.now.setup.sizes tries seat.old.me result seat.new.me }
+        ensures ends { EndsWithin self.now.setup.sizes (buffer_words self.now.setup.sizes + 1) tries
+            seat.old.me result own.new seat.new.me }
+        ensures own { AreBuffers self.now.setup.sizes (local_of seat.new.me) own.new }
         ensures room { HasRoom self.now.setup.sizes room.new }
     {
         self.apply_seen(
@@ -293,10 +301,14 @@ impl<O: SmallObject> SmallShared<O> {
             &mut room.state,
             &room.seen,
         );
-        self.write(seat, p, tries, s, spare, room);
-        let new = 128 * (s / 128 + 1) + (2 * p + spare);
-        let found = self.bring_in(seat, p, tries, s, spare, new);
-        if found == s { Some(new) } else { None }
+        self.write(seat, p, own, room);
+        let new = 128 * (s / 128 + 1) + (2 * p + own.spare);
+        let found = self.bring_in(seat, p, tries, s, own.spare, new);
+        if found != s {
+            return None;
+        }
+        own.spare = 1 - own.spare;
+        Some(new)
     }
 
     /// An attempt at the call of this number: the word that names a buffer in which the call is, or
@@ -307,7 +319,7 @@ impl<O: SmallObject> SmallShared<O> {
         p: u64,
         number: u64,
         tries: u64,
-        spare: &mut u64,
+        own: &mut Buffers,
         room: &mut Room,
     ) -> Option<u64>
         requires table { seat.old.table_id ≡ self.now.table.shared.table_id }
@@ -315,12 +327,12 @@ impl<O: SmallObject> SmallShared<O> {
         requires of { IsOf self.now.setup.object self.now.setup.sizes p seat.old.me }
         requires stage { stage_of seat.old.me ≡ Ready tries }
         requires number { number ≡ length (local_of seat.old.me).own + 1 }
-        requires spare { ((local_of seat.old.me).spare ≡ spare.old) × (spare.old ≤ 1) }
+        requires own { AreBuffers self.now.setup.sizes (local_of seat.old.me) own.old }
         requires room { HasRoom self.now.setup.sizes room.old }
         ensures same { (seat.new.table_id ≡ seat.old.table_id) × (seat.new.id ≡ seat.old.id) }
-        ensures ends { AttemptEnds self.now.setup.sizes tries
-            seat.old.me result spare.new seat.new.me }
-        ensures spare { spare.new ≤ 1 }
+        ensures ends { EndsWithin self.now.setup.sizes (attempt_steps self.now.setup.sizes) tries
+            seat.old.me result own.new seat.new.me }
+        ensures own { AreBuffers self.now.setup.sizes (local_of seat.new.me) own.new }
         ensures room { HasRoom self.now.setup.sizes room.new }
     {
         let s = self.gather(seat, p, tries, room);
@@ -331,10 +343,6 @@ impl<O: SmallObject> SmallShared<O> {
         if room.applied[p as usize] == number {
             return Some(s);
         }
-        let brought = self.bring(seat, p, tries, s, *spare, room);
-        if brought.is_some() {
-            *spare = 1 - *spare;
-        }
-        brought
+        self.bring(seat, p, tries, s, own, room)
     }
 }

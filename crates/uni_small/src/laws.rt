@@ -14,7 +14,8 @@ ghost use Rattle.uni_small.specs.Plays.{HasAnnounced, HasAsked, HasBrought, HasC
 ghost use Rattle.uni_small.specs.Plays.{HasFollowed, HasLooked, HasReplied, HasStarted, HasStored};
 ghost use Rattle.uni_small.specs.Plays.{HasTurned, HasWritten, stage_of};
 ghost use Rattle.uni_small.specs.Shown.{IsShown};
-ghost use Rattle.uni_small.specs.Standing.{IsAsking, IsCopying, IsLoading, IsLooking, IsStoring, IsWriting, local_of};
+ghost use Rattle.uni_small.specs.Standing.{IsAsking, IsCopying, IsLoading, IsLooking, IsStoring, IsWriting, IsWritten};
+ghost use Rattle.uni_small.specs.Standing.{local_of};
 ghost use Rattle.uni_small.specs.declared.sizes.Sizes.{Sizes};
 ghost use Rattle.uni_small.specs.declared.view.View.{View};
 
@@ -22,7 +23,8 @@ use crate::object::SmallObject;
 
 /// The store of an announcement begins a call: the history has its invocation more.
 pub fn announcement_invokes<O: SmallObject>()
-    ensures { (o : O) (sizes : Sizes) (id number : ℕ) (inv : List ℕ) (st : Step ℕ) (me : Me ℕ (View O)) → let p = me.0.known.first in
+    ensures { (o : O) (sizes : Sizes) (id number : ℕ) (inv : List ℕ) (st : Step ℕ) (me : Me ℕ (View O)) →
+        let p = me.0.known.first in
         me.0.known.count ≡ 1 → number ≡ length (local_of me).own + 1 → number ≤ most_calls
         → stage_of me ≡ Idle inv → length inv ≡ sizes.invocation
         → Moves O.meaning o sizes id me (announce_word p) (λ x. number)
@@ -34,7 +36,8 @@ pub fn announcement_invokes<O: SmallObject>()
 pub fn exchange_linearizes<O: SmallObject>()
     ensures { (o : O) (sizes : Sizes) (id tries s : ℕ) (image : Image) (seen : List (Option (List ℕ)))
         (st : Step ℕ) (me : Me ℕ (View O)) →
-        sizes.processes ≤ 64 → me.0.known.count ≡ 1 → stage_of me ≡ Writing tries s image seen (buffer_words sizes)
+        sizes.processes ≤ 64 → me.0.known.count ≡ 1 → stage_of me ≡ Writing tries s image seen
+        → IsWritten (O.meaning o).object sizes (local_of me) image seen
         → st.second ≡ current_word (version_in s + 1) (2 * me.0.known.first + (local_of me).spare)
         → Moves O.meaning o sizes id me 0 (λ found. either (found == s) st.second found)
         (takes_effect s seen) (λ found me'. HasBrought st me found me') }
@@ -56,8 +59,9 @@ pub fn stores_append_nothing<O: SmallObject>()
         me.0.known.count ≡ 1 → IsStoring k me → k < sizes.invocation
         → Moves O.meaning o sizes id me (argument_word sizes me.0.known.first k) (λ y. x)
         nothing (λ found me'. HasStored st me x me') }
-    ensures buffer { (o : O) (sizes : Sizes) (id tries s k x : ℕ) (st : Step ℕ) (me : Me ℕ (View O)) →
-        me.0.known.count ≡ 1 → IsWriting (O.meaning o).object tries s k x me → k < buffer_words sizes
+    ensures buffer { (o : O) (sizes : Sizes) (id k x : ℕ) (st : Step ℕ) (me : Me ℕ (View O)) →
+        me.0.known.count ≡ 1 → IsWriting (O.meaning o).object k x me → k < buffer_words sizes
+        → st.word ≡ buffer_word sizes (2 * me.0.known.first + (local_of me).spare) k
         → Moves O.meaning o sizes id me
         (buffer_word sizes (2 * me.0.known.first + (local_of me).spare) k) (λ y. x)
         nothing (λ found me'. HasWritten st me x me') }
@@ -101,6 +105,7 @@ pub fn loads_append_nothing<O: SmallObject>()
 pub fn returned_has_come<O: SmallObject>()
     ensures { (o : O) (sizes : Sizes) (g : Board) (local : ℕ → Local) (seat_of : ℕ → ℕ)
         (s : State ℕ (View O)) (p k : ℕ) (call : Returned) →
-        sizes.processes ≤ 64 → IsShown sizes O.meaning o g local seat_of s → p < sizes.processes → slice_get (local p).own k ≡ Some call
+        sizes.processes ≤ 64 → IsShown sizes O.meaning o g local seat_of s → p < sizes.processes
+        → slice_get (local p).own k ≡ Some call
         → call.version ≤ version_in (slice_index s.words 0) }
 {}

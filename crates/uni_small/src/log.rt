@@ -1,6 +1,6 @@
 //! An object of several words that threads share.
 ghost use Rattle.std.specs.Prelude.{[], ◌*◌, ◌+◌, ◌<◌, ◌≡◌, IfOk, length};
-ghost use Rattle.uni_small.specs.Image.{AreWidths, buffer_words, reply_place};
+ghost use Rattle.uni_small.specs.Image.{AreWidths, buffer_words, first_image, reply_place, spell};
 ghost use Rattle.uni_small.specs.Board.{AreFew, announce_word, argument_word, buffer_in, buffer_word, words_of};
 ghost use Rattle.uni_small.specs.Plays.{first_view};
 
@@ -40,6 +40,24 @@ pub struct SmallShared<O: SmallObject> {
     pub ghost few: { AreFew setup.sizes },
 }
 
+/// The words of a buffer at the start.
+pub(crate) fn first_words<O: SmallObject>(
+    alloc: Global,
+    object: &O,
+    sizes: &Sizes,
+) -> Result<Vec<u64>, AllocError>
+    requires few { AreFew sizes.now }
+    requires wide { length (O.meaning object.now).object.initial ≡ sizes.now.state }
+    ensures { IfOk result (λ words. words.items ≡ spell (first_image (O.meaning object.now).object sizes.now)) }
+{
+    let n = sizes.processes;
+    let mut state = vec![in alloc; 0u64; sizes.state as usize]?;
+    object.start(&mut state);
+    let mut words = vec![in alloc; 0u64; (n + n * sizes.reply) as usize]?;
+    words.extend_from_slice(&state)?;
+    Ok(words)
+}
+
 impl<O: SmallObject> SmallShared<O> {
     /// An object of these sizes, and the seat of all its processes.
     pub(crate) fn with_one_seat(
@@ -51,18 +69,15 @@ impl<O: SmallObject> SmallShared<O> {
         requires widths { AreWidths (O.meaning object) sizes }
         requires wide { length (O.meaning object).object.initial ≡ sizes.state }
         ensures { IfOk result (λ made. (made.0.setup ≡ record { object = object; sizes = sizes })
-            × (made.1.table_id ≡ made.0.table.shared.table_id) × (made.1.me ≡ (first_view object sizes, []))) }
+            × (made.1.table_id ≡ made.0.table.shared.table_id)
+            × (made.1.me ≡ (first_view O.meaning object sizes, []))) }
     {
         let n = sizes.processes;
-        let buffer = n + n * sizes.reply + sizes.state;
-        let first = 1 + n + n * sizes.invocation + (n + n * sizes.reply);
-        let rest = 1 + n + n * sizes.invocation + 2 * n * buffer - (first + sizes.state);
-        let mut state = vec![in alloc; 0u64; sizes.state as usize]?;
-        object.start(&mut state);
-        let mut words = vec![in alloc; 0u64; first as usize]?;
-        words.extend_from_slice(&state)?;
-        let zeros = vec![in alloc; 0u64; rest as usize]?;
-        words.extend_from_slice(&zeros)?;
+        let first = first_words(alloc, &object, &sizes)?;
+        let mut words = vec![in alloc; 0u64; (1 + n + n * sizes.invocation) as usize]?;
+        for _ in 0..2 * n {
+            words.extend_from_slice(&first)?;
+        }
         let setup = Setup { object, sizes };
         let (table, seat) = Table::of_words(alloc, &words, &setup)?;
         Ok((SmallShared { setup, table }, seat))
@@ -85,6 +100,15 @@ impl<O: SmallObject> SmallShared<O> {
         (1 + sizes.processes + (p * sizes.invocation + k)) as usize
     }
 
+    /// How many words a buffer has.
+    pub(crate) fn buffer_words(&self) -> u64
+        ensures { result ≡ buffer_words self.now.setup.sizes }
+    {
+        let sizes = &self.setup.sizes;
+        let n = sizes.processes;
+        n + n * sizes.reply + sizes.state
+    }
+
     /// A word of a buffer.
     pub(crate) fn buffer_word(&self, b: u64, i: u64) -> usize
         requires { (b < 2 * self.now.setup.sizes.processes) × (i < buffer_words self.now.setup.sizes) }
@@ -92,8 +116,7 @@ impl<O: SmallObject> SmallShared<O> {
     {
         let sizes = &self.setup.sizes;
         let n = sizes.processes;
-        let buffer = n + n * sizes.reply + sizes.state;
-        (1 + n + n * sizes.invocation + b * buffer + i) as usize
+        (1 + n + n * sizes.invocation + b * self.buffer_words() + i) as usize
     }
 
     /// A word of the reply to process p in the buffer that s names.

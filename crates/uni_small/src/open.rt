@@ -3,12 +3,15 @@ ghost use Rattle.std.specs.Prelude.{All, IfOk, IsErrOf, [], ◌<◌, ◌≡◌, 
 ghost use Rattle.uni_small.specs.Plays.{first_view};
 ghost use Rattle.uni_small.specs.Board.{AreFew};
 ghost use Rattle.uni_small.specs.TooWide.{IsTooWide};
-ghost use Rattle.uni_small.specs.Belongs.{AreFirstSeats, HasInvocation, HasRoom, IsSeatOf, object_of, sizes_of};
+ghost use Rattle.uni_small.specs.Image.{first_held};
+ghost use Rattle.uni_small.specs.View.{at_rest};
+ghost use Rattle.uni_small.specs.Belongs.{AreBuffers, AreFirstSeats, HasInvocation, HasRoom, IsSeatOf};
+ghost use Rattle.uni_small.specs.Belongs.{object_of, sizes_of};
 
-use crate::log::{MAX_PROCESSES, SmallOpenFault, SmallShared};
+use crate::log::{MAX_PROCESSES, SmallOpenFault, SmallShared, first_words};
 use crate::object::SmallObject;
 use crate::rule::First;
-use crate::seat::{Room, Seen, SmallSeat};
+use crate::seat::{Buffers, Room, Seen, SmallSeat};
 use crate::sizes::Sizes;
 use crate::view::View;
 use atomic_table::Seat;
@@ -44,11 +47,25 @@ fn room(alloc: Global, sizes: &Sizes) -> Result<Room, AllocError>
     })
 }
 
+/// What a process knows of its buffers, which have the start state.
+fn buffers<O: SmallObject>(alloc: Global, object: &O, sizes: &Sizes) -> Result<Buffers, AllocError>
+    requires few { AreFew sizes.now }
+    requires wide { length (O.meaning object.now).object.initial ≡ sizes.now.state }
+    ensures { IfOk result (λ own.
+        AreBuffers sizes.now (at_rest (first_held (O.meaning object.now).object sizes.now)) own) }
+{
+    let first = first_words(alloc, object, sizes)?;
+    let mut held = first_words(alloc, object, sizes)?;
+    held.extend_from_slice(&first)?;
+    Ok(Buffers { spare: 1, held })
+}
+
 impl<O: SmallObject> SmallShared<O> {
     /// Cuts the seat of all processes into one for each.
     fn seats(&self, alloc: Global, all: Seat<u8, View<O>>) -> Result<Vec<SmallSeat<O>>, AllocError>
         requires table { all.table_id ≡ self.now.table.shared.table_id }
-        requires all { all.me ≡ (first_view self.now.setup.object self.now.setup.sizes, []) }
+        requires wide { length (O.meaning self.now.setup.object).object.initial ≡ self.now.setup.sizes.state }
+        requires all { all.me ≡ (first_view O.meaning self.now.setup.object self.now.setup.sizes, []) }
         ensures first { IfOk result (λ seats. AreFirstSeats self.now self.now.setup.sizes.processes seats.items) }
         ensures own { IfOk result (λ seats. All (IsSeatOf self.now) seats.items) }
     {
@@ -58,21 +75,23 @@ impl<O: SmallObject> SmallShared<O> {
         let mut seats = Vec::new(alloc);
         for p in 0..n - 1 {
             let room = room(alloc, sizes)?;
+            let own = buffers(alloc, &self.setup.object, sizes)?;
             let seat = self.table.shared.split_seat::<First>(&mut rest);
             seats.push(SmallSeat {
                 seat,
                 p,
                 made: 0,
-                spare: 1,
+                own,
                 room,
             })?;
         }
         let room = room(alloc, sizes)?;
+        let own = buffers(alloc, &self.setup.object, sizes)?;
         seats.push(SmallSeat {
             seat: rest,
             p: n - 1,
             made: 0,
-            spare: 1,
+            own,
             room,
         })?;
         Ok(seats)

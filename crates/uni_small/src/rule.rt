@@ -24,7 +24,7 @@ impl<O: SmallObject> TableRule<u8, View<O>, Setup<O>> for Boards<O> {
 
     ghost holds = { λ key. ShowsBoard O.meaning key.object key.sizes };
 
-    ghost first = { λ key. first_view key.object key.sizes };
+    ghost first = { λ key. first_view O.meaning key.object key.sizes };
 }
 
 /// The store of a word of an invocation.

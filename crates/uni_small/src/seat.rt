@@ -22,15 +22,23 @@ pub(crate) struct Room {
     pub seen: Vec<Seen>,
 }
 
+/// What the two buffers of a process hold, one after the other, which only the process writes, and which one
+/// is its spare one: 0 or 1.
+#[derive(Drop)]
+pub(crate) struct Buffers {
+    pub spare: u64,
+    pub held: Vec<u64>,
+}
+
 /// A process's place at the object.
 #[derive(Drop)]
 pub struct SmallSeat<O> {
     pub(crate) seat: Seat<u8, View<O>>,
     pub(crate) p: u64,
     pub(crate) made: u64,
-    pub(crate) spare: u64,
+    pub(crate) own: Buffers,
     pub(crate) room: Room,
     pub ghost stands: { (seat.me.0.known.first ≡ p) × (seat.me.0.known.count ≡ 1) × (seat.me.1 ≡ []) },
-    pub ghost local: { (seat.me.0.known.local.stage ≡ Idle []) × (seat.me.0.known.local.spare ≡ spare) × (spare ≤ 1) },
+    pub ghost idle: { seat.me.0.known.local.stage ≡ Idle [] },
     pub ghost counted: { (length seat.me.0.known.local.own ≡ made) × (made ≤ most_calls) },
 }

@@ -1,8 +1,8 @@
 //! The word steps, each one function.
 ghost use Rattle.std.specs.Prelude.{◌≡◌, ℕ, ◌+◌, ◌*◌, ◌<◌, ◌≤◌, ◌==◌, List, [], ◌∷◌, ◌++◌, Option, Some, None};
 ghost use Rattle.std.specs.Prelude.{if◌then◌else◌, length, slice_index};
-ghost use Rattle.uni_small.specs.Image.{Image, HasRows, buffer_words, spell, with_seen, read_image};
-ghost use Rattle.uni_small.specs.View.{announces, brings, goes, knows, returns};
+ghost use Rattle.uni_small.specs.Image.{HasRows, buffer_words, held_place, spell, with_seen, read_image};
+ghost use Rattle.uni_small.specs.View.{announces, brings, goes, knows, returns, wrote};
 ghost use Rattle.uni_small.specs.View.Stage.{Idle, Last, Reading, Ready, Writing};
 ghost use Rattle.uni_small.specs.Board.{buffer_in, current_word, version_in};
 ghost use Rattle.uni_small.specs.Invariant.{most_calls};
@@ -101,7 +101,8 @@ impl<O: SmallObject> SmallShared<O> {
         requires of { IsOf self.now.setup.object self.now.setup.sizes p seat.old.me }
         requires stage { IsLooking self.now.setup.sizes tries s r seat.old.me }
         ensures same { (seat.new.table_id ≡ seat.old.table_id) × (seat.new.id ≡ seat.old.id) }
-        ensures left { (copy : List ℕ) (seen : List (Option (List ℕ))) → stage_of seat.old.me ≡ Reading tries s copy seen
+        ensures left { (copy : List ℕ) (seen : List (Option (List ℕ)))
+            → stage_of seat.old.me ≡ Reading tries s copy seen
             → Goes seat.old.me (Reading tries s copy (seen ++ looked copy (length seen) result ∷ [])) seat.new.me }
     {
         self.table.shared.load::<Looks>(seat, self.announce_word(r))
@@ -140,7 +141,8 @@ impl<O: SmallObject> SmallShared<O> {
         requires stage { IsLooking self.now.setup.sizes tries s self.now.setup.sizes.processes seat.old.me }
         requires named { buffer_in s < 2 * self.now.setup.sizes.processes }
         ensures same { (seat.new.table_id ≡ seat.old.table_id) × (seat.new.id ≡ seat.old.id) }
-        ensures left { (copy : List ℕ) (seen : List (Option (List ℕ))) → stage_of seat.old.me ≡ Reading tries s copy seen
+        ensures left { (copy : List ℕ) (seen : List (Option (List ℕ)))
+            → stage_of seat.old.me ≡ Reading tries s copy seen
             → Goes seat.old.me
             (checked self.now.setup.sizes p (length (local_of seat.old.me).own + 1) tries s copy seen result)
             seat.new.me × (result ≡ s → IsGood (O.meaning self.now.setup.object) self.now.setup.sizes
@@ -154,8 +156,6 @@ impl<O: SmallObject> SmallShared<O> {
         &self,
         seat: &mut Seat<u8, View<O>>,
         p: u64,
-        tries: u64,
-        s: u64,
         spare: u64,
         i: u64,
         x: u64,
@@ -163,11 +163,11 @@ impl<O: SmallObject> SmallShared<O> {
         requires table { seat.old.table_id ≡ self.now.table.shared.table_id }
         requires inside { (p < self.now.setup.sizes.processes) × (i < buffer_words self.now.setup.sizes) }
         requires of { IsOf self.now.setup.object self.now.setup.sizes p seat.old.me }
-        requires stage { IsWriting (O.meaning self.now.setup.object).object tries s i x seat.old.me }
+        requires stage { IsWriting (O.meaning self.now.setup.object).object i x seat.old.me }
         requires spare { ((local_of seat.old.me).spare ≡ spare) × (spare ≤ 1) }
         ensures same { (seat.new.table_id ≡ seat.old.table_id) × (seat.new.id ≡ seat.old.id) }
-        ensures left { (image : Image) (seen : List (Option (List ℕ))) → stage_of seat.old.me ≡ Writing tries s image seen i
-            → Goes seat.old.me (Writing tries s image seen (i + 1)) seat.new.me }
+        ensures left { IsLeft seat.old.me
+            (wrote (local_of seat.old.me) (held_place self.now.setup.sizes spare i) x) seat.new.me }
     {
         self.table
             .shared
@@ -187,7 +187,8 @@ impl<O: SmallObject> SmallShared<O> {
         requires table { seat.old.table_id ≡ self.now.table.shared.table_id }
         requires inside { p < self.now.setup.sizes.processes }
         requires of { IsOf self.now.setup.object self.now.setup.sizes p seat.old.me }
-        requires stage { HasWrittenAll self.now.setup.sizes tries s seat.old.me }
+        requires stage { HasWrittenAll (O.meaning self.now.setup.object).object self.now.setup.sizes tries s
+            seat.old.me }
         requires spare { ((local_of seat.old.me).spare ≡ spare) × (spare ≤ 1) }
         requires word { new ≡ current_word (version_in s + 1) (2 * p + spare) }
         ensures same { (seat.new.table_id ≡ seat.old.table_id) × (seat.new.id ≡ seat.old.id) }

@@ -1,4 +1,4 @@
-use Rattle.std.proofs.Common.{arith, ◌≡◌, ◌∙◌, ◌+◌, ◌*◌, ◌-◌, ◌++◌, ◌∷◌, [], ap, refl, sym, List, ℕ, length, true}
+use Rattle.std.proofs.Common.{arith, ◌≡◌, ◌∙◌, ◌+◌, ◌*◌, ◌-◌, ◌++◌, ◌∷◌, [], ap, refl, sym, List, ℕ, length}
 use Rattle.uni_model.proofs.Appended.{state_after-append}
 use Rattle.uni_small.proofs.Images.{reached_length}
 use Rattle.uni_small.proofs.Rooms.{applied_in_room}

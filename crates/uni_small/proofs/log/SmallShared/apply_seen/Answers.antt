@@ -1,4 +1,4 @@
-use Rattle.std.proofs.Common.{arith, refl, sym, ap, suc, drop, map, ◌≡◌, ◌∙◌, ◌+◌, ◌∷◌, ◌≤◌, Option, None, List, ℕ, [], length, subst, slice_index, slice_index_or}
+use Rattle.std.proofs.Common.{arith, refl, sym, ap, drop, map, ◌≡◌, ◌∙◌, ◌+◌, ◌∷◌, ◌≤◌, Option, None, List, ℕ, [], length, subst, slice_index, slice_index_or}
 use Rattle.std.proofs.lemmas.List.{drop_all, drop_more, length-map, get_or-map}
 use Rattle.uni_small.specs.Invariant.{most_calls}
 use Rattle.uni_small.specs.Image.{Image, with_seen}

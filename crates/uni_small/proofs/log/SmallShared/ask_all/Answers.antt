@@ -1,4 +1,4 @@
-use Rattle.std.proofs.Common.{suc, arith, refl, sym, ap, ◌≡◌, ◌∙◌, ◌+◌, ◌++◌, ◌∷◌, [], List, Option, Some, ℕ, take, set, length, length-take-le, subst}
+use Rattle.std.proofs.Common.{arith, refl, sym, ap, ◌≡◌, ◌∙◌, ◌+◌, ◌++◌, ◌∷◌, [], List, Option, Some, ℕ, take, set, length, length-take-le, subst}
 use Rattle.std.proofs.Math.Seq.{take-length}
 use Rattle.std.proofs.lemmas.List.{nil_from_length, take_more_set}
 use Rattle.uni_small.specs.View.{Stage}

@@ -3,7 +3,7 @@ use Rattle.atomic_table.specs.Table.{Me}
 use Rattle.uni_small.specs.View.Stage.{Idle}
 use Rattle.uni_small.specs.declared.sizes.Sizes.{Sizes}
 use Rattle.uni_small.specs.declared.view.View.{View}
-use Rattle.uni_small.specs.Standing.{AttemptEnds, GoesBy}
+use Rattle.uni_small.specs.Standing.{EndsWithin, GoesBy, attempt_steps}
 use Rattle.uni_small.proofs.Going.{of_after, stage_after}
 use Rattle.uni_small.proofs.Ending.{ends_first, ends_second, ends_last}
 use Rattle.uni_small.proofs.log.SmallShared.call.Goals as goal
@@ -28,8 +28,8 @@ returns-in-Some-clause-ends g c =
     let me2 = c.announce.new.seat.me in
     ends_first sizes c.args.invocation.now c.load_reply.new.reply c.load_reply.result c.args.seat.now.me c.store_argument.new.seat.me me2 (stored_whole sizes c.args.seat.now.me c.store_argument.new.seat.me c.args.invocation.now c.requires.wide.0 c.store_argument.ensures.goes)
     (c.announce.ensures.left c.args.invocation.now (stage_after c.args.seat.now.me c.store_argument.new.seat.me (length c.args.invocation.now) (Idle c.args.invocation.now) c.store_argument.ensures.goes))
-    c.in-Some.s c.attempt.new.spare c.attempt.new.seat.me c.load_reply.new.seat.me
-    (subst (λ (r : Option ℕ). AttemptEnds sizes 0 me2 r c.attempt.new.spare c.attempt.new.seat.me) c.in-Some.is c.attempt.ensures.ends) (c.load_reply.ensures.left, c.load_reply.ensures.version, c.load_reply.ensures.later)
+    c.in-Some.s c.attempt.new.own c.attempt.new.seat.me c.load_reply.new.seat.me
+    (subst (λ (r : Option ℕ). EndsWithin sizes (attempt_steps sizes) 0 me2 r c.attempt.new.own c.attempt.new.seat.me) c.in-Some.is c.attempt.ensures.ends) (c.load_reply.ensures.left, c.load_reply.ensures.version, c.load_reply.ensures.later)
 
 pub returns-in-Some-attempt-clause-ends : goal.returns-in-Some-attempt-clause-ends
 returns-in-Some-attempt-clause-ends g c =
@@ -37,9 +37,9 @@ returns-in-Some-attempt-clause-ends g c =
     let me2 = c.announce.new.seat.me in
     ends_second sizes c.args.invocation.now c.load_reply-in-Some-attempt.new.reply c.load_reply-in-Some-attempt.result c.args.seat.now.me c.store_argument.new.seat.me me2 (stored_whole sizes c.args.seat.now.me c.store_argument.new.seat.me c.args.invocation.now c.requires.wide.0 c.store_argument.ensures.goes)
     (c.announce.ensures.left c.args.invocation.now (stage_after c.args.seat.now.me c.store_argument.new.seat.me (length c.args.invocation.now) (Idle c.args.invocation.now) c.store_argument.ensures.goes))
-    c.in-Some-attempt.s c.attempt.new.spare c.attempt-2.new.spare c.attempt.new.seat.me c.attempt-2.new.seat.me c.load_reply-in-Some-attempt.new.seat.me
-    (subst (λ (r : Option ℕ). AttemptEnds sizes 0 me2 r c.attempt.new.spare c.attempt.new.seat.me) c.in_default.is c.attempt.ensures.ends)
-    (subst (λ (r : Option ℕ). AttemptEnds sizes 1 c.attempt.new.seat.me r c.attempt-2.new.spare c.attempt-2.new.seat.me) c.in-Some-attempt.is c.attempt-2.ensures.ends) (c.load_reply-in-Some-attempt.ensures.left, c.load_reply-in-Some-attempt.ensures.version, c.load_reply-in-Some-attempt.ensures.later)
+    c.in-Some-attempt.s c.attempt.new.own c.attempt-2.new.own c.attempt.new.seat.me c.attempt-2.new.seat.me c.load_reply-in-Some-attempt.new.seat.me
+    (subst (λ (r : Option ℕ). EndsWithin sizes (attempt_steps sizes) 0 me2 r c.attempt.new.own c.attempt.new.seat.me) c.in_default.is c.attempt.ensures.ends)
+    (subst (λ (r : Option ℕ). EndsWithin sizes (attempt_steps sizes) 1 c.attempt.new.seat.me r c.attempt-2.new.own c.attempt-2.new.seat.me) c.in-Some-attempt.is c.attempt-2.ensures.ends) (c.load_reply-in-Some-attempt.ensures.left, c.load_reply-in-Some-attempt.ensures.version, c.load_reply-in-Some-attempt.ensures.later)
 
 pub returns-clause-ends : goal.returns-clause-ends
 returns-clause-ends g c =
@@ -47,6 +47,6 @@ returns-clause-ends g c =
     let me2 = c.announce.new.seat.me in
     ends_last sizes c.args.invocation.now c.load_reply-2.new.reply c.load_reply-2.result c.args.seat.now.me c.store_argument.new.seat.me me2 (stored_whole sizes c.args.seat.now.me c.store_argument.new.seat.me c.args.invocation.now c.requires.wide.0 c.store_argument.ensures.goes)
     (c.announce.ensures.left c.args.invocation.now (stage_after c.args.seat.now.me c.store_argument.new.seat.me (length c.args.invocation.now) (Idle c.args.invocation.now) c.store_argument.ensures.goes))
-    c.turn-s.result c.attempt.new.spare c.attempt-2.new.spare c.attempt.new.seat.me c.attempt-2.new.seat.me c.turn-s.new.seat.me c.load_reply-2.new.seat.me
-    (subst (λ (r : Option ℕ). AttemptEnds sizes 0 me2 r c.attempt.new.spare c.attempt.new.seat.me) c.in_default.is c.attempt.ensures.ends)
-    (subst (λ (r : Option ℕ). AttemptEnds sizes 1 c.attempt.new.seat.me r c.attempt-2.new.spare c.attempt-2.new.seat.me) c.in_default-attempt.is c.attempt-2.ensures.ends) c.turn-s.ensures.left (c.load_reply-2.ensures.left, c.load_reply-2.ensures.version, c.load_reply-2.ensures.later)
+    c.turn-s.result c.attempt.new.own c.attempt-2.new.own c.attempt.new.seat.me c.attempt-2.new.seat.me c.turn-s.new.seat.me c.load_reply-2.new.seat.me
+    (subst (λ (r : Option ℕ). EndsWithin sizes (attempt_steps sizes) 0 me2 r c.attempt.new.own c.attempt.new.seat.me) c.in_default.is c.attempt.ensures.ends)
+    (subst (λ (r : Option ℕ). EndsWithin sizes (attempt_steps sizes) 1 c.attempt.new.seat.me r c.attempt-2.new.own c.attempt-2.new.seat.me) c.in_default-attempt.is c.attempt-2.ensures.ends) c.turn-s.ensures.left (c.load_reply-2.ensures.left, c.load_reply-2.ensures.version, c.load_reply-2.ensures.later)

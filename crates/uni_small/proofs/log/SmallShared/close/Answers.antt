@@ -1,4 +1,4 @@
-use Rattle.std.proofs.Common.{◌≡◌, ◌∙◌, subst, sym, refl}
+use Rattle.std.proofs.Common.{◌∙◌, subst}
 use Rattle.std.specs.Mem.Slots.{slots_items}
 use Rattle.uni_small.specs.Rule.{Rule}
 use Rattle.uni_small.proofs.Closing.{closes_alone, named_inside}

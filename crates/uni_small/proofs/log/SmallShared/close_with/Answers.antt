@@ -1,4 +1,4 @@
-use Rattle.std.proofs.Common.{◌≡◌, ◌∙◌, ◌∷◌, subst, sym, refl}
+use Rattle.std.proofs.Common.{◌∙◌, ◌∷◌, subst}
 use Rattle.std.specs.Mem.Slots.{slots_items}
 use Rattle.uni_small.specs.Final.{IsFinal}
 use Rattle.uni_small.specs.Rule.{Rule}
@@ -27,5 +27,5 @@ returns g c =
     let holds = subst (λ key. Rule g.O.SmallObject.meaning key final.0) self.same final.1.0 in
     record {
       told = subst (λ p. IsFinal (g.O.SmallObject.meaning self.setup.object).object self.setup.sizes.processes (record { process = p; calls = seat.seat.me.0.known.local.own } ∷ seat.seat.me.0.known.taken) c.write_state.new.state) seat.stands.0
-          (closes_with g.O.SmallObject.meaning self.setup self.few.1 final.0 holds (slots_items c.close_with.result.words) final.2 seat.seat.id seat.seat.me.0 final.1.1 seat.stands.1 seat.local.0 c.write_state.new.state c.write_state.ensures.read);
+          (closes_with g.O.SmallObject.meaning self.setup self.few.1 final.0 holds (slots_items c.close_with.result.words) final.2 seat.seat.id seat.seat.me.0 final.1.1 seat.stands.1 seat.idle c.write_state.new.state c.write_state.ensures.read);
     }

@@ -2,7 +2,7 @@ use Rattle.std.proofs.Common.{arith, refl, sym, ap, ◌≡◌, ◌∙◌, ◌+�
 use Rattle.std.proofs.lemmas.List.{take_all, take_more_set}
 use Rattle.atomic_table.specs.Table.{Me}
 use Rattle.uni_small.specs.Board.{version_in}
-use Rattle.uni_small.specs.View.{Local, returns}
+use Rattle.uni_small.specs.View.{returns}
 use Rattle.uni_small.specs.View.Stage.{Last}
 use Rattle.uni_small.specs.Plays.{IsLeft, with_local}
 use Rattle.uni_small.specs.Standing.{GoesBy, ReplyEnds, local_of, went}

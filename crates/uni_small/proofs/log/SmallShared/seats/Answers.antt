@@ -1,8 +1,8 @@
-use Rattle.std.proofs.Common.{rules, refl, ◌+◌, ◌≡◌, ℕ, ◌-◌, arith, sym, ap, subst}
+use Rattle.std.proofs.Common.{◌∙◌, rules, refl, ◌+◌, ◌≡◌, ℕ, ◌-◌, arith, sym, ap, subst}
 use Rattle.atomic_table.specs.Table.{Me, Splits}
 use Rattle.uni_small.specs.Plays.{others, first_alone}
 use Rattle.uni_small.specs.Rule.{Rule}
-use Rattle.uni_small.specs.Belongs.{AreFirstSeats}
+use Rattle.uni_small.specs.Belongs.{AreBuffers, AreFirstSeats}
 use Rattle.uni_small.specs.declared.view.View.{View}
 use Rattle.uni_small.proofs.Seating.{all_own, one_more}
 use Rattle.uni_small.proofs.Splitting.{splits}
@@ -23,14 +23,17 @@ pub loop-p-preserved : goal.loop-p-preserved
 loop-p-preserved g c = (
   search rules,
   search rules,
-  one_more c.args.self.now c.loop-p.p c.loop-p.seats.items c.push.new.self.items _ c.loop-p.invariant.2 c.in_ok-push.ensures.items (search rules) (search rules) (search rules) (search rules) refl (search rules) (search rules) refl (search rules) (search rules),
+  one_more c.args.self.now c.loop-p.p c.loop-p.seats.items c.push.new.self.items _ c.loop-p.invariant.2 c.in_ok-push.ensures.items (search rules) (search rules) (search rules) (search rules) refl (search rules)
+      (subst (λ l. AreBuffers c.args.self.now.setup.sizes l c.in_ok-own.own)
+      (sym (ap (λ (m : Me ℕ (View _)). m.0.known.local) c.split_seat-seat.ensures.4 ∙ ap (λ (m : Me ℕ (View _)). m.0.known.local) c.loop-p.invariant.1)) c.in_ok-own.ensures) (search rules) refl (search rules) (search rules),
 )
 
 pub returns-clause-first : goal.returns-clause-first
 returns-clause-first g c =
     let whole : c.loop-p.p + 1 ≡ c.args.self.now.setup.sizes.processes = (let t = c.loop-p-test.false in let a = c.loop-p.auto.p-end in let f = c.args.self.now.few.0 in omega arith) in
     subst (λ k. AreFirstSeats c.args.self.now k c.push-2.new.self.items) whole
-    (one_more c.args.self.now c.loop-p.p c.loop-p.seats.items c.push-2.new.self.items _ c.loop-p.invariant.2 c.in_ok-push-2.ensures.items (search rules) (search rules) (search rules) (search rules) (search rules) (search rules) (search rules) refl (search rules) (search rules))
+    (one_more c.args.self.now c.loop-p.p c.loop-p.seats.items c.push-2.new.self.items _ c.loop-p.invariant.2 c.in_ok-push-2.ensures.items (search rules) (search rules) (search rules) (search rules) (search rules) (search rules)
+    (subst (λ l. AreBuffers c.args.self.now.setup.sizes l c.in_ok-own-2.own) (sym (ap (λ (m : Me ℕ (View _)). m.0.known.local) c.loop-p.invariant.1)) c.in_ok-own-2.ensures) (search rules) refl (search rules) (search rules))
 
 pub returns-clause-own : goal.returns-clause-own
 returns-clause-own g c = all_own c.args.self.now c.args.self.now.setup.sizes.processes c.push-2.new.self.items (returns-clause-first g c)

@@ -1,4 +1,5 @@
 use Rattle.std.proofs.Common.{◌≡◌, ◌-◌, [], Some}
+use Rattle.uni_small.specs.Image.{first_held}
 use Rattle.uni_small.specs.View.{at_rest}
 use Rattle.uni_small.specs.Belongs.{AreFirstSeats}
 use Rattle.uni_small.proofs.log.SmallShared.seats.Given as goal
@@ -9,7 +10,7 @@ invariant-loop-p g l =
     × (l.rest.me ≡ (
       record {
         marker = record {};
-        known = record { sizes = l.fn.self.setup.sizes; first = l.p; count = l.fn.self.setup.sizes.processes - l.p; local = at_rest; taken = [] };
+        known = record { sizes = l.fn.self.setup.sizes; first = l.p; count = l.fn.self.setup.sizes.processes - l.p; local = at_rest (first_held (g.O.SmallObject.meaning l.fn.self.setup.object).object l.fn.self.setup.sizes); taken = [] };
         object = Some l.fn.self.setup.object;
       },
       [],

@@ -1,12 +1,13 @@
-use Rattle.std.proofs.Common.{arith, sym, ap, ◌≡◌, ◌∙◌, ◌+◌, ◌*◌, ◌<◌, List, ℕ, length, slice_index}
-use Rattle.uni_small.specs.Image.{Image, HasRows, buffer_words, spell, with_seen}
-use Rattle.uni_small.specs.View.Stage.{Writing}
+use Rattle.std.proofs.Common.{arith, refl, sym, ap, ◌≡◌, ◌∙◌, ◌+◌, ◌-◌, ◌*◌, ◌<◌, ◌++◌, List, ℕ, length, slice_index}
+use Rattle.uni_small.specs.Image.{Image, buffer_words, held_place, spell, with_row, with_seen}
 use Rattle.uni_small.specs.Belongs.{HasRoom, image_in}
 use Rattle.uni_small.specs.declared.seat.Room.{Room}
-use Rattle.uni_small.proofs.Going.{goes_zero, stage_after, of_after, spare_after, wrote_more, renamed}
 use Rattle.uni_small.specs.declared.sizes.Sizes.{Sizes}
+use Rattle.uni_small.proofs.Going.{writes_stage, writes_of, writes_buffers, writes_more}
 use Rattle.uni_small.proofs.Images.{spell-applied, spell-length}
-use Rattle.uni_small.proofs.Rooms.{room_reply, room_rows, room_state}
+use Rattle.uni_small.proofs.Rooms.{room_reply, room_rows, room_spelled, room_state}
+use Rattle.uni_small.proofs.Rows.{with_row-index, with_row-length, with_rows}
+use Rattle.uni_small.proofs.Words.{held_inside}
 use Rattle.uni_small.proofs.log.SmallShared.write.Goals as goal
 
 -- the words of a row are the image's
@@ -26,88 +27,129 @@ module _ (sizes : Sizes) (room : Room) (h : HasRoom sizes room) (image : Image)
   state_row i below = room_state sizes room h i ∙ same (sizes.processes + sizes.processes * sizes.reply + i) (let l = long in omega arith)
       ∙ ap (slice_index (spell image)) (let e : 0 + (sizes.processes + sizes.processes * sizes.reply + i) ≡ sizes.processes + sizes.processes * sizes.reply + i = omega arith in e)
 
+pub write_row-requires-2-clause-of : goal.write_row-requires-2-clause-of
+write_row-requires-2-clause-of g c = writes_of c.args.seat.now.me c.write_row.new.seat.me (length c.deref.result.now) c.write_row.new.own.held.items c.write_row.ensures.goes c.requires.of
+
+pub write_row-requires-2-clause-own : goal.write_row-requires-2-clause-own
+write_row-requires-2-clause-own g c =
+    let sizes = c.args.self.now.setup.sizes in
+    let me = c.args.seat.now.me in
+    let own = c.args.own.now in
+    let room = c.args.room.now in
+    let a = c.deref.result.now in
+    let me1 = c.write_row.new.seat.me in
+    let own1 = c.write_row.new.own in
+    let long1 = ap (λ (ws : List ℕ). length ws) c.write_row.ensures.held ∙ with_row-length own.held.items (held_place sizes own.spare 0) a in
+    let are1 = writes_buffers me me1 (length a) own1.held.items c.write_row.ensures.goes sizes own own1 c.requires.own c.write_row.ensures.spare refl long1 in
+    are1
+
 pub write_row-requires-2-clause-stage : goal.write_row-requires-2-clause-stage
 write_row-requires-2-clause-stage g c =
     let object = (g.O.SmallObject.meaning c.args.self.now.setup.object).object in
     let sizes = c.args.self.now.setup.sizes in
     let me = c.args.seat.now.me in
-    let image = c.requires.stage.0 in
-    let seen = c.requires.stage.1.0 in
-    let a = c.deref.result.now in
-    let g0 = goes_zero me (Writing c.args.tries c.args.s image seen 0) c.requires.stage.1.1 in
-    let g1 = wrote_more me me c.write_row.new.seat.me 0 c.args.tries c.args.s image seen 0 a g0 c.write_row.ensures.goes in
-    let la : 0 + length a ≡ sizes.processes = (let e : length a ≡ length c.args.room.now.applied.items = ap (λ (xs : List ℕ). length xs) c.deref.ensures.value in let r = c.requires.room.applied in omega arith) in (
-      image,
-      (
-        seen,
-        stage_after me c.write_row.new.seat.me (0 + length a) (Writing c.args.tries c.args.s image seen (0 + length a)) g1 ∙ ap (λ k. Writing c.args.tries c.args.s image seen k) la,
-        (λ i below. ap (λ (xs : List ℕ). slice_index xs i) c.deref-2.ensures.value ∙ reply_row sizes c.args.room.now c.requires.room (with_seen object image 0 seen) c.requires.stage.1.2 i
-            (let e : length c.deref-2.result.now ≡ length c.args.room.now.reply.items = ap (λ (xs : List ℕ). length xs) c.deref-2.ensures.value in let r = c.requires.room.reply in omega arith)),
-      ),
+    let own = c.args.own.now in
+    let room = c.args.room.now in
+    let at = c.requires.stage in (
+      at.0,
+      at.1,
+      at.2,
+      at.3,
+      writes_stage me c.write_row.new.seat.me (length c.deref.result.now) c.write_row.new.own.held.items c.write_row.ensures.goes ∙ at.4,
+      (λ i below. ap (λ (xs : List ℕ). slice_index xs i) c.deref-2.ensures.value ∙ reply_row sizes room c.requires.room (with_seen object at.2 0 at.3) at.5 i
+          (let e : length c.deref-2.result.now ≡ length room.reply.items = ap (λ (xs : List ℕ). length xs) c.deref-2.ensures.value in let r = c.requires.room.reply in omega arith)),
     )
 
 pub write_row-requires-3-clause-of : goal.write_row-requires-3-clause-of
 write_row-requires-3-clause-of g c =
+    let first = writes_of c.args.seat.now.me c.write_row.new.seat.me (length c.deref.result.now) c.write_row.new.own.held.items c.write_row.ensures.goes c.requires.of in
+    writes_of c.write_row.new.seat.me c.write_row-2.new.seat.me (length c.deref-2.result.now) c.write_row-2.new.own.held.items c.write_row-2.ensures.goes first
+
+pub write_row-requires-3-clause-own : goal.write_row-requires-3-clause-own
+write_row-requires-3-clause-own g c =
     let sizes = c.args.self.now.setup.sizes in
     let me = c.args.seat.now.me in
-    let image = c.requires.stage.0 in
-    let seen = c.requires.stage.1.0 in
+    let own = c.args.own.now in
+    let room = c.args.room.now in
     let a = c.deref.result.now in
+    let me1 = c.write_row.new.seat.me in
+    let own1 = c.write_row.new.own in
+    let long1 = ap (λ (ws : List ℕ). length ws) c.write_row.ensures.held ∙ with_row-length own.held.items (held_place sizes own.spare 0) a in
+    let are1 = writes_buffers me me1 (length a) own1.held.items c.write_row.ensures.goes sizes own own1 c.requires.own c.write_row.ensures.spare refl long1 in
     let b = c.deref-2.result.now in
-    let la : 0 + length a ≡ sizes.processes = (let e : length a ≡ length c.args.room.now.applied.items = ap (λ (xs : List ℕ). length xs) c.deref.ensures.value in let r = c.requires.room.applied in omega arith) in
-    let g0 = goes_zero me (Writing c.args.tries c.args.s image seen 0) c.requires.stage.1.1 in
-    let g1 = renamed me c.write_row.new.seat.me c.args.tries c.args.s image seen (0 + length a) sizes.processes (0 + length a) sizes.processes la la (wrote_more me me c.write_row.new.seat.me 0 c.args.tries c.args.s image seen 0 a g0 c.write_row.ensures.goes) in
-    let g2 = wrote_more me c.write_row.new.seat.me c.write_row-2.new.seat.me sizes.processes c.args.tries c.args.s image seen sizes.processes b g1 c.write_row-2.ensures.goes in
-    of_after me c.write_row-2.new.seat.me (sizes.processes + length b) (Writing c.args.tries c.args.s image seen (sizes.processes + length b)) g2 c.requires.of
+    let me2 = c.write_row-2.new.seat.me in
+    let own2 = c.write_row-2.new.own in
+    let long2 = ap (λ (ws : List ℕ). length ws) c.write_row-2.ensures.held ∙ with_row-length own1.held.items (held_place sizes own1.spare sizes.processes) b in
+    writes_buffers me1 me2 (length b) own2.held.items c.write_row-2.ensures.goes sizes own1 own2 are1 c.write_row-2.ensures.spare refl long2
 
 pub write_row-requires-3-clause-stage : goal.write_row-requires-3-clause-stage
 write_row-requires-3-clause-stage g c =
     let object = (g.O.SmallObject.meaning c.args.self.now.setup.object).object in
     let sizes = c.args.self.now.setup.sizes in
     let me = c.args.seat.now.me in
-    let image = c.requires.stage.0 in
-    let seen = c.requires.stage.1.0 in
-    let a = c.deref.result.now in
-    let b = c.deref-2.result.now in
-    let la : 0 + length a ≡ sizes.processes = (let e : length a ≡ length c.args.room.now.applied.items = ap (λ (xs : List ℕ). length xs) c.deref.ensures.value in let r = c.requires.room.applied in omega arith) in
-    let lb : sizes.processes + length b ≡ (sizes.processes + sizes.processes * sizes.reply) = (let e : length b ≡ length c.args.room.now.reply.items = ap (λ (xs : List ℕ). length xs) c.deref-2.ensures.value in let r = c.requires.room.reply in omega arith) in
-    let g0 = goes_zero me (Writing c.args.tries c.args.s image seen 0) c.requires.stage.1.1 in
-    let g1 = renamed me c.write_row.new.seat.me c.args.tries c.args.s image seen (0 + length a) sizes.processes (0 + length a) sizes.processes la la (wrote_more me me c.write_row.new.seat.me 0 c.args.tries c.args.s image seen 0 a g0 c.write_row.ensures.goes) in
-    let g2 = wrote_more me c.write_row.new.seat.me c.write_row-2.new.seat.me sizes.processes c.args.tries c.args.s image seen sizes.processes b g1 c.write_row-2.ensures.goes in (
-      image,
-      (
-        seen,
-        stage_after me c.write_row-2.new.seat.me (sizes.processes + length b) (Writing c.args.tries c.args.s image seen (sizes.processes + length b)) g2 ∙ ap (λ k. Writing c.args.tries c.args.s image seen k) lb,
-        (λ i below. ap (λ (xs : List ℕ). slice_index xs i) c.deref-3.ensures.value ∙ state_row sizes c.args.room.now c.requires.room (with_seen object image 0 seen) c.requires.stage.1.2 i
-            (let e : length c.deref-3.result.now ≡ length c.args.room.now.state.items = ap (λ (xs : List ℕ). length xs) c.deref-3.ensures.value in let r = c.requires.room.state in omega arith)),
-      ),
+    let own = c.args.own.now in
+    let room = c.args.room.now in
+    let at = c.requires.stage in (
+      at.0,
+      at.1,
+      at.2,
+      at.3,
+      writes_stage c.write_row.new.seat.me c.write_row-2.new.seat.me (length c.deref-2.result.now) c.write_row-2.new.own.held.items c.write_row-2.ensures.goes
+          ∙ writes_stage me c.write_row.new.seat.me (length c.deref.result.now) c.write_row.new.own.held.items c.write_row.ensures.goes ∙ at.4,
+      (λ i below. ap (λ (xs : List ℕ). slice_index xs i) c.deref-3.ensures.value ∙ state_row sizes room c.requires.room (with_seen object at.2 0 at.3) at.5 i
+          (let e : length c.deref-3.result.now ≡ length room.state.items = ap (λ (xs : List ℕ). length xs) c.deref-3.ensures.value in let r = c.requires.room.state in omega arith)),
     )
 
-pub write_row-requires-3-clause-spare : goal.write_row-requires-3-clause-spare
-write_row-requires-3-clause-spare g c =
-    let sizes = c.args.self.now.setup.sizes in
-    let me = c.args.seat.now.me in
-    let image = c.requires.stage.0 in
-    let seen = c.requires.stage.1.0 in
-    let a = c.deref.result.now in
-    let b = c.deref-2.result.now in
-    let la : 0 + length a ≡ sizes.processes = (let e : length a ≡ length c.args.room.now.applied.items = ap (λ (xs : List ℕ). length xs) c.deref.ensures.value in let r = c.requires.room.applied in omega arith) in
-    let g0 = goes_zero me (Writing c.args.tries c.args.s image seen 0) c.requires.stage.1.1 in
-    let g1 = renamed me c.write_row.new.seat.me c.args.tries c.args.s image seen (0 + length a) sizes.processes (0 + length a) sizes.processes la la (wrote_more me me c.write_row.new.seat.me 0 c.args.tries c.args.s image seen 0 a g0 c.write_row.ensures.goes) in
-    let g2 = wrote_more me c.write_row.new.seat.me c.write_row-2.new.seat.me sizes.processes c.args.tries c.args.s image seen sizes.processes b g1 c.write_row-2.ensures.goes in
-    (spare_after me c.write_row-2.new.seat.me (sizes.processes + length b) (Writing c.args.tries c.args.s image seen (sizes.processes + length b)) g2 ∙ c.requires.spare.0, c.requires.spare.1)
-
 pub returns-clause-goes : goal.returns-clause-goes
-returns-clause-goes g c image seen stage =
+returns-clause-goes g c =
     let sizes = c.args.self.now.setup.sizes in
     let me = c.args.seat.now.me in
+    let own = c.args.own.now in
+    let room = c.args.room.now in
     let a = c.deref.result.now in
     let b = c.deref-2.result.now in
     let d = c.deref-3.result.now in
-    let la : 0 + length a ≡ sizes.processes = (let e : length a ≡ length c.args.room.now.applied.items = ap (λ (xs : List ℕ). length xs) c.deref.ensures.value in let r = c.requires.room.applied in omega arith) in
-    let lb : sizes.processes + length b ≡ (sizes.processes + sizes.processes * sizes.reply) = (let e : length b ≡ length c.args.room.now.reply.items = ap (λ (xs : List ℕ). length xs) c.deref-2.ensures.value in let r = c.requires.room.reply in omega arith) in
-    let ld : (sizes.processes + sizes.processes * sizes.reply) + length d ≡ buffer_words sizes = (let e : length d ≡ length c.args.room.now.state.items = ap (λ (xs : List ℕ). length xs) c.deref-3.ensures.value in let r = c.requires.room.state in omega arith) in
-    let g0 = goes_zero me (Writing c.args.tries c.args.s image seen 0) stage in
-    let g1 = renamed me c.write_row.new.seat.me c.args.tries c.args.s image seen (0 + length a) sizes.processes (0 + length a) sizes.processes la la (wrote_more me me c.write_row.new.seat.me 0 c.args.tries c.args.s image seen 0 a g0 c.write_row.ensures.goes) in
-    let g2 = renamed me c.write_row-2.new.seat.me c.args.tries c.args.s image seen (sizes.processes + length b) ((sizes.processes + sizes.processes * sizes.reply)) (sizes.processes + length b) ((sizes.processes + sizes.processes * sizes.reply)) lb lb (wrote_more me c.write_row.new.seat.me c.write_row-2.new.seat.me sizes.processes c.args.tries c.args.s image seen sizes.processes b g1 c.write_row-2.ensures.goes) in
-    renamed me c.write_row-3.new.seat.me c.args.tries c.args.s image seen ((sizes.processes + sizes.processes * sizes.reply) + length d) (buffer_words sizes) ((sizes.processes + sizes.processes * sizes.reply) + length d) (buffer_words sizes) ld ld (wrote_more me c.write_row-2.new.seat.me c.write_row-3.new.seat.me ((sizes.processes + sizes.processes * sizes.reply)) c.args.tries c.args.s image seen ((sizes.processes + sizes.processes * sizes.reply)) d g2 c.write_row-3.ensures.goes)
+    let la : length a ≡ length room.applied.items = ap (λ (xs : List ℕ). length xs) c.deref.ensures.value in
+    let lb : length b ≡ length room.reply.items = ap (λ (xs : List ℕ). length xs) c.deref-2.ensures.value in
+    let ld : length d ≡ length room.state.items = ap (λ (xs : List ℕ). length xs) c.deref-3.ensures.value in
+    let two = writes_more me c.write_row.new.seat.me (length a) c.write_row.new.own.held.items c.write_row.ensures.goes c.write_row-2.new.seat.me (length b) c.write_row-2.new.own.held.items c.write_row-2.ensures.goes in
+    let all = writes_more me c.write_row-2.new.seat.me (length a + length b) c.write_row-2.new.own.held.items two c.write_row-3.new.seat.me (length d) c.write_row-3.new.own.held.items c.write_row-3.ensures.goes in
+    (all.0, (let few = all.1 in let r = c.requires.room.applied in let q = c.requires.room.reply in let s = c.requires.room.state in omega arith), all.2)
+
+pub returns-clause-held : goal.returns-clause-held
+returns-clause-held g c =
+    let sizes = c.args.self.now.setup.sizes in
+    let me = c.args.seat.now.me in
+    let own = c.args.own.now in
+    let room = c.args.room.now in
+    let w = buffer_words sizes in
+    let a = c.deref.result.now in
+    let b = c.deref-2.result.now in
+    let d = c.deref-3.result.now in
+    let la : length a ≡ sizes.processes = ap (λ (xs : List ℕ). length xs) c.deref.ensures.value ∙ c.requires.room.applied in
+    let lb : length b ≡ sizes.processes * sizes.reply = ap (λ (xs : List ℕ). length xs) c.deref-2.ensures.value ∙ c.requires.room.reply in
+    let same1 : c.write_row.new.own.spare ≡ own.spare = c.write_row.ensures.spare in
+    let same2 : c.write_row-2.new.own.spare ≡ own.spare = c.write_row-2.ensures.spare ∙ same1 in
+    let second : held_place sizes c.write_row.new.own.spare sizes.processes ≡ own.spare * w + 0 + length a = ap (λ k. k * w + sizes.processes) same1 ∙ (let e : own.spare * w + sizes.processes ≡ own.spare * w + 0 + length a = omega arith in e) in
+    let third : held_place sizes c.write_row-2.new.own.spare (sizes.processes + sizes.processes * sizes.reply) ≡ own.spare * w + 0 + length a + length b
+    = ap (λ k. k * w + (sizes.processes + sizes.processes * sizes.reply)) same2 ∙ (let e : own.spare * w + (sizes.processes + sizes.processes * sizes.reply) ≡ own.spare * w + 0 + length a + length b = omega arith in e) in
+    let words : a ++ (b ++ d) ≡ spell (image_in sizes room) = (λ k. c.deref.ensures.value k ++ (c.deref-2.ensures.value k ++ c.deref-3.ensures.value k)) ∙ sym (room_spelled sizes room c.requires.room) in
+    let h1 = c.write_row.ensures.held in
+    let h2 = c.write_row-2.ensures.held ∙ (λ k. with_row (h1 k) (second k) b) in
+    let all = c.write_row-3.ensures.held ∙ (λ k. with_row (h2 k) (third k) d) ∙ with_rows own.held.items (own.spare * w + 0) a b d ∙ ap (with_row own.held.items (own.spare * w + 0)) words in
+    let long : length (spell (image_in sizes room)) ≡ w = spell-length sizes (image_in sizes room) (room_rows sizes room c.requires.room) in
+    λ i below.
+    let half = held_inside sizes own.spare (w - 1) c.requires.own.which (omega arith) in
+    let place : held_place sizes own.spare i ≡ own.spare * w + 0 + i = omega arith in
+    (λ k. slice_index (all k) (place k)) ∙ with_row-index own.held.items (own.spare * w + 0) (spell (image_in sizes room)) i (omega arith) (let o = c.requires.own.long in omega arith)
+
+pub returns-clause-long : goal.returns-clause-long
+returns-clause-long g c =
+    let sizes = c.args.self.now.setup.sizes in
+    let own = c.args.own.now in
+    let own1 = c.write_row.new.own in
+    let own2 = c.write_row-2.new.own in
+    let size : List ℕ → ℕ = (λ ws. length ws) in
+    ap size c.write_row-3.ensures.held ∙ with_row-length own2.held.items (held_place sizes own2.spare (sizes.processes + sizes.processes * sizes.reply)) c.deref-3.result.now
+    ∙ ap size c.write_row-2.ensures.held ∙ with_row-length own1.held.items (held_place sizes own1.spare sizes.processes) c.deref-2.result.now
+    ∙ ap size c.write_row.ensures.held ∙ with_row-length own.held.items (held_place sizes own.spare 0) c.deref.result.now

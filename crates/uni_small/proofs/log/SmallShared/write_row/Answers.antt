@@ -1,54 +1,63 @@
-use Rattle.std.proofs.Common.{arith, refl, ap, ◌≡◌, ◌∙◌, ◌+◌, List, Option, ℕ, length, subst}
-use Rattle.uni_small.specs.Image.{Image}
-use Rattle.uni_small.specs.View.{Stage}
-use Rattle.uni_small.specs.View.Stage.{Writing}
-use Rattle.uni_small.specs.Standing.{GoesBy}
-use Rattle.uni_small.proofs.Going.{goes_zero, stage_after, of_after, spare_after, goes_on}
+use Rattle.std.proofs.Common.{arith, refl, sym, ap, ◌≡◌, ◌∙◌, ◌+◌, ◌*◌, ◌<◌, List, ℕ, length, slice_index, slice_index_or, slice_set, subst, take, take_all}
+use Rattle.std.proofs.lemmas.Grind.{get_or_default_zero}
+use Rattle.atomic_table.specs.declared.shared.Seat.{Seat}
+use Rattle.uni_small.specs.declared.seat.Buffers.{Buffers}
+use Rattle.uni_small.specs.Image.{buffer_words, held_place, with_row}
+use Rattle.uni_small.specs.Standing.{WritesWithin}
+use Rattle.uni_small.proofs.Going.{add_assoc, writes_nothing, writes_one, writes_none}
+use Rattle.uni_small.proofs.Rows.{with_row-length, with_row-more, with_row-same}
+use Rattle.uni_small.proofs.Words.{held_inside}
+use Rattle.uni_small.proofs.log.SmallShared.write_row.Goals.{then-index-row, else-index-row}
 use Rattle.uni_small.proofs.log.SmallShared.write_row.Goals as goal
 
-abbrev writing : (tries s : ℕ) → Image → List (Option (List ℕ)) → ℕ → Stage
-writing tries s image seen k = Writing tries s image seen k
-
 pub loop-i-init : goal.loop-i-init
-loop-i-init g c = (refl, refl, (λ image seen stage. goes_zero c.args.seat.now.me (Writing c.args.tries c.args.s image seen (c.args.from + 0)) (stage ∙ ap (writing c.args.tries c.args.s image seen) (let e : c.args.from ≡ c.args.from + 0 = omega arith in e))))
-
-pub write_word-requires-clause-table : goal.write_word-requires-clause-table
-write_word-requires-clause-table g c = c.loop-i.invariant.0 ∙ c.requires.table
-
-pub write_word-requires-clause-of : goal.write_word-requires-clause-of
-write_word-requires-clause-of g c =
-    of_after c.args.seat.now.me c.loop-i.seat.me c.loop-i.i (writing c.args.tries c.args.s c.requires.stage.0 c.requires.stage.1.0 (c.args.from + c.loop-i.i)) (c.loop-i.invariant.2 c.requires.stage.0 c.requires.stage.1.0 c.requires.stage.1.1) c.requires.of
-
-pub write_word-requires-clause-stage : goal.write_word-requires-clause-stage
-write_word-requires-clause-stage g c = (
-  c.requires.stage.0,
-  (
-    c.requires.stage.1.0,
-    stage_after c.args.seat.now.me c.loop-i.seat.me c.loop-i.i (writing c.args.tries c.args.s c.requires.stage.0 c.requires.stage.1.0 (c.args.from + c.loop-i.i)) (c.loop-i.invariant.2 c.requires.stage.0 c.requires.stage.1.0 c.requires.stage.1.1),
-    c.requires.stage.1.2 c.loop-i.i c.loop-i-test.true,
-  ),
-)
-
-pub write_word-requires-clause-spare : goal.write_word-requires-clause-spare
-write_word-requires-clause-spare g c = (
-  spare_after c.args.seat.now.me c.loop-i.seat.me c.loop-i.i (writing c.args.tries c.args.s c.requires.stage.0 c.requires.stage.1.0 (c.args.from + c.loop-i.i)) (c.loop-i.invariant.2 c.requires.stage.0 c.requires.stage.1.0 c.requires.stage.1.1) ∙ c.requires.spare.0,
-  c.requires.spare.1,
-)
+loop-i-init g c = (refl, refl, writes_nothing c.args.seat.now.me c.args.own.now.held.items c.requires.own.held, refl, refl)
 
 pub loop-i-preserved : goal.loop-i-preserved
-loop-i-preserved g c = (
-  c.write_word.ensures.same.0 ∙ c.loop-i.invariant.0,
-  c.write_word.ensures.same.1 ∙ c.loop-i.invariant.1,
-  (λ image seen stage.
-      let i = c.loop-i.i in
-      let was = c.loop-i.invariant.2 image seen stage in
-      let at = stage_after c.args.seat.now.me c.loop-i.seat.me i (writing c.args.tries c.args.s image seen (c.args.from + i)) was in
-      let same : c.args.from + i + 1 ≡ c.args.from + (i + 1) = omega arith in
-      subst (λ k. GoesBy c.args.seat.now.me (i + 1) (writing c.args.tries c.args.s image seen k) c.write_word.new.seat.me) same
-      (goes_on c.args.seat.now.me c.loop-i.seat.me i (writing c.args.tries c.args.s image seen (c.args.from + i)) was c.write_word.new.seat.me (writing c.args.tries c.args.s image seen (c.args.from + i + 1)) (c.write_word.ensures.left image seen at))),
-)
+loop-i-preserved g c =
+    let sizes = c.args.self.now.setup.sizes in
+    let me = c.args.seat.now.me in
+    let row = c.args.row.now in
+    let i = c.loop-i.i in
+    let held = c.loop-i.own.held.items in
+    let first = c.args.own.now.held.items in
+    let from = held_place sizes c.args.own.now.spare c.args.from in
+    let at = held_place sizes c.args.own.now.spare (c.args.from + i) in
+    let was = c.loop-i.invariant in
+    let here : c.args.own.now.spare * c.buffer_words.result + c.args.from + i ≡ at = (λ k. c.args.own.now.spare * c.buffer_words.ensures k + c.args.from + i) ∙ add_assoc (c.args.own.now.spare * buffer_words sizes) c.args.from i in
+    let there : at ≡ from + i = sym (add_assoc (c.args.own.now.spare * buffer_words sizes) c.args.from i) in
+    elim c.if-index-row.branch [
+      | then-index-row w ↦
+          let stored : c.if-index-row.own.held.items ≡ slice_set held at (slice_index row i) = ap (λ (o : Buffers). o.held.items) w.own-is ∙ ap (λ k. slice_set held k (slice_index row i)) here in (
+            ap (λ (s : Seat _ _). s.table_id) w.seat-is ∙ w.write_word.ensures.same.0 ∙ was.0,
+            ap (λ (s : Seat _ _). s.id) w.seat-is ∙ w.write_word.ensures.same.1 ∙ was.1,
+            subst (λ (s : Seat _ _). WritesWithin me (i + 1) c.if-index-row.own.held.items s.me) (sym w.seat-is)
+                (subst (λ (h : List ℕ). WritesWithin me (i + 1) h w.write_word.new.seat.me) (sym stored)
+                (writes_one me c.loop-i.seat.me i held was.2 w.write_word.new.seat.me at (slice_index row i) w.write_word.ensures.left)),
+            stored ∙ (λ k. slice_set (was.3 k) (there k) (slice_index row i)) ∙ with_row-more first from row i c.loop-i-test.true,
+            ap (λ (o : Buffers). o.spare) w.own-is ∙ was.4,
+          )
+      | else-index-row w ↦
+          let same : c.if-index-row.own.held.items ≡ held = ap (λ (o : Buffers). o.held.items) w.own-is in
+          let inside : at < length held = (
+          let h = held_inside sizes c.args.own.now.spare (c.args.from + i) c.requires.own.which (let r = c.requires.inside.1 in let t = c.loop-i-test.true in omega arith) in
+          let l : length held ≡ length first = ap (λ (xs : List ℕ). length xs) was.3 ∙ with_row-length first from (take i row) in
+          let o = c.requires.own.long in omega arith) in
+          let found : slice_index held at ≡ slice_index row i
+          = sym (c.index.ensures ∙ ap (λ k. slice_index_or held k c.index.result.now) here ∙ get_or_default_zero held at c.index.result.now inside) ∙ w.if-index-row.false in (
+            ap (λ (s : Seat _ _). s.table_id) w.seat-is ∙ was.0,
+            ap (λ (s : Seat _ _). s.id) w.seat-is ∙ was.1,
+            subst (λ (s : Seat _ _). WritesWithin me (i + 1) c.if-index-row.own.held.items s.me) (sym w.seat-is)
+                (subst (λ (h : List ℕ). WritesWithin me (i + 1) h c.loop-i.seat.me) (sym same) (writes_none me c.loop-i.seat.me i held was.2)),
+            same ∙ was.3 ∙ with_row-same first from row i c.loop-i-test.true ((λ k. slice_index (sym was.3 k) (sym there k)) ∙ found),
+            ap (λ (o : Buffers). o.spare) w.own-is ∙ was.4,
+          )
+    ]
+
+pub returns-clause-held : goal.returns-clause-held
+returns-clause-held g c =
+    c.loop-i.invariant.3
+    ∙ ap (with_row c.args.own.now.held.items (held_place c.args.self.now.setup.sizes c.args.own.now.spare c.args.from)) (take_all c.loop-i.i c.args.row.now c.loop-i-test.false)
 
 pub returns-clause-goes : goal.returns-clause-goes
-returns-clause-goes g c image seen stage =
-    let end : c.loop-i.i ≡ length c.args.row.now = (let t = c.loop-i-test.false in let e = c.loop-i.auto.i-end in omega arith) in
-    subst (λ k. GoesBy c.args.seat.now.me k (writing c.args.tries c.args.s image seen (c.args.from + k)) c.loop-i.seat.me) end (c.loop-i.invariant.2 image seen stage)
+returns-clause-goes g c = (c.loop-i.invariant.2.0, (let a = c.loop-i.invariant.2.1 in let e = c.loop-i.auto.i-end in omega arith), c.loop-i.invariant.2.2)

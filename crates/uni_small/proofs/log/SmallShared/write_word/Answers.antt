@@ -1,8 +1,11 @@
 use Rattle.std.proofs.Common.{arith, sym, ◌∙◌, ◌+◌, ◌*◌}
 use mathlib.Core.Option.{none}
 use Rattle.atomic_table.specs.Table.{step}
+use Rattle.uni_small.specs.Image.{held_place}
+use Rattle.uni_small.specs.View.{wrote}
 use Rattle.uni_small.specs.Board.{buffer_word}
-use Rattle.uni_small.specs.Plays.{HasWritten}
+use Rattle.uni_small.specs.Plays.{HasWritten, with_local}
+use Rattle.uni_small.specs.Standing.{local_of}
 use Rattle.uni_small.specs.Laws.{nothing}
 use Rattle.uni_small.proofs.Allowed.{by_key}
 use Rattle.uni_small.proofs.Stores.{writes}
@@ -19,10 +22,19 @@ store-requires g c =
     let id = c.args.seat.now.id in
     let me = c.args.seat.now.me in
     let i = c.buffer_word.result in
-    let st = step slots i c.args.x 0 none in (
+    let st = step slots i c.args.x 0 none in
+    let word = c.buffer_word.ensures ∙ (λ k. buffer_word sizes (2 * sym c.requires.of.first k + sym c.requires.spare.0 k) c.args.i) in (
       c.requires.table,
       (let q = c.buffer_word.ensures in let r = buffer_inside sizes (2 * c.args.p + c.args.spare) c.args.i (let a = c.requires.inside.0 in let b = c.requires.spare.1 in omega arith) c.requires.inside.1 in let t = shared.sized in omega arith),
-      by_key meaning shared.table.shared.key shared.setup shared.same slots id me i (buffer_word sizes (2 * me.0.known.first + me.0.known.local.spare) c.args.i) (c.buffer_word.ensures ∙ (λ k. buffer_word sizes (2 * sym c.requires.of.first k + sym c.requires.spare.0 k) c.args.i)) (λ x. c.args.x) (λ x me'. HasWritten st me c.args.x me')
+      by_key meaning shared.table.shared.key shared.setup shared.same slots id me i (buffer_word sizes (2 * me.0.known.first + me.0.known.local.spare) c.args.i) word (λ x. c.args.x) (λ x me'. HasWritten st me c.args.x me')
           nothing
-          (writes meaning o sizes id st me c.requires.of.alone c.args.tries c.args.s c.args.i c.args.x c.requires.stage c.requires.inside.1),
+          (writes meaning o sizes id st me c.requires.of.alone c.args.i c.args.x c.requires.stage c.requires.inside.1 word),
     )
+
+pub returns-clause-left : goal.returns-clause-left
+returns-clause-left g c =
+    let me = c.args.seat.now.me in
+    let of = c.requires.of in
+    let spare = c.requires.spare.0 in
+    c.store.ensures.2 c.args.i (c.buffer_word.ensures ∙ (λ k. buffer_word (sym of.sizes k) (2 * sym of.first k + sym spare k) c.args.i))
+    ∙ (λ k. (with_local me.0 (wrote (local_of me) (held_place (of.sizes k) (spare k) c.args.i) c.args.x), me.1))

@@ -15,5 +15,5 @@ join_seat-requires g c =
       c.args.other.stands.2,
       (let a = shared.sized in omega arith),
       subst (λ key. Joins (Rule g.O.SmallObject.meaning key) mine.id mine.me.0 other.id other.me.0 (took_in mine.me.0 other.me.0) nobody) (sym shared.same)
-          (joins g.O.SmallObject.meaning shared.setup.object shared.setup.sizes mine.id mine.me.0 other.id other.me.0 (let a = c.args.self.now.stands.1 in omega arith) c.args.other.stands.1 c.args.other.local.0),
+          (joins g.O.SmallObject.meaning shared.setup.object shared.setup.sizes mine.id mine.me.0 other.id other.me.0 (let a = c.args.self.now.stands.1 in omega arith) c.args.other.stands.1 c.args.other.idle),
     )

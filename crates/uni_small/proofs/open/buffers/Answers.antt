@@ -1,0 +1,17 @@
+use Rattle.std.proofs.Common.{arith, refl, sym, ap, ◌≡◌, ◌∙◌, ◌++◌, List, ℕ, length}
+use Rattle.uni_small.specs.Image.{first_held, first_image, spell}
+use Rattle.uni_small.proofs.Opening.{held_length}
+use Rattle.uni_small.proofs.open.buffers.Goals as goal
+
+pub returns : goal.returns
+returns g c =
+    let sizes = c.args.sizes.now in
+    let object = (g.O.SmallObject.meaning c.args.object.now).object in
+    let first : c.deref.result.now ≡ spell (first_image object sizes) = c.deref.ensures.value ∙ c.in_ok-first.ensures in
+    let held : c.extend_from_slice.new.self.items ≡ first_held object sizes = c.in_ok-extend_from_slice.ensures.items ∙ (λ k. c.in_ok-held.ensures k ++ first k) in
+    record {
+      spare = refl;
+      which = omega arith;
+      held = sym held;
+      long = ap (λ (ws : List ℕ). length ws) held ∙ held_length object sizes c.requires.few.0 c.requires.wide;
+    }
