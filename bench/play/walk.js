@@ -2,6 +2,9 @@
 // Walks through the graph of a page at random, and compares what the page expects of each walk's script with what
 // `unibench replay` answers: node walk.js PAGE UNIBENCH [WALKS]
 //
+// Between the events of a walk stand commands that change nothing, at random: `log`, and such as are refused. Each third walk
+// goes on with a trim and a call, where no call is pending.
+//
 // The page's own program makes the script and the answers. So a page whose graph differs from the construction, or
 // whose program tells it wrongly, fails.
 
@@ -14,8 +17,8 @@ function read(path) {
   const [, graph, program] = /<script type="application\/json" id="graph">([^]*?)<\/script>\s*<script>([^]*?)<\/script>/
     .exec(fs.readFileSync(path, "utf8"));
   const page = vm.createContext({});
-  vm.runInContext(`${program}\nthis.randomRun = randomRun; this.scriptOf = scriptOf;`, page);
-  return { graph: JSON.parse(graph), page };
+  vm.runInContext(`${program}\nthis.run = { randomRun, scriptOf, commanded };`, page);
+  return { graph: JSON.parse(graph), page: page.run };
 }
 
 // random numbers from a seed, the same on each run (mulberry32)
@@ -29,6 +32,24 @@ function randomFrom(seed) {
   };
 }
 
+// a run with commands between its events
+function withCommands(page, graph, run, random, trims) {
+  const below = (n) => Math.floor(random() * n);
+  const commanded = (here) =>
+    page.commanded(graph, here, ["log", "trim", "call", "step"][below(4)], below(graph.processes + 1));
+  const all = [];
+  for (const event of run) {
+    all.push(event);
+    const one = below(4) === 0 ? commanded(event) : null;
+    if (one !== null && one.line !== null && one.node !== null) all.push(one);
+  }
+  for (const word of trims ? ["trim", "call", "log", "call"] : []) {
+    const one = page.commanded(graph, all[all.length - 1], word, below(graph.processes));
+    if (one !== null) all.push(one);
+  }
+  return all;
+}
+
 function main(path, unibench, walks) {
   const { graph, page } = read(path);
   for (let seed = 1; seed <= walks; seed++) {
@@ -36,7 +57,8 @@ function main(path, unibench, walks) {
     const stopped = seed % 2 === 0 ? Math.floor(random() * graph.processes) : null;
     let walk;
     try {
-      walk = page.scriptOf(graph, page.randomRun(graph, random, stopped, Math.floor(random() * 30)));
+      const run = page.randomRun(graph, random, stopped, Math.floor(random() * 30));
+      walk = page.scriptOf(graph, withCommands(page, graph, run, random, seed % 3 === 0));
     } catch (error) {
       console.log(`walk ${seed} is none: ${error.message}`);
       process.exit(1);

@@ -138,6 +138,10 @@ judgement_text goal None = codes "met\n"
 judgement_text goal (Some number) =
     codes "line " ++ decimal number ++ codes " is not met: " ++ slice_index_or (lines_in goal) (number - 1) [] ++ codes "\n"
 
+-- the line that tells why a goal can't be had, by the status that the program ends with
+abbrev pub line_of_unread : (status : ℕ) → List ℕ
+line_of_unread status = (if status == 4 then codes "out of memory" else codes "cannot read the goal") ++ 10 ∷ []
+
 -- rows
 turns_are_like : is_like (codes "returned 1.0 .. turns 3") (codes "returned 1.0 ok steps 32 turns 3") ≡ true
 turns_are_like = refl

@@ -22,4 +22,4 @@ mod world;
 pub use flaw::Flaw;
 pub use flawed::{flawed_text, run_flawed};
 pub use judging::{Judgement, answers_to, judge, judgement_text, run_goal};
-pub use reading::read_text;
+pub use reading::{goal_in, read_text};

@@ -2,13 +2,12 @@
 //! or the first line of the goal that isn't met, with status 1.
 #![tactic(auto)]
 
-use course_run::{read_text, run_goal};
+use course_run::{goal_in, read_text, run_goal};
 use std::alloc::Global;
 use std::env::Env;
-use std::fs::{File, Files};
 use std::process::ExitCode;
 use std::{env, io};
-use uni_script::{BenchFault, Checked, report_fault, tell};
+use uni_script::{Checked, report_fault, tell};
 
 /// What the program does, and how it ends.
 const HELP: &[u8] = b"\
@@ -61,27 +60,13 @@ fn request_of<R: Env + Alloc<A = Global>>(rt: &R) -> io::Result<Option<Request>>
     }
 }
 
-/// The goal of the file of this path.
-///
-/// An `Err` says that it can't be read, or that memory was refused.
-fn goal_in<R: Files + Alloc<A = Global>>(rt: &R, path: &str) -> Result<Vec<u8>, BenchFault> {
-    match File::open(rt, path) {
-        Ok(file) => read_text(rt.alloc(), file),
-        Err(_) => Err(BenchFault::Read),
-    }
-}
-
 /// Judges the script on standard input by the goal of the file of this path; the answer is the status.
 fn judge(rt: &HostRuntime, path: &str) -> u8 {
     let mut output = Checked::new(rt.stdout());
     let mut faults = Checked::new(rt.stderr());
-    let goal = match goal_in(rt, path) {
+    let goal = match goal_in(rt, path, &mut faults) {
         Ok(goal) => goal,
-        Err(BenchFault::Read) => {
-            tell(&mut faults, b"cannot read the goal\n");
-            return 3;
-        }
-        Err(fault) => return report_fault(rt.alloc(), fault, &mut faults),
+        Err(status) => return status,
     };
     match read_text(rt.alloc(), rt.stdin()) {
         Ok(script) => run_goal(

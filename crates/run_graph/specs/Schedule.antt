@@ -6,6 +6,7 @@ use Rattle.seq_object.specs.Sequential.{Sequential}
 use Rattle.uni_model.specs.Worlds.{WorldOf, Event, world_after, opened_world, calls_in_era}
 use Rattle.uni_model.specs.Worlds.Event.{Call, Step}
 use Rattle.uni_core.specs.Same.{without_counts}
+use Rattle.run_graph.specs.declared.plan.Plan as code
 
 -- what is scheduled: the object, how many processes there are and calls a row has, and what each process calls
 pub record Plan (S I R : Type 0) : Type 0 where
@@ -21,6 +22,10 @@ call_in calls p nth = option_and_then (λ list. slice_get list.items nth) (slice
 
 abbrev pub plan_of : {S I R : Type 0} → Sequential S I R → (n row : ℕ) → List (Vec I Global) → Plan S I R
 plan_of object n row calls = record { object = object; n = n; row = row; call = call_in calls }
+
+-- the plan that the code has, of an object that means a sequential one
+abbrev pub planned : {O S I R : Type 0} → (sequential : O → Sequential S I R) → code.Plan O S I R → Plan S I R
+planned sequential plan = plan_of (sequential plan.object) plan.processes plan.row plan.calls.items
 
 -- the event of a process: a step of its pending call, or its next call
 abbrev pub event_from : {I A : Type 0} → ℕ → Option A → Option I → Option (Event I)

@@ -4,7 +4,7 @@ ghost use Rattle.std.specs.Prelude.{◌≡◌, None, Some, IfOk, IfSome, IsSome,
 ghost use Rattle.uni_model.specs.Places.{new_of};
 ghost use Rattle.uni_model.specs.Places.Name.{Anchor};
 ghost use Rattle.uni_core.specs.World.{world_of, KeepsFixed};
-ghost use Rattle.run_graph.specs.Schedule.{plan_of, moved, world_at};
+ghost use Rattle.run_graph.specs.Schedule.{moved, plan_of, planned, world_at};
 
 use crate::fault::ExploreFault;
 use crate::plan::Plan;
@@ -60,9 +60,7 @@ pub fn world_at<O: SeqObject + Copy>(
     plan: &Plan<O>,
     path: &[u64],
 ) -> Result<Option<World<O>>, ExploreFault>
-    ensures world { IfOk result (λ end. world_at
-        (plan_of (O.sequential plan.now.object) plan.now.processes plan.now.row plan.now.calls.items) path.now
-        ≡ option_map world_of end) }
+    ensures world { IfOk result (λ end. world_at (planned O.sequential plan.now) path.now ≡ option_map world_of end) }
     ensures object { IfOk result (λ end. IfSome end (λ world. world.object ≡ plan.now.object)) }
     ensures anchor { IfOk result (λ end. IfSome end (λ world. new_of (world_of world).memory Anchor
         ≡ Some ((O.sequential plan.now.object).initial, None))) }

@@ -5,7 +5,7 @@ ghost use Rattle.std.specs.Prelude.{ℕ, None, Some, IfOk, OnOk, IfSome, IsSome,
 ghost use Rattle.uni_core.specs.World.{world_of};
 ghost use Rattle.uni_core.specs.Same.{without_counts};
 ghost use Rattle.run_graph.specs.AtHand.{AreAtHand, IsTold};
-ghost use Rattle.run_graph.specs.Schedule.{plan_of, shown};
+ghost use Rattle.run_graph.specs.Schedule.{planned, shown};
 ghost use Rattle.run_graph.specs.Graph.{IsPart, IsGraph, LeadsTo, IsMore, path_of, shown_at};
 
 use crate::fault::ExploreFault;
@@ -42,14 +42,11 @@ fn is_at<O: SeqObject + Copy>(
     world: &World<O>,
 ) -> Result<bool, ExploreFault>
     requires node { j < length paths.now }
-    requires at_hand { AreAtHand plan.now.object
-        (plan_of (O.sequential plan.now.object) plan.now.processes plan.now.row plan.now.calls.items)
-        paths.now worlds.now }
+    requires at_hand { AreAtHand plan.now.object (planned O.sequential plan.now) paths.now worlds.now }
     requires told { IsTold plan.now.object (O.sequential plan.now.object).initial
         (Some (without_counts (world_of world.now))) world.now }
-    ensures { IfOk result (λ same. IsTrue same → shown_at
-        (plan_of (O.sequential plan.now.object) plan.now.processes plan.now.row plan.now.calls.items)
-        paths.now j ≡ Some (without_counts (world_of world.now))) }
+    ensures { IfOk result (λ same. IsTrue same → shown_at (planned O.sequential plan.now) paths.now j
+        ≡ Some (without_counts (world_of world.now))) }
 {
     if let Some(here) = worlds.get(j) {
         if let Some(there) = here.last() {
@@ -72,15 +69,12 @@ fn find<O: SeqObject + Copy>(
     world: &World<O>,
     key: u64,
 ) -> Result<Option<usize>, ExploreFault>
-    requires at_hand { AreAtHand plan.now.object
-        (plan_of (O.sequential plan.now.object) plan.now.processes plan.now.row plan.now.calls.items)
-        paths.now worlds.now }
+    requires at_hand { AreAtHand plan.now.object (planned O.sequential plan.now) paths.now worlds.now }
     requires told { IsTold plan.now.object (O.sequential plan.now.object).initial
         (Some (without_counts (world_of world.now))) world.now }
     ensures node { IfOk result (λ found. IfSome found (λ j. j < length paths.now)) }
-    ensures same { IfOk result (λ found. IfSome found (λ j. shown_at
-        (plan_of (O.sequential plan.now.object) plan.now.processes plan.now.row plan.now.calls.items)
-        paths.now j ≡ Some (without_counts (world_of world.now)))) }
+    ensures same { IfOk result (λ found. IfSome found (λ j. shown_at (planned O.sequential plan.now) paths.now j
+        ≡ Some (without_counts (world_of world.now)))) }
 {
     let mut node = index.first(key);
     for _ in 0..paths.len() {
@@ -112,23 +106,16 @@ fn node_at<O: SeqObject + Copy>(
     world: &World<O>,
 ) -> Result<usize, ExploreFault>
     requires few { length paths.old.items ≤ limit }
-    requires at_hand { AreAtHand plan.now.object
-        (plan_of (O.sequential plan.now.object) plan.now.processes plan.now.row plan.now.calls.items)
-        paths.old.items worlds.old.items }
+    requires at_hand { AreAtHand plan.now.object (planned O.sequential plan.now) paths.old.items worlds.old.items }
     requires told { IsTold plan.now.object (O.sequential plan.now.object).initial
-        (shown (plan_of (O.sequential plan.now.object) plan.now.processes plan.now.row plan.now.calls.items)
-        path.items) world.now }
+        (shown (planned O.sequential plan.now) path.items) world.now }
     ensures few { OnOk result (length paths.new.items ≤ limit) }
-    ensures more { OnOk result (IsMore
-        (plan_of (O.sequential plan.now.object) plan.now.processes plan.now.row plan.now.calls.items)
-        paths.old.items paths.new.items) }
-    ensures at_hand { OnOk result (AreAtHand plan.now.object
-        (plan_of (O.sequential plan.now.object) plan.now.processes plan.now.row plan.now.calls.items)
+    ensures more { OnOk result (IsMore (planned O.sequential plan.now) paths.old.items paths.new.items) }
+    ensures at_hand { OnOk result (AreAtHand plan.now.object (planned O.sequential plan.now)
         paths.new.items worlds.new.items) }
     ensures node { IfOk result (λ j. j < length paths.new.items) }
-    ensures same { IfOk result (λ j. shown_at
-        (plan_of (O.sequential plan.now.object) plan.now.processes plan.now.row plan.now.calls.items)
-        paths.new.items j ≡ Some (without_counts (world_of world.now))) }
+    ensures same { IfOk result (λ j. shown_at (planned O.sequential plan.now) paths.new.items j
+        ≡ Some (without_counts (world_of world.now))) }
 {
     let key = key_of(world);
     if let Some(j) = find(alloc, plan, paths, worlds, index, world, key)? {
@@ -158,25 +145,17 @@ fn target_of<O: SeqObject + Copy>(
 ) -> Result<Option<usize>, ExploreFault>
     requires node { i < length paths.old.items }
     requires few { length paths.old.items ≤ limit }
-    requires at_hand { AreAtHand plan.now.object
-        (plan_of (O.sequential plan.now.object) plan.now.processes plan.now.row plan.now.calls.items)
-        paths.old.items worlds.old.items }
-    requires told { IsTold plan.now.object (O.sequential plan.now.object).initial (shown_at
-        (plan_of (O.sequential plan.now.object) plan.now.processes plan.now.row plan.now.calls.items)
-        paths.old.items i) world.old }
+    requires at_hand { AreAtHand plan.now.object (planned O.sequential plan.now) paths.old.items worlds.old.items }
+    requires told { IsTold plan.now.object (O.sequential plan.now.object).initial
+        (shown_at (planned O.sequential plan.now) paths.old.items i) world.old }
     ensures few { OnOk result (length paths.new.items ≤ limit) }
-    ensures more { OnOk result (IsMore
-        (plan_of (O.sequential plan.now.object) plan.now.processes plan.now.row plan.now.calls.items)
-        paths.old.items paths.new.items) }
-    ensures at_hand { OnOk result (AreAtHand plan.now.object
-        (plan_of (O.sequential plan.now.object) plan.now.processes plan.now.row plan.now.calls.items)
+    ensures more { OnOk result (IsMore (planned O.sequential plan.now) paths.old.items paths.new.items) }
+    ensures at_hand { OnOk result (AreAtHand plan.now.object (planned O.sequential plan.now)
         paths.new.items worlds.new.items) }
-    ensures leads { IfOk result (λ target. LeadsTo
-        (plan_of (O.sequential plan.now.object) plan.now.processes plan.now.row plan.now.calls.items)
-        paths.new.items (path_of paths.old.items i ++ p ∷ []) target) }
-    ensures told { IfOk result (λ target. IsTold plan.now.object (O.sequential plan.now.object).initial (shown_at
-        (plan_of (O.sequential plan.now.object) plan.now.processes plan.now.row plan.now.calls.items)
-        paths.new.items (unwrap_or target i)) world.new) }
+    ensures leads { IfOk result (λ target. LeadsTo (planned O.sequential plan.now) paths.new.items
+        (path_of paths.old.items i ++ p ∷ []) target) }
+    ensures told { IfOk result (λ target. IsTold plan.now.object (O.sequential plan.now.object).initial
+        (shown_at (planned O.sequential plan.now) paths.new.items (unwrap_or target i)) world.new) }
 {
     if !take_event(world, alloc, plan, p)? {
         return Ok(None);
@@ -201,20 +180,14 @@ fn add_edge<O: SeqObject + Copy>(
     requires node { i < length graph.old.paths.items }
     requires next { length graph.old.targets.items ≡ i * plan.now.processes + p }
     requires few { length graph.old.paths.items ≤ limit }
-    requires part { IsPart
-        (plan_of (O.sequential plan.now.object) plan.now.processes plan.now.row plan.now.calls.items)
-        graph.old.paths.items graph.old.targets.items }
-    requires at_hand { AreAtHand plan.now.object
-        (plan_of (O.sequential plan.now.object) plan.now.processes plan.now.row plan.now.calls.items)
+    requires part { IsPart (planned O.sequential plan.now) graph.old.paths.items graph.old.targets.items }
+    requires at_hand { AreAtHand plan.now.object (planned O.sequential plan.now)
         graph.old.paths.items worlds.old.items }
     ensures next { OnOk result (length graph.new.targets.items ≡ i * plan.now.processes + p + 1) }
     ensures node { OnOk result (i < length graph.new.paths.items) }
     ensures few { OnOk result (length graph.new.paths.items ≤ limit) }
-    ensures part { OnOk result (IsPart
-        (plan_of (O.sequential plan.now.object) plan.now.processes plan.now.row plan.now.calls.items)
-        graph.new.paths.items graph.new.targets.items) }
-    ensures at_hand { OnOk result (AreAtHand plan.now.object
-        (plan_of (O.sequential plan.now.object) plan.now.processes plan.now.row plan.now.calls.items)
+    ensures part { OnOk result (IsPart (planned O.sequential plan.now) graph.new.paths.items graph.new.targets.items) }
+    ensures at_hand { OnOk result (AreAtHand plan.now.object (planned O.sequential plan.now)
         graph.new.paths.items worlds.new.items) }
 {
     let mut world = take_world(alloc, plan, &graph.paths, worlds, i)?;
@@ -231,9 +204,7 @@ fn opening<O: SeqObject + Copy>(
     plan: &Plan<O>,
     index: &mut Index,
 ) -> Result<Graph, ExploreFault>
-    ensures part { IfOk result (λ graph. IsPart
-        (plan_of (O.sequential plan.now.object) plan.now.processes plan.now.row plan.now.calls.items)
-        graph.paths.items graph.targets.items) }
+    ensures part { IfOk result (λ graph. IsPart (planned O.sequential plan.now) graph.paths.items graph.targets.items) }
     ensures one { IfOk result (λ graph. (length graph.paths.items ≡ 1) × (length graph.targets.items ≡ 0)) }
 {
     let start = Vec::new(alloc);
@@ -258,8 +229,7 @@ pub fn explore<O: SeqObject + Copy>(
     plan: &Plan<O>,
     limit: usize,
 ) -> Result<Graph, ExploreFault>
-    ensures graph { IfOk result (λ graph. IsGraph
-        (plan_of (O.sequential plan.now.object) plan.now.processes plan.now.row plan.now.calls.items)
+    ensures graph { IfOk result (λ graph. IsGraph (planned O.sequential plan.now)
         graph.paths.items graph.targets.items) }
     ensures few { IfOk result (λ graph. length graph.paths.items ≤ limit) }
 {

@@ -3,7 +3,7 @@
 ghost use Rattle.std.specs.Prelude.{◌≡◌, ◌<◌, ◌++◌, ◌∷◌, ℕ, [], IfOk, OnOk, IsSome, length};
 ghost use Rattle.run_graph.specs.AtHand.{AreAtHand, IsKept, IsTaken, IsTold, list_at};
 ghost use Rattle.run_graph.specs.Graph.{shown_at};
-ghost use Rattle.run_graph.specs.Schedule.{plan_of};
+ghost use Rattle.run_graph.specs.Schedule.{planned};
 
 use crate::fault::ExploreFault;
 use crate::plan::Plan;
@@ -66,15 +66,10 @@ pub fn take_world<O: SeqObject + Copy>(
     i: usize,
 ) -> Result<World<O>, ExploreFault>
     requires node { i < length paths.now }
-    requires at_hand { AreAtHand plan.now.object
-        (plan_of (O.sequential plan.now.object) plan.now.processes plan.now.row plan.now.calls.items)
-        paths.now worlds.old.items }
-    ensures at_hand { AreAtHand plan.now.object
-        (plan_of (O.sequential plan.now.object) plan.now.processes plan.now.row plan.now.calls.items)
-        paths.now worlds.new.items }
+    requires at_hand { AreAtHand plan.now.object (planned O.sequential plan.now) paths.now worlds.old.items }
+    ensures at_hand { AreAtHand plan.now.object (planned O.sequential plan.now) paths.now worlds.new.items }
     ensures told { IfOk result (IsTold plan.now.object (O.sequential plan.now.object).initial
-        (shown_at (plan_of (O.sequential plan.now.object) plan.now.processes plan.now.row plan.now.calls.items)
-        paths.now i)) }
+        (shown_at (planned O.sequential plan.now) paths.now i)) }
 {
     if let Some(world) = taken(worlds, i) {
         return Ok(world);

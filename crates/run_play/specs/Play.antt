@@ -1,5 +1,6 @@
 -- The page of all schedules of a script's calls.
 use Rattle.std.specs.Prelude.{◌≡◌, ℕ, ◌≤◌, ◌==◌, Bool, true, false, if◌then◌else◌, List, [], ◌∷◌, ◌++◌, Option, None, Some, map, codes, length, Vec, refl}
+use Rattle.std.specs.Fmt.{digits}
 use Rattle.std.specs.List.{flat_map}
 use Rattle.std.specs.declared.alloc.Global.{Global}
 use Rattle.json_text.specs.Json.{Number, Text, Json, Member, named, object_text, list_text}
@@ -31,15 +32,16 @@ escaped json = flat_map escaped_byte json
 abbrev pub text_between : (start json end : List ℕ) → List ℕ
 text_between start json end = start ++ escaped json ++ end
 
--- a graph with what its page needs beside it: the name of the object, how many processes and calls of a row, the first state
-abbrev pub graph_members : (name : List ℕ) → (n row : ℕ) → (state : List ℕ) → (edges : List (List ℕ)) → List Member
-graph_members name n row state edges =
+-- a graph with what its page needs beside it: the name of the object, how many processes and calls of a row, the first state,
+-- and the text of the goal, which is empty where there is none
+abbrev pub graph_members : (name : List ℕ) → (n row : ℕ) → (state goal : List ℕ) → (edges : List (List ℕ)) → List Member
+graph_members name n row state goal edges =
     named (codes "object") (Text name) ∷ named (codes "processes") (Number n) ∷ named (codes "row") (Number row)
-    ∷ named (codes "state") (Text state) ∷ named (codes "edges") (Json (list_text edges)) ∷ []
+    ∷ named (codes "state") (Text state) ∷ named (codes "goal") (Text goal) ∷ named (codes "edges") (Json (list_text edges)) ∷ []
 
 -- The page of the calls of some events of n processes from a number, on an object of this name whose states have these texts: it
--- tells the graph of all their schedules.
-pub record IsPageOf {S I R : Type 0} (o : SpokenObject S I R) (text : S → List ℕ) (name : List ℕ) (n row number : ℕ)
+-- tells the graph of all their schedules, and a goal.
+pub record IsPageOf {S I R : Type 0} (o : SpokenObject S I R) (text : S → List ℕ) (name goal : List ℕ) (n row number : ℕ)
     (events : List (Event I)) (page : List ℕ) : Type 0 where
   pub from_1 : number ≡ 1
   pub one_era : has_one_era events ≡ true
@@ -51,13 +53,13 @@ pub record IsPageOf {S I R : Type 0} (o : SpokenObject S I R) (text : S → List
   pub graph : IsGraph (plan_of o.object n row calls) paths targets
   pub edges : List (Vec ℕ Global)
   pub edges_are : AreEdges (plan_of o.object n row calls) o.language text paths targets edges
-  pub page_is : page ≡ text_between START.now (object_text (graph_members name n row (text o.object.initial)
+  pub page_is : page ≡ text_between START.now (object_text (graph_members name n row (text o.object.initial) goal
       (map (λ (e : Vec ℕ Global). e.items) edges))) END.now
 
 -- that of the session which a script leaves
-abbrev pub IsPageOfSession : ScriptSession → (page : List ℕ) → Type 0
-IsPageOfSession b page =
-    IsPageOf (spoken_of b.object) (state_text_of b.object) (word_of_object b.object) b.session.processes b.session.row
+abbrev pub IsPageOfSession : (goal : List ℕ) → ScriptSession → (page : List ℕ) → Type 0
+IsPageOfSession goal b page =
+    IsPageOf (spoken_of b.object) (state_text_of b.object) (word_of_object b.object) goal b.session.processes b.session.row
     b.session.first b.session.events page
 
 -- whether a remark is a refusal
@@ -70,8 +72,8 @@ abbrev pub any_refused : List PlacedRemark → Bool
 any_refused [] = false
 any_refused (one ∷ remarks) = if is_refusal one.remark then true else any_refused remarks
 
--- the reader had a script without a fault, of which no command is refused, and this is the page of its calls
-pub record IsPlayed (left : Option (List ℕ)) (page : List ℕ) : Type 0 where
+-- the reader had a script without a fault, of which no command is refused, and this is the page of its calls, with a goal
+pub record IsPlayed (goal : List ℕ) (left : Option (List ℕ)) (page : List ℕ) : Type 0 where
   pub script : List ℕ
   pub input : IsInput left script
   pub good : fault_of_script (scripts_of 1048576) script ≡ None
@@ -80,7 +82,13 @@ pub record IsPlayed (left : Option (List ℕ)) (page : List ℕ) : Type 0 where
   pub remarks : List PlacedRemark
   pub remarks_are : remarks_of_script (scripts_of 1048576) script ≡ map remark_at remarks
   pub accepted : any_refused remarks ≡ false
-  pub page_of : IsPageOfSession session page
+  pub page_of : IsPageOfSession goal session page
+
+-- a goal's line of four characters, one of them a quote, in a queue's graph of no edge
+a_goal : object_text (graph_members (codes "queue") 1 4 (codes "[]") (codes "a \"b\n") [])
+    ≡ codes "{\"object\":\"queue\",\"processes\":1,\"row\":4,\"state\":\"[]\",\"goal\":\"a \\\"b\\u000a\",\"edges\":[]}"
+unfolding object_text list_text digits
+a_goal = refl
 
 escaped_note : escaped (codes "a</script>") ≡ codes "a\\u003c/script>"
 escaped_note = refl

@@ -6,7 +6,7 @@ ghost use Rattle.uni_model.specs.Places.Name.{Anchor};
 ghost use Rattle.uni_core.specs.World.{world_of};
 ghost use Rattle.run_graph.specs.AtHand.{AreAtHand};
 ghost use Rattle.run_graph.specs.Graph.{IsGraph};
-ghost use Rattle.run_graph.specs.Schedule.{event_of, moved, plan_of};
+ghost use Rattle.run_graph.specs.Schedule.{event_of, moved, plan_of, planned};
 ghost use Rattle.run_trace.specs.Frames.{frame_of};
 ghost use Rattle.run_trace.specs.Shown.{begun_shown, frame_shown, step_shown};
 ghost use Rattle.run_play.specs.Edges.{begun_text, beside_text, edge_text, frame_text, step_text, AreEdges};
@@ -139,18 +139,13 @@ fn edge_text<O: Spoken + Copy>(
     requires processes { 0 < plan.now.processes }
     requires place { k < length graph.now.targets.items }
     requires target { target ≡ slice_index_or graph.now.targets.items k None }
-    requires graph { IsGraph
-        (plan_of (O.sequential plan.now.object) plan.now.processes plan.now.row plan.now.calls.items)
-        graph.now.paths.items graph.now.targets.items }
-    requires at_hand { AreAtHand plan.now.object
-        (plan_of (O.sequential plan.now.object) plan.now.processes plan.now.row plan.now.calls.items)
+    requires graph { IsGraph (planned O.sequential plan.now) graph.now.paths.items graph.now.targets.items }
+    requires at_hand { AreAtHand plan.now.object (planned O.sequential plan.now)
         graph.now.paths.items worlds.old.items }
-    ensures at_hand { OnOk result (AreAtHand plan.now.object
-        (plan_of (O.sequential plan.now.object) plan.now.processes plan.now.row plan.now.calls.items)
+    ensures at_hand { OnOk result (AreAtHand plan.now.object (planned O.sequential plan.now)
         graph.now.paths.items worlds.new.items) }
     ensures text { IfOk result (λ text. text.items ≡ edge_text
-        (plan_of (O.sequential plan.now.object) plan.now.processes plan.now.row plan.now.calls.items)
-        O.language O.state_text graph.now.paths.items k target) }
+        (planned O.sequential plan.now) O.language O.state_text graph.now.paths.items k target) }
 {
     let Some(to) = target else {
         return Vec::from_slice(alloc, b"null");
@@ -177,12 +172,9 @@ pub(crate) fn edge_texts<O: Spoken + Copy>(
     graph: &Graph,
 ) -> Result<Vec<Vec<u8>>, AllocError>
     requires processes { 0 < plan.now.processes }
-    requires graph { IsGraph
-        (plan_of (O.sequential plan.now.object) plan.now.processes plan.now.row plan.now.calls.items)
-        graph.now.paths.items graph.now.targets.items }
-    ensures { IfOk result (λ texts. AreEdges
-        (plan_of (O.sequential plan.now.object) plan.now.processes plan.now.row plan.now.calls.items)
-        O.language O.state_text graph.now.paths.items graph.now.targets.items texts.items) }
+    requires graph { IsGraph (planned O.sequential plan.now) graph.now.paths.items graph.now.targets.items }
+    ensures { IfOk result (λ texts. AreEdges (planned O.sequential plan.now) O.language O.state_text
+        graph.now.paths.items graph.now.targets.items texts.items) }
 {
     let Ok(mut worlds) = no_worlds(alloc, &graph.paths) else {
         return Err(AllocError);

@@ -79,17 +79,18 @@ fn between(alloc: Global, start: &str, json: &[u8], end: &str) -> Result<Vec<u8>
     Ok(text)
 }
 
-/// A graph with what its page needs beside it, as JSON.
+/// A graph with what its page needs beside it, and the text of a goal, as JSON.
 ///
 /// An `Err` says that memory was refused.
 fn graph_text<O: Spoken + Copy>(
     alloc: Global,
     name: &str,
     plan: &Plan<O>,
+    goal: &[u8],
     edges: &[Vec<u8>],
 ) -> Result<Vec<u8>, AllocError>
     ensures { IfOk result (λ text. text.items ≡ object_text (graph_members name.now plan.now.processes plan.now.row
-        (O.state_text (O.sequential plan.now.object).initial) (map (λ e. e.items) edges.now))) }
+        (O.state_text (O.sequential plan.now.object).initial) goal.now (map (λ e. e.items) edges.now))) }
 {
     let mut list = Vec::new(alloc);
     push_list(&mut list, edges)?;
@@ -100,6 +101,7 @@ fn graph_text<O: Spoken + Copy>(
         Member("processes", Value::Number(plan.processes)),
         Member("row", Value::Number(plan.row)),
         Member("state", Value::Text(&state)),
+        Member("goal", Value::Text(goal)),
         Member("edges", Value::Json(&list)),
     ];
     let mut text = Vec::new(alloc);
@@ -107,17 +109,18 @@ fn graph_text<O: Spoken + Copy>(
     Ok(text)
 }
 
-/// The page of the calls of a run on an object of this name.
+/// The page of the calls of a run on an object of this name, with a goal.
 ///
 /// Errors, in this order: `Eras`, `TooManyWorlds`; else `Memory`.
 fn page_of_record<O: Spoken + Copy>(
     alloc: Global,
     name: &str,
+    goal: &[u8],
     recorded: &Recorded<O>,
 ) -> Result<Vec<u8>, PlayFault>
     ensures page { IfOk result (λ text. IsPageOf (spoken O.sequential O.language recorded.now.world.object) O.state_text
-        name.now recorded.now.processes recorded.now.world.row recorded.now.first (events_shown recorded.now.events)
-        text.items) }
+        name.now goal.now recorded.now.processes recorded.now.world.row recorded.now.first
+        (events_shown recorded.now.events) text.items) }
     ensures memory { (e : Fault) → IsErrOf result (PlayFault.Script e) → e ≡ Fault.Memory }
 {
     recorded.promise();
@@ -130,18 +133,22 @@ fn page_of_record<O: Spoken + Copy>(
         Err(fault) => return Err(of_graph(fault)),
     };
     let edges = edge_texts(alloc, &plan, &graph)?;
-    let json = graph_text(alloc, name, &plan, &edges)?;
+    let json = graph_text(alloc, name, &plan, goal, &edges)?;
     let page = between(alloc, START, &json, END)?;
     Ok(page)
 }
 
-/// The page of the calls of a script's run, by its object.
+/// The page of the calls of a script's run, by its object, with a goal.
 ///
 /// Errors, in this order: `Refused`, `Eras`, `TooManyWorlds`; else `Memory`.
-fn page_of_run(alloc: Global, run: &ScriptRun<ScriptRecord>) -> Result<Vec<u8>, PlayFault>
+fn page_of_run(
+    alloc: Global,
+    goal: &[u8],
+    run: &ScriptRun<ScriptRecord>,
+) -> Result<Vec<u8>, PlayFault>
     ensures accepted { OnOk result (any_refused run.now.remarks.items ≡ false) }
     ensures page { IfOk result (λ text. (version : Version)
-        → IsPageOfSession (session_of_record version run.now.record) text.items) }
+        → IsPageOfSession goal.now (session_of_record version run.now.record) text.items) }
     ensures memory { (e : Fault) → IsErrOf result (PlayFault.Script e) → e ≡ Fault.Memory }
 {
     if any_refused(&run.remarks) {
@@ -149,29 +156,32 @@ fn page_of_run(alloc: Global, run: &ScriptRun<ScriptRecord>) -> Result<Vec<u8>, 
     }
     match &run.record {
         ScriptRecord::Queue(recorded) => {
-            page_of_record(alloc, ObjectName::Queue.word(), recorded)
+            page_of_record(alloc, ObjectName::Queue.word(), goal, recorded)
         }
         ScriptRecord::Directory(recorded) => {
-            page_of_record(alloc, ObjectName::Directory.word(), recorded)
+            page_of_record(alloc, ObjectName::Directory.word(), goal, recorded)
         }
-        ScriptRecord::Book(recorded) => page_of_record(alloc, ObjectName::Book.word(), recorded),
+        ScriptRecord::Book(recorded) => {
+            page_of_record(alloc, ObjectName::Book.word(), goal, recorded)
+        }
         ScriptRecord::Sticky(recorded) => {
-            page_of_record(alloc, ObjectName::Sticky.word(), recorded)
+            page_of_record(alloc, ObjectName::Sticky.word(), goal, recorded)
         }
     }
 }
 
-/// The page of all schedules of the calls of the script that a reader has.
+/// The page of all schedules of the calls of the script that a reader has, with the text of a goal, as the program
+/// `goal` takes it. Any text is one; an empty one asks for nothing.
 ///
 /// Errors, in this order: the first fault of the script, or `Read` where the reader failed; `Refused` where a
 /// command of it is refused; `Eras` where it ends an era, or begins at another number than 1; `TooManyWorlds`; and
 /// `Memory` at any place.
-pub fn page_of<I: TextIn>(alloc: Global, reader: &mut I) -> Result<Vec<u8>, PlayFault>
+pub fn page_of<I: TextIn>(alloc: Global, goal: &[u8], reader: &mut I) -> Result<Vec<u8>, PlayFault>
     requires { I.has_failed reader.old ≡ false }
-    ensures page { IfOk result (λ text. IsPlayed (I.remaining reader.old) text.items) }
+    ensures page { IfOk result (λ text. IsPlayed goal.now (I.remaining reader.old) text.items) }
     ensures fault { (e : Fault) → IsErrOf result (PlayFault.Script e) → IsFaultOfScript e
         → HasFault (scripts_of 1048576) (I.remaining reader.old) e }
 {
     let run = run_of_script(alloc, reader, &Options::default())?;
-    page_of_run(alloc, &run)
+    page_of_run(alloc, goal, &run)
 }

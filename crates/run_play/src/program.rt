@@ -11,20 +11,21 @@ use crate::page::page_of;
 use std::alloc::Global;
 use uni_script::{BenchFault, Failed, TextIn, TextOut, report_fault, tell, write_all};
 
-/// Writes the page of all schedules of the calls of the script on `input` to `output`; the answer is the status that
-/// the program ends with.
+/// Writes the page of all schedules of the calls of the script on `input` to `output`, with the text of a goal, which is
+/// empty where there is none; the answer is the status that the program ends with.
 ///
 /// The status is 0 where all went well; 2 for a bad script, or one that has no page; 3 where `input` or `output`
 /// failed; 4 where memory was refused. The text that says so goes to `faults`, as far as that takes it.
 pub fn run<I: TextIn, O: TextOut, F: TextOut>(
     alloc: Global,
+    goal: &[u8],
     input: &mut I,
     output: &mut O,
     faults: &mut F,
 ) -> u8
     requires input { I.has_failed input.old ≡ false }
     requires output { O.has_failed output.old ≡ false }
-    ensures played { result ≡ 0 → (page : List ℕ) × IsPlayed (I.remaining input.old) page
+    ensures played { result ≡ 0 → (page : List ℕ) × IsPlayed goal.now (I.remaining input.old) page
         × Appends (O.contents output.old) (O.contents output.new) page }
     ensures refused { (result ≡ 2) ⊎ (result ≡ 4) → output.new ≡ output.old }
     ensures written { O.has_failed output.new ≡ true → result ≡ 3 }
@@ -32,7 +33,7 @@ pub fn run<I: TextIn, O: TextOut, F: TextOut>(
     ensures told { result ≢ 0 → TellsPlayFault (F.contents faults.old) (F.contents faults.new)
         (F.has_failed faults.new) result }
 {
-    match page_of(alloc, input) {
+    match page_of(alloc, goal, input) {
         Ok(page) => match write_all(output, page.as_slice()) {
             Ok(()) => 0,
             Err(Failed) => report(alloc, PlayFault::Script(BenchFault::Write), faults),
