@@ -21,3 +21,6 @@ returns-clause-remarks g c =
 
 pub returns-clause-many : goal.returns-clause-many
 returns-clause-many g c = λ many. own_more (spoken g.O.SeqObject.sequential g.O.Spoken.language c.args.object) g.O.Spoken.state_text c.args.name.now _ c.in_ok-run.run' (default_own_run (spoken g.O.SeqObject.sequential g.O.Spoken.language c.args.object) c.args.name.now _ _ c.in_ok-run.run' c.default.ensures c.in_ok-run.ensures.run) (c.subject_of_own_run.ensures.many many)
+
+pub returns-clause-fault : goal.returns-clause-fault
+returns-clause-fault g c = λ e is script. absurd (rw (c.subject_of_own_run.ensures.memory e is) at script)
