@@ -48,6 +48,7 @@ class Calls(unittest.TestCase):
     def test_seats(self):
         log = Log.tally(2, 1)
         self.assertEqual([seat.process for seat in log.seats()], [1, 0])
+        self.assertEqual(log.seats(), [])
         self.refuses(Fault.NO_SEAT, log.seat)
 
     def test_full(self):
