@@ -33,7 +33,9 @@ fn measure(object: &str, form: &str, n: u64, calls: u64) -> u128 {
     match (object, form) {
         ("counter", "universal") => {
             let seats = Counter::open(n).unwrap().into_seats().unwrap();
-            round(seats, calls, |seat, nth| drop(black_box(seat.add(nth + 1).unwrap())))
+            round(seats, calls, |seat, nth| {
+                black_box(seat.add(nth + 1).unwrap());
+            })
         }
         ("counter", _) => {
             let sum = &Mutex::new(0);
@@ -45,9 +47,12 @@ fn measure(object: &str, form: &str, n: u64, calls: u64) -> u128 {
         }
         (_, "universal") => {
             let seats = Queue::open(n, CAPACITY).unwrap().into_seats().unwrap();
-            round(seats, calls, |seat, nth| match nth % 2 {
-                0 => drop(black_box(seat.put(NonZeroU64::new(nth + 1).unwrap()))),
-                _ => drop(black_box(seat.take().unwrap())),
+            round(seats, calls, |seat, nth| {
+                if nth % 2 == 0 {
+                    let _ = black_box(seat.put(NonZeroU64::new(nth + 1).unwrap()));
+                } else {
+                    black_box(seat.take().unwrap());
+                }
             })
         }
         _ => {
@@ -57,7 +62,9 @@ fn measure(object: &str, form: &str, n: u64, calls: u64) -> u128 {
                 match nth % 2 {
                     0 if row.len() < CAPACITY as usize => row.push_back(nth + 1),
                     0 => {}
-                    _ => drop(black_box(row.pop_front())),
+                    _ => {
+                        black_box(row.pop_front());
+                    }
                 }
             })
         }
