@@ -156,7 +156,8 @@ impl<S: Drop, I: Drop, R: Drop> Columns<S, I, R> {
     #[tactic(auto, using(crate::proofs::CellsIn::columns))]
     fn set_inv(&mut self, at: usize, inv: I)
         requires { at < length self.old.cells }
-        ensures { self.new ≡ with_cell self.old at (record (slice_index_or self.old.cells at blank) { inv = Some inv }) }
+        ensures { self.new ≡ with_cell self.old at
+            (record (slice_index_or self.old.cells at blank) { inv = Some inv }) }
     {
         self.inv[at] = Some(inv);
     }
@@ -222,7 +223,8 @@ impl<S: Drop, I: Drop, R: Drop> Columns<S, I, R> {
         requires within { at < length self.old.cells }
         requires settled { IsSome (slice_index_or self.old.cells at blank).new }
         ensures state { option_map (λ new. new.0) (slice_index_or self.old.cells at blank).new ≡ Some result }
-        ensures cell { self.new ≡ with_cell self.old at (record (slice_index_or self.old.cells at blank) { new = None }) }
+        ensures cell { self.new ≡ with_cell self.old at
+            (record (slice_index_or self.old.cells at blank) { new = None }) }
     {
         let settled = mem::replace(&mut self.state[at], Settle::new());
         let (state, _) = settled.into_inner().unwrap();

@@ -161,9 +161,9 @@ pub fn flawed_text(alloc: Global, flaw: Flaw, script: &[u8]) -> Result<Vec<u8>, 
 
 /// Writes what comes of a script on a world with a flaw to `output`; the answer is the status that a program ends with.
 ///
-/// The status is 0 where all went well; 2 where the script has a fault; 3 where `output` failed; and 4 where memory was
-/// refused. The text that says so of the last three goes to `faults`, as far as that takes it. Nothing is promised of the
-/// answers.
+/// The status is 0 where all went well; 2 where the script has a fault; 3 where `output` failed; and 4 where memory
+/// was refused. The text that says so of the last three goes to `faults`, as far as that takes it. Nothing is
+/// promised of the answers.
 pub fn run_flawed<O: TextOut, F: TextOut>(
     alloc: Global,
     flaw: Flaw,

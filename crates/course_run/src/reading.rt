@@ -27,8 +27,8 @@ pub fn read_text<R: Read + Drop>(alloc: Global, input: R) -> Result<Vec<u8>, Ben
 
 /// The goal of the file of this path.
 ///
-/// An `Err` is the status that the program ends with: 3 where the file can't be read, and 4 where memory was refused. The
-/// line that says so goes to `faults`, as far as that takes it.
+/// An `Err` is the status that the program ends with: 3 where the file can't be read, and 4 where memory was refused.
+/// The line that says so goes to `faults`, as far as that takes it.
 pub fn goal_in<R: Files + Alloc<A = Global>, F: TextOut>(
     rt: &R,
     path: &str,

@@ -1,11 +1,13 @@
 //! Tests of scripts and of what the programs make of them, where no case says it: schedules, replays whose ends fail,
-//! threads, scripts that are typed, worlds with a flaw, and pictures.
+//! threads, scripts that are typed, worlds with a flaw, graphs of all schedules, and pictures.
 #![tactic(auto)]
 
 #[cfg(test)]
 mod drawn;
 #[cfg(test)]
 mod flaws;
+#[cfg(test)]
+mod graphs;
 #[cfg(test)]
 mod laws;
 #[cfg(test)]

@@ -5,13 +5,12 @@ use std::alloc::Global;
 use std::fmt;
 use std::io::Write;
 use std::process::Abort;
-use uni_core::{BeginFault, OpenFault, Refusal as CommandFault, StepFault};
+use uni_core::{BeginFault, OpenFault, Refusal as CommandFault, ReshapeFault, StepFault, TrimFault};
 use uni_record::{
     RecordBeginFault, RecordOpenFault, RecordReshapeFault, RecordStepFault, RecordTrimFault,
     Refusal,
 };
 use uni_shared::{ApplyFault, CloseFault, StepHeldFault};
-use uni_trim::{ReshapeFault, TrimFault};
 
 /// The call 3.5.
 const CALL: CallId = CallId { process: 3, nth: 5 };

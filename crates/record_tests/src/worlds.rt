@@ -9,8 +9,10 @@ use seq_object::SwapRegister;
 use std::alloc::Global;
 use std::process::Abort;
 use std::test::Fail;
-use uni_core::{BeginFault, Command, OpenFault, Outcome, Place, Refusal, StepKind, World};
-use uni_trim::{ReshapeFault, TrimFault, reshape, trim};
+use uni_core::{
+    BeginFault, Command, OpenFault, Outcome, Place, Refusal, ReshapeFault, StepKind, TrimFault, World,
+    reshape, trim,
+};
 
 /// Why no world is opened from this number, if none is.
 fn refused_at(alloc: Global, n: u64, k: u64, seq: u64) -> Option<OpenFault>

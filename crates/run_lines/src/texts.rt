@@ -219,8 +219,8 @@ pub fn push_eras(
     Ok(())
 }
 
-/// The legend of some kinds of step, as many in a line as fit, but three at most, with what a small letter means where a
-/// step changed nothing.
+/// The legend of some kinds of step, as many in a line as fit, but three at most, with what a small letter means
+/// where a step changed nothing.
 ///
 /// An `Err` says that memory was refused.
 pub fn legend_of(

@@ -17,7 +17,7 @@ use Rattle.uni_model.specs.AtomicObject.Act.{Invoke, Linearize, Respond}
 use Rattle.uni_model.specs.History.{log, acts_of}
 use Rattle.uni_core.specs.Readers.{kind_of}
 use Rattle.uni_log.specs.Log.{state_settled_at}
-use Rattle.uni_trim.specs.Ends.{last_number}
+use Rattle.uni_core.specs.Ends.{last_number}
 use Rattle.uni_script.specs.Objects.{SpokenObject}
 use Rattle.run_marks.specs.Changes.{changes_place}
 use Rattle.run_marks.specs.declared.marks.StepMark.{StepMark}

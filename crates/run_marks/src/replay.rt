@@ -23,10 +23,9 @@ use cell_arena::CellId;
 use ready_objects::Spoken;
 use seq_object::CallId;
 use std::alloc::{AllocError, Global};
-use uni_core::{Place, Progress, StepKind, World};
+use uni_core::{Place, Progress, StepKind, World, reshape, trim};
 use uni_log::{Entry, Log};
 use uni_record::{Event, Recorded};
-use uni_trim::{reshape, trim};
 
 /// The marks of the run that a record has stored, on an object of this name; `object` is a further
 /// value of that object. They are found by a replay of the events.

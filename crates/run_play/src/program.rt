@@ -11,8 +11,8 @@ use crate::page::page_of;
 use std::alloc::Global;
 use uni_script::{BenchFault, Failed, TextIn, TextOut, report_fault, tell, write_all};
 
-/// Writes the page of all schedules of the calls of the script on `input` to `output`, with the text of a goal, which is
-/// empty where there is none; the answer is the status that the program ends with.
+/// Writes the page of all schedules of the calls of the script on `input` to `output`, with the text of a goal, which
+/// is empty where there is none; the answer is the status that the program ends with.
 ///
 /// The status is 0 where all went well; 2 for a bad script, or one that has no page; 3 where `input` or `output`
 /// failed; 4 where memory was refused. The text that says so goes to `faults`, as far as that takes it.

@@ -15,7 +15,7 @@ use Rattle.uni_core.specs.declared.stage.StepKind.{StepKind}
 use Rattle.uni_core.specs.declared.fault.Progress.{Progress}
 use Rattle.uni_core.specs.declared.fault.Progress.TheVariants.{Going, Done}
 use Rattle.uni_core.specs.Readers.{kind_of}
-use Rattle.uni_trim.specs.Ends.{last_number}
+use Rattle.uni_core.specs.Ends.{last_number}
 use Rattle.run_trace.specs.Held.{Held, held}
 use Rattle.run_trace.specs.Proposal.{proposal_of}
 

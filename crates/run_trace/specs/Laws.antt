@@ -9,7 +9,7 @@ use Rattle.uni_model.specs.Stages.{Pending}
 use Rattle.uni_model.specs.Transition.{place_of}
 use Rattle.uni_model.specs.Worlds.{WorldOf, Event, IsQuiescent, anchor_memory, world_after, world_after_all, world_after_era}
 use Rattle.uni_model.specs.Invariant.{Invariant}
-use Rattle.uni_trim.specs.Ends.{last_number}
+use Rattle.uni_core.specs.Ends.{last_number}
 use Rattle.uni_model.specs.Worlds.Event.{Call, Step}
 use Rattle.run_trace.specs.Scenes.{scene_of, scenes_from}
 

@@ -8,7 +8,7 @@ ghost use Rattle.uni_model.specs.Worlds.{opened_world, world_after};
 ghost use Rattle.uni_model.specs.Worlds.{Event as model};
 ghost use Rattle.uni_core.specs.Readers.{call_of_name, kind_of, place_named, proposed_at, IsPlaceIn};
 ghost use Rattle.uni_core.specs.World.{current_of, name_in, world_of, IsProgress};
-ghost use Rattle.uni_trim.specs.Ends.{last_number};
+ghost use Rattle.uni_core.specs.Ends.{last_number};
 ghost use Rattle.uni_record.specs.Event.{event_lent, event_shown, events_shown};
 ghost use Rattle.run_trace.specs.Frames.{answered, begun, ended, frame_of, stepped};
 ghost use Rattle.run_trace.specs.Proposal.{proposal_told};
@@ -23,9 +23,8 @@ use cell_arena::{CellId, Cells};
 use ready_objects::Spoken;
 use seq_object::CallId;
 use std::alloc::{AllocError, Global};
-use uni_core::{Place, Progress, StepKind, World};
+use uni_core::{Place, Progress, StepKind, World, reshape, trim};
 use uni_record::{Event, Recorded};
-use uni_trim::{reshape, trim};
 
 /// The scenes of the run that a record has stored, one for each of its events; `object` is a further value of the
 /// record's object. They are found by a replay of the events. They tell the whole memory only where that is asked for.

@@ -5,8 +5,11 @@ pub mod Counters
 pub mod Encoding
 pub mod Map
 pub mod Padded
+pub mod Placed
 pub mod Queue
 pub mod Register
+pub mod Replay
+pub mod Rooms
 pub mod ScriptQueue
 pub mod Stack
 pub mod Sticky

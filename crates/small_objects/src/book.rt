@@ -2,7 +2,8 @@
 ghost use Rattle.std.specs.Prelude.{List, ℕ, ◌<◌, ◌≡◌, ◌^◌, map, sum};
 ghost use Rattle.ready_objects.specs.Book.{book, book_answer, book_next, book_start};
 ghost use Rattle.seq_object.specs.History.{state_after};
-ghost use Rattle.small_objects.specs.Book.{IsCall, IsReply, book_steady, call_fits, call_in, call_long, call_of, call_words};
+ghost use Rattle.small_objects.specs.Book.{IsCall, IsReply, book_steady, call_fits, call_in, call_long, call_of};
+ghost use Rattle.small_objects.specs.Book.{call_words};
 ghost use Rattle.small_objects.specs.Book.{reply_fits, reply_in, reply_long, reply_words, spelled};
 ghost use Rattle.small_objects.specs.Encoding.{IsStateOf};
 

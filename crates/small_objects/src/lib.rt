@@ -1,4 +1,5 @@
-//! Objects of several words, for threads to share without a lock.
+//! Objects of several words, for threads to share without a lock; and the order of all calls on one of them: an object
+//! whose replies tell it, and the replay of calls in it, one after another.
 #![tactic(auto)]
 
 mod amount;
@@ -7,6 +8,8 @@ mod counter;
 mod counters;
 mod encoded;
 mod map;
+mod order;
+mod placed;
 mod queue;
 mod register;
 mod row;
@@ -21,6 +24,8 @@ pub use counter::SmallCounter;
 pub use counters::{CountersCall, SmallCounters};
 pub use encoded::{Encoded, StoredObject, encoded_follows_plain};
 pub use map::{MapCall, MapReply, SmallMap};
+pub use order::{ReplayFault, replay};
+pub use placed::{InPlace, Placed};
 pub use queue::SmallQueue;
 pub use register::{RegisterCall, SmallRegister};
 pub use script_queue::{SmallScriptQueue, small_queue_follows_plain};

@@ -7,7 +7,8 @@ ghost use Rattle.small_objects.specs.Amount.{amount_long};
 ghost use Rattle.small_objects.specs.Encoding.{IsStateOf};
 ghost use Rattle.small_objects.specs.Padded.{row_of};
 ghost use Rattle.small_objects.specs.ScriptQueue.{IsCall, IsReply, call_fits, call_in, call_words, on_words, put_by};
-ghost use Rattle.small_objects.specs.ScriptQueue.{queue_of, queue_steady, reply_fits, reply_in, reply_long, reply_words, spelled};
+ghost use Rattle.small_objects.specs.ScriptQueue.{queue_of, queue_steady, reply_fits, reply_in, reply_long};
+ghost use Rattle.small_objects.specs.ScriptQueue.{reply_words, spelled};
 
 use crate::row::{clear, take_out};
 use crate::words::Words;

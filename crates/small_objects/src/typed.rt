@@ -1,5 +1,6 @@
 //! Seats that are called with calls, and give replies.
-ghost use Rattle.std.specs.Prelude.{List, [], IfOk, IsErr, IsErrOf, ℕ, ◌+◌, ◌++◌, ◌<◌, ◌≡◌, ◌≢◌, ◌≤◌, ◌⊎◌, ◌↔◌, ◌∷◌, OnErr, OnOk};
+ghost use Rattle.std.specs.Prelude.{List, [], IfOk, IsErr, IsErrOf, ℕ, ◌+◌, ◌++◌, ◌<◌, ◌≡◌, ◌≢◌, ◌≤◌, ◌⊎◌, ◌↔◌, ◌∷◌};
+ghost use Rattle.std.specs.Prelude.{OnErr, OnOk};
 ghost use Rattle.uni_small.specs.Invariant.{most_calls};
 ghost use Rattle.uni_small.specs.Belongs.{IsSeatOf, calls_made, invocation_width_of, own_calls, reply_width_of};
 ghost use Rattle.uni_small.specs.Belongs.{process_of, sizes_of, version_of, word_steps_of};

@@ -3,6 +3,7 @@ pub mod Stage
 pub mod Local
 pub mod World
 pub mod Refusals
+pub mod Ends
 pub mod Readers
 pub mod Run
 pub mod Same

@@ -3,6 +3,7 @@
 #![tactic(auto)]
 
 mod command;
+mod ends;
 mod fault;
 mod local;
 mod readers;
@@ -15,7 +16,8 @@ mod transition;
 mod world;
 
 pub use command::{Command, Outcome, Refusal};
-pub use fault::{BeginFault, OpenFault, Progress, StepFault};
+pub use ends::{next_number, reshape, trim};
+pub use fault::{BeginFault, OpenFault, Progress, ReshapeFault, StepFault, TrimFault};
 pub use shared::WorldCells;
 pub use stage::{Place, StepKind};
 pub use world::{World, counts_fit};

@@ -14,7 +14,7 @@ use Rattle.uni_core.specs.World.{Whole, world_of, IsIdle, MayNeedMemory}
 use Rattle.uni_core.specs.Refusals.{IsCount, IsRow, CanOpen, CanCall, CanGo}
 use Rattle.uni_core.specs.declared.fault.OpenFault.{OpenFault}
 use Rattle.uni_core.specs.declared.fault.OpenFault.TheVariants as first
-use Rattle.uni_trim.specs.Ends.{NumbersFit, IsLeastPending}
+use Rattle.uni_core.specs.Ends.{NumbersFit, IsLeastPending}
 use Rattle.uni_log.specs.declared.entry.Entry.{Entry}
 use Rattle.uni_log.specs.Entry.{entry_shown}
 use Rattle.uni_record.specs.declared.event.Event.{Event as Stored}

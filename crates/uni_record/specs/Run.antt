@@ -5,7 +5,7 @@ use Rattle.seq_object.specs.Sequential.{Sequential}
 use Rattle.uni_model.specs.Worlds.{WorldOf, world_after, world_after_all, response_of_step, without_trims}
 use Rattle.uni_core.specs.World.{current_of}
 use Rattle.uni_core.specs.Refusals.{IsCount, CanGo}
-use Rattle.uni_trim.specs.Ends.{last_number}
+use Rattle.uni_core.specs.Ends.{last_number}
 use Rattle.uni_record.specs.declared.command.Command.{Command}
 use Rattle.uni_record.specs.declared.command.Command.TheVariants.{Call, Step, Trim, Reshape}
 use Rattle.uni_record.specs.declared.command.Refusal.{Refusal}

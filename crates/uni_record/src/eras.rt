@@ -7,7 +7,7 @@ ghost use Rattle.uni_model.specs.Worlds.{Event as model};
 ghost use Rattle.uni_model.specs.History.{log};
 ghost use Rattle.uni_core.specs.World.{world_of};
 ghost use Rattle.uni_log.specs.Entry.{entry_shown};
-ghost use Rattle.uni_trim.specs.Ends.{last_number};
+ghost use Rattle.uni_core.specs.Ends.{last_number};
 ghost use Rattle.uni_record.specs.declared.event.Event.TheVariants as event;
 ghost use Rattle.uni_record.specs.Recorded.{KeepsOpening, standing_of, untrimmed_world, CanEnd, IsEndRefused};
 ghost use Rattle.uni_record.specs.Recorded.{IsReshapeRefused, IsPromised};
@@ -19,10 +19,9 @@ use crate::fault::{RecordReshapeFault, RecordTrimFault};
 use crate::recorded::Recorded;
 use seq_object::SeqObject;
 use std::alloc::{AllocError, Global};
-use uni_core::World;
+use uni_core::{World, next_number};
 use uni_log::{Entry, Log};
 use uni_model::MAX_PROCESSES;
-use uni_trim::next_number;
 
 /// The entries of the present era of a world, with room made for them behind those of the ended eras,
 /// and for one event more.
@@ -86,7 +85,7 @@ impl<O: SeqObject> Recorded<O> {
         }
     }
 
-    /// Ends the era, as `uni_trim::trim` does, whose event is stored; the entries of the ended era are
+    /// Ends the era, as `uni_core::trim` does, whose event is stored; the entries of the ended era are
     /// kept. The answer is the number of the new anchor.
     ///
     /// Errors, in this order: `Pending(p)` where a process has a call pending, with the least of such;
@@ -120,7 +119,7 @@ impl<O: SeqObject> Recorded<O> {
         Ok(number)
     }
 
-    /// Ends the era as `trim` does, and makes the number of processes `m`: `uni_trim::reshape`. The
+    /// Ends the era as `trim` does, and makes the number of processes `m`: `uni_core::reshape`. The
     /// answer is the number of the new anchor.
     ///
     /// Errors, in this order: `BadCount` where `m` isn't from 1 to 64; `Pending(p)` where a process has

@@ -17,7 +17,7 @@ use Rattle.uni_script.specs.declared.answer.Refusal.{Refusal}
 use Rattle.uni_script.specs.declared.answer.Refusal.TheVariants.{Process, Busy, Row, Idle, Pending, Sequence, History, Count}
 use Rattle.uni_script.specs.Answer.{called_text, trimmed_text, reshaped_text}
 use Rattle.uni_script.specs.Objects.{SpokenObject}
-use Rattle.uni_trim.specs.Ends.{last_number}
+use Rattle.uni_core.specs.Ends.{last_number}
 use Rattle.uni_script.specs.Meaning.{Session, CommandResult, LastStep, session_of, session_after, refused, is_full, latest, least_pending, refusal_of_call, refusal_of_end, refusal_of_reshape, refusal_of_step, result_of_call, result_of_trim, result_of_reshape, result_of_steps, steps_of, steps_taken, last_step, text_of_steps}
 use Rattle.uni_script.proofs.Stepping.{session_after-none}
 

@@ -12,7 +12,7 @@ use Rattle.uni_model.specs.Worlds.Event.{Call, Step, Trim, Reshape}
 use Rattle.uni_model.specs.Chain.{Entry}
 use Rattle.uni_model.specs.History.{log}
 use Rattle.uni_core.specs.World.{world_of}
-use Rattle.uni_trim.specs.Ends.{last_number}
+use Rattle.uni_core.specs.Ends.{last_number}
 use Rattle.uni_record.specs.Event.{events_shown}
 use Rattle.uni_record.specs.Recorded.{Recording, set_aside, share}
 use Rattle.uni_script.specs.declared.grammar.Header.{Header}

@@ -5,7 +5,7 @@ ghost use Rattle.std.specs.Prelude.{OnErr, OnOk, IsErrOf, IsSome, Some, None};
 ghost use Rattle.uni_model.specs.Worlds.{world_after};
 ghost use Rattle.uni_model.specs.Worlds.{Event as model};
 ghost use Rattle.uni_core.specs.World.{world_of, current_of, MayNeedMemory};
-ghost use Rattle.uni_trim.specs.Ends.{last_number};
+ghost use Rattle.uni_core.specs.Ends.{last_number};
 ghost use Rattle.uni_record.specs.declared.event.Event.TheVariants as event;
 ghost use Rattle.uni_record.specs.Recorded.{standing_of, KeepsOpening, CanBegin, CanEnd, IsBeginRefused, IsEndRefused};
 ghost use Rattle.uni_shared.specs.Held.{Replies, Tells};

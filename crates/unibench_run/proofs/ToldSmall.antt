@@ -5,9 +5,9 @@ use Rattle.std.proofs.lemmas.List.{length-map, map-append}
 use Rattle.std.proofs.lemmas.List.Elements.{All-map, Contains-append_left, Contains-append_right}
 use Rattle.std.proofs.lemmas.List.Sums.{sum_by-le}
 use Rattle.std.specs.declared.alloc.AllocError.{AllocError}
-use Rattle.small_replay.specs.Placed.{placed}
-use Rattle.small_replay.specs.Replay.{IsReplayed}
-use Rattle.small_replay.specs.declared.placed.InPlace.{InPlace}
+use Rattle.small_objects.specs.Placed.{placed}
+use Rattle.small_objects.specs.Replay.{IsReplayed}
+use Rattle.small_objects.specs.declared.placed.InPlace.{InPlace}
 use Rattle.uni_small.specs.Belongs.{AreFirstSeats, IsSeatOf, calls_of, invocation_width_of, known_calls, processes_of, reply_width_of}
 use Rattle.uni_small.specs.Final.{IsFinal}
 use Rattle.uni_small.specs.Image.{Meaning}

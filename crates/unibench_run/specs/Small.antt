@@ -13,11 +13,11 @@ use Rattle.small_objects.specs.Register as register
 use Rattle.small_objects.specs.ScriptQueue as queue
 use Rattle.small_objects.specs.Stack.{stack}
 use Rattle.small_objects.specs.Sticky as small_sticky
-use Rattle.small_replay.specs.Placed.{placed}
-use Rattle.small_replay.specs.Replay.{IsReplayed}
-use Rattle.small_replay.specs.declared.order.ReplayFault.{ReplayFault}
-use Rattle.small_replay.specs.declared.order.ReplayFault.TheVariants as replay
-use Rattle.small_replay.specs.declared.placed.InPlace.{InPlace}
+use Rattle.small_objects.specs.Placed.{placed}
+use Rattle.small_objects.specs.Replay.{IsReplayed}
+use Rattle.small_objects.specs.declared.order.ReplayFault.{ReplayFault}
+use Rattle.small_objects.specs.declared.order.ReplayFault.TheVariants as replay
+use Rattle.small_objects.specs.declared.placed.InPlace.{InPlace}
 use Rattle.uni_small.specs.Belongs.{IsSeatOf, calls_made, calls_of, invocation_width_of, own_calls, process_of, processes_of}
 use Rattle.uni_small.specs.Belongs.{reply_width_of}
 use Rattle.uni_small.specs.Final.{IsFinal}

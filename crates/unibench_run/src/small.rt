@@ -3,8 +3,8 @@
 ghost use Rattle.std.specs.Prelude.{◌≡◌, ◌+◌, ◌++◌, ◌∷◌, ◌<◌, ◌≤◌, ◌^◌, ℕ, List, [], All, IfOk, IsErrOf, OnOk};
 ghost use Rattle.std.specs.Prelude.{drop, flat_map, length, map, suc, vec_len, true};
 ghost use Rattle.std.specs.List.{sum_by};
-ghost use Rattle.small_replay.specs.Placed.{placed};
-ghost use Rattle.small_replay.specs.Replay.{IsReplayed};
+ghost use Rattle.small_objects.specs.Placed.{placed};
+ghost use Rattle.small_objects.specs.Replay.{IsReplayed};
 ghost use Rattle.uni_small.specs.Belongs.{IsSeatOf, calls_made, invocation_width_of, known_calls, object_of, own_calls};
 ghost use Rattle.uni_small.specs.Belongs.{process_of, processes_of, reply_width_of, width_of};
 ghost use Rattle.uni_small.specs.Final.{IsFinal};
@@ -23,10 +23,9 @@ use rand_core::SeedableRng;
 use rand_xoshiro::Xoshiro256PlusPlus;
 use ready_objects::StickyObject;
 use small_objects::{
-    Encoded, SmallBook, SmallCounter, SmallCounters, SmallMap, SmallRegister, SmallScriptQueue,
-    SmallStack, Words,
+    Encoded, InPlace, Placed, ReplayFault, SmallBook, SmallCounter, SmallCounters, SmallMap,
+    SmallRegister, SmallScriptQueue, SmallStack, Words, replay,
 };
-use small_replay::{InPlace, Placed, ReplayFault, replay};
 use std::alloc::{AllocError, Global};
 use std::thread;
 use std::thread::Threads;
@@ -114,7 +113,8 @@ fn close_and_replay<O: DrawnCalls>(
     lists: &[Vec<(O::Call, InPlace<O::Reply>)>],
 ) -> Result<(), ThreadsFault>
     requires object { (object_of shared).object ≡ object.now }
-    requires words { ((O.meaning object.now).invocation ≡ O.Call.words) × ((O.meaning object.now).reply ≡ O.Reply.words) }
+    requires words { ((O.meaning object.now).invocation ≡ O.Call.words)
+        × ((O.meaning object.now).reply ≡ O.Reply.words) }
     requires width { width_of shared ≡ suc (length (O.meaning object.now).object.initial) }
     requires seats { All (IsSeatOf shared) seats.items }
     requires few { (length lists.now < 2 ^ 32) × (sum_by vec_len lists.now < 2 ^ 64) }
@@ -132,8 +132,8 @@ fn close_and_replay<O: DrawnCalls>(
     Ok(())
 }
 
-/// Closes an object with the seats of all its processes, which have made the calls of a plan, and makes these again: the
-/// lists of what the threads were told, with which the object agrees.
+/// Closes an object with the seats of all its processes, which have made the calls of a plan, and makes these again:
+/// the lists of what the threads were told, with which the object agrees.
 fn close_small<O: DrawnCalls>(
     alloc: Global,
     object: &O,
@@ -142,10 +142,12 @@ fn close_small<O: DrawnCalls>(
     plan: &Plan,
 ) -> Result<Vec<Vec<(O::Call, InPlace<O::Reply>)>>, ThreadsFault>
     requires object { (object_of shared).object ≡ object.now }
-    requires words { ((O.meaning object.now).invocation ≡ O.Call.words) × ((O.meaning object.now).reply ≡ O.Reply.words) }
+    requires words { ((O.meaning object.now).invocation ≡ O.Call.words)
+        × ((O.meaning object.now).reply ≡ O.Reply.words) }
     requires width { width_of shared ≡ suc (length (O.meaning object.now).object.initial) }
     requires few { (processes_of shared ≤ 64) × (plan.now.calls ≤ 10000000) }
-    requires done { AreSmallDone shared O.Call.encode O.Reply.decode O.call_of_word plan.now.calls plan.now.seed done.items }
+    requires done { AreSmallDone shared O.Call.encode O.Reply.decode O.call_of_word plan.now.calls plan.now.seed
+        done.items }
     ensures told { IfOk result (λ lists. IsSmallRun (O.meaning object.now) O.Call.encode O.Reply.encode O.Reply.decode
         O.call_of_word (processes_of shared) plan.now.calls plan.now.seed (map (λ own. own.items) lists.items)) }
     ensures others { (IsErrOf result ThreadsFault.NoSuchObject → ⊥)

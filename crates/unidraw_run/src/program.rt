@@ -57,7 +57,8 @@ pub struct Request {
 /// picture is one of lines, with `--steps` it is a sentence for each event, with `--json` the trace of the run, and
 /// beside that with `--full` the whole memory after each event, with `--html` a page that shows the trace, with
 /// `--history` the calls and the replies of the run, and with no word an SVG. Of an SVG and of lines `--from` and
-/// `--to` choose the events, and `--columns` says how long lines are at most. With `--explain` the text of a bad line says why it is bad.
+/// `--to` choose the events, and `--columns` says how long lines are at most. With `--explain` the text of a bad line
+/// says why it is bad.
 ///
 /// The status is 0 where all went well, also for help or the version, which go to `output`; 2 for a bad script,
 /// one of more than 2,000 events, or words that ask for nothing that there is; 3 where `input` or `output`

@@ -5,7 +5,8 @@ ghost use Rattle.clap.specs.Values.{kind_of};
 ghost use Rattle.clap.specs.Words.{HasKind, app_of, found_of, new_app, rows_of, rule_of};
 ghost use Rattle.clap.specs.declared.builder.command.Command.TheViews.{out-Command};
 ghost use Rattle.command_line.specs.Flags.{versioned};
-ghost use Rattle.unidraw_run.specs.CommandLine.{columns_option, comes_after, event_option, faults_of_words, form_among, form_in, form_with};
+ghost use Rattle.unidraw_run.specs.CommandLine.{columns_option, comes_after, event_option, faults_of_words, form_among};
+ghost use Rattle.unidraw_run.specs.CommandLine.{form_in, form_with};
 ghost use Rattle.unidraw_run.specs.CommandLine.{forms_used, range_in, request_in, request_of_words, unidraw};
 ghost use Rattle.unidraw_run.specs.CommandLine.{with_columns, with_options, with_range};
 ghost use Rattle.unidraw_run.specs.Shown.{option_shown};
@@ -222,8 +223,8 @@ fn comes_after(event: u64, last: Option<u64>) -> bool
     }
 }
 
-/// A form with the events that are chosen, if they are; `None` where the form has no such choice, or the first one comes
-/// after the last.
+/// A form with the events that are chosen, if they are; `None` where the form has no such choice, or the first one
+/// comes after the last.
 fn with_range(form: Form, range: Option<Range>) -> Option<Form>
     ensures { result ≡ with_range range form }
 {

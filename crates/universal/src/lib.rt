@@ -7,7 +7,9 @@
 #![tactic(auto)]
 
 pub use seq_object::{CallId, SeqObject};
-pub use uni_core::{BeginFault, OpenFault, Progress, StepFault, World};
+pub use uni_core::{
+    BeginFault, OpenFault, Progress, ReshapeFault, StepFault, TrimFault, World, reshape, trim,
+};
 pub use uni_log::{Entry, Log};
 pub use uni_record::{
     RecordBeginFault, RecordOpenFault, RecordReshapeFault, RecordStepFault, RecordTrimFault,
@@ -15,5 +17,4 @@ pub use uni_record::{
 };
 pub use uni_shared::{ApplyFault, CloseFault, Gate, GaveUp, NoGate, Seat, Shared};
 pub use uni_small::{CallsSpent, SmallObject, SmallOpenFault, SmallSeat, SmallShared};
-pub use uni_trim::{ReshapeFault, TrimFault, reshape, trim};
 pub use uni_words::{Answer, RowFull, WordLog, WordObject, WordOpenFault, WordSeat, read_log};

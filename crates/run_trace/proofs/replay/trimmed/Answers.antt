@@ -2,7 +2,7 @@ use Rattle.std.proofs.Common.{◌∙◌, None, ap}
 use Rattle.std.proofs.lemmas.Result.{IfOk-weaker}
 use Rattle.uni_model.specs.Worlds.{WorldOf}
 use Rattle.uni_core.specs.World.{world_of}
-use Rattle.uni_trim.specs.Ends.{last_number}
+use Rattle.uni_core.specs.Ends.{last_number}
 use Rattle.run_trace.specs.Frames.{ended}
 use Rattle.run_trace.proofs.replay.trimmed.Goals as goal
 

@@ -1,8 +1,8 @@
 use Rattle.std.proofs.Common.{◌≡◌, ◌∙◌, List, Vec, Global, drop, flat_map, map, sym, subst}
 use Rattle.std.proofs.lemmas.List.Elements.{All-same}
-use Rattle.small_replay.specs.Placed.{placed}
-use Rattle.small_replay.specs.Replay.{IsReplayed}
-use Rattle.small_replay.specs.declared.placed.InPlace.{InPlace}
+use Rattle.small_objects.specs.Placed.{placed}
+use Rattle.small_objects.specs.Replay.{IsReplayed}
+use Rattle.small_objects.specs.declared.placed.InPlace.{InPlace}
 use Rattle.uni_small.specs.Belongs.{IsSeatOf, known_calls, processes_of}
 use Rattle.uni_small.specs.Final.{IsFinal}
 use Rattle.unibench_run.specs.Small.{IsSmallRun}

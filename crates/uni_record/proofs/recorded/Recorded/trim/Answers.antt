@@ -4,7 +4,7 @@ use Rattle.std.proofs.lemmas.Result.{err_from_is_err_and}
 use Rattle.uni_model.specs.Worlds.{world_after, IsQuiescent}
 use Rattle.uni_model.specs.Worlds.Event.{Trim}
 use Rattle.uni_core.specs.World.{world_of}
-use Rattle.uni_trim.specs.Ends.{NumbersFit}
+use Rattle.uni_core.specs.Ends.{NumbersFit}
 use Rattle.uni_record.specs.declared.event.Event.TheVariants as stored
 use Rattle.uni_record.specs.Recorded.{standing_of, CanEnd, IsEndRefused, KeepsOpening, Recording}
 use Rattle.uni_record.proofs.Kept.{roomier}

@@ -1,0 +1,6 @@
+use Rattle.std.proofs.Common.{◌≡◌, take, vec_len}
+use Rattle.std.specs.List.{sum_by}
+use Rattle.small_objects.proofs.order.calls_in.Given as goal
+
+abbrev pub invariant-loop-own : goal.invariant-loop-own
+invariant-loop-own g l = l.calls ≡ sum_by vec_len (take l.own-index l.lists)

@@ -1,0 +1,7 @@
+use Rattle.std.proofs.Common.{◌≡◌, ◌<◌, ℕ, None, map}
+use Rattle.small_objects.specs.Replay.{next_of}
+use Rattle.small_objects.proofs.order.first_left.Given as goal
+
+-- the processes before this one have no call left
+abbrev pub invariant-loop-p : goal.invariant-loop-p
+invariant-loop-p g l = (q : ℕ) → q < l.p → next_of (map (λ own. own.items) l.lists) l.made q ≡ None

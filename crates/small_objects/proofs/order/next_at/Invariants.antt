@@ -1,0 +1,9 @@
+use Rattle.std.proofs.Common.{◌≡◌, ◌≢◌, ◌<◌, ℕ, Some, map}
+use Rattle.small_objects.specs.Replay.{next_of}
+use Rattle.small_objects.specs.declared.placed.InPlace.{InPlace}
+use Rattle.small_objects.proofs.order.next_at.Given as goal
+
+-- the next calls of the processes before this one were told other places
+abbrev pub invariant-loop-p : goal.invariant-loop-p
+invariant-loop-p g l =
+    (q : ℕ) (call : g.row.C.Denot × InPlace g.row.R.Denot) → q < l.p → next_of (map (λ own. own.items) l.lists) l.made q ≡ Some call → call.1.place ≢ l.place

@@ -1,8 +1,0 @@
-use Rattle.std.proofs.Common.{◌∙◌, ◌∷◌, ap, length-set, arith}
-use Rattle.small_replay.proofs.Behind.{put_behind}
-use Rattle.small_replay.proofs.placed.PlacedSmallObject.start.Goals as goal
-
-pub returns : goal.returns
-returns g c =
-    put_behind c.args.state.now c.start.new.state 0 _ (let long = c.requires in omega arith) (omega (arith, length-set c.args.state.now 0 0))
-    ∙ ap (λ l. 0 ∷ l) c.start.ensures

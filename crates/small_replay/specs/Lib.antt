@@ -1,3 +1,0 @@
-pub mod Placed
-pub mod Replay
-pub mod Rooms

@@ -1,5 +1,0 @@
-use Rattle.uni_small.specs.Belongs.{IsSeatOf}
-use Rattle.small_tests.proofs.replays.calls.Given as goal
-
-abbrev pub invariant-loop : goal.invariant-loop
-invariant-loop l = IsSeatOf l.shared l.seat

@@ -1,5 +1,0 @@
-use Rattle.uni_small.specs.Belongs.{IsSeatOf}
-use Rattle.small_tests.proofs.small.answers.Given as goal
-
-abbrev pub invariant-loop-row : goal.invariant-loop-row
-invariant-loop-row g l = IsSeatOf l.shared l.seat
