@@ -1,7 +1,7 @@
 //! The laws of scripts and of marks, at one object.
 
 use ready_objects::QueueObject;
-use run_marks::{bars_have_the_replies, dots_are_the_log, dots_lie_in_bars};
+use run_replay::{bars_have_the_replies, dots_are_the_log, dots_lie_in_bars};
 use uni_script::finish_returns;
 
 #[test]

@@ -5,12 +5,12 @@ use Rattle.std.specs.List.{filter, list_any}
 use Rattle.std.specs.Option.{option_map_or}
 use Rattle.std.proofs.lemmas.Bool.Decides.{nat_tests}
 use Rattle.uni_script.specs.declared.remarks.PlacedRemark.{PlacedRemark}
-use Rattle.run_marks.specs.declared.marks.StepMark.{StepMark}
-use Rattle.run_marks.specs.declared.marks.Dot.{Dot}
-use Rattle.run_marks.specs.declared.marks.EraLine.{EraLine}
-use Rattle.run_marks.specs.Marks.{End, Called, Cell, EraMarks, RunMarks}
-use Rattle.run_marks.proofs.Walked.{map-kept}
-use Rattle.run_marks.proofs.Replayed.{marks_are}
+use Rattle.run_replay.specs.declared.marks.StepMark.{StepMark}
+use Rattle.run_replay.specs.declared.marks.Dot.{Dot}
+use Rattle.run_replay.specs.declared.marks.EraLine.{EraLine}
+use Rattle.run_replay.specs.Marks.{End, Called, Cell, EraMarks, RunMarks}
+use Rattle.run_replay.proofs.Walked.{map-kept}
+use Rattle.run_replay.proofs.Replayed.{marks_are}
 use Rattle.run_layout.specs.Choice.{is_by, is_in, all_events, end_in, bar_in, is_bar_in, links_outside, era_in, chosen, is_heading, chosen_remarks}
 
 less_none : (n : ℕ) → n - 0 ≡ n

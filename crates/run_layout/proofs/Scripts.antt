@@ -15,10 +15,10 @@ use Rattle.uni_script.specs.declared.options.Echo.TheVariants.{Off}
 use Rattle.uni_script.specs.Scripts.{ScriptSession, own_scripts, own_scripts_of}
 use Rattle.uni_script.specs.declared.remarks.PlacedRemark.{PlacedRemark}
 use Rattle.uni_script.specs.Remarks.{remark_at}
-use Rattle.run_marks.specs.Shown.{marks_shown}
+use Rattle.run_replay.specs.MarksShown.{marks_shown}
 use Rattle.run_layout.specs.declared.subject.Subject.{Subject}
 use Rattle.run_layout.specs.Subject.{marks_of_events, marks_of_record, events_of_record, marks_of_session, marks_of_own, IsSubject, IsSubjectOf, HasTooManyEvents, HasMoreEvents}
-use Rattle.run_marks.specs.Marks.{RunMarks}
+use Rattle.run_replay.specs.Marks.{RunMarks}
 
 marks_of_session-record : (version : Version) (r : ScriptRecord) → marks_of_session (session_of_record version r) ≡ marks_of_record r
 marks_of_session-record version (Queue r) = refl

@@ -7,10 +7,10 @@ use Rattle.uni_script.specs.declared.remarks.Remark.{Remark}
 use Rattle.uni_script.specs.declared.remarks.Remark.TheVariants.{Heading, Note, Refused}
 use Rattle.uni_script.specs.declared.remarks.PlacedRemark.{PlacedRemark}
 use Rattle.uni_script.specs.declared.answer.Refusal.TheVariants.{Sequence}
-use Rattle.run_marks.specs.declared.marks.StepMark.{StepMark}
-use Rattle.run_marks.specs.declared.marks.Dot.{Dot}
-use Rattle.run_marks.specs.declared.marks.EraLine.{EraLine}
-use Rattle.run_marks.specs.Marks.{End, Called, Cell, EraMarks, RunMarks}
+use Rattle.run_replay.specs.declared.marks.StepMark.{StepMark}
+use Rattle.run_replay.specs.declared.marks.Dot.{Dot}
+use Rattle.run_replay.specs.declared.marks.EraLine.{EraLine}
+use Rattle.run_replay.specs.Marks.{End, Called, Cell, EraMarks, RunMarks}
 use Rattle.run_layout.specs.declared.choice.Range.{Range}
 
 -- whether an event isn't after the last one, if there is a last

@@ -10,10 +10,10 @@ use Rattle.signs.specs.declared.sign.Edge.{Edge}
 use Rattle.signs.specs.declared.sign.Edge.TheVariants.{Start, Before, After}
 use Rattle.signs.specs.Signs.{Meaning}
 use Rattle.uni_script.specs.declared.remarks.PlacedRemark.{PlacedRemark}
-use Rattle.run_marks.specs.declared.marks.StepMark.{StepMark}
-use Rattle.run_marks.specs.declared.marks.Dot.{Dot}
-use Rattle.run_marks.specs.declared.marks.EraLine.{EraLine}
-use Rattle.run_marks.specs.Marks.{End, Called, EraMarks, RunMarks}
+use Rattle.run_replay.specs.declared.marks.StepMark.{StepMark}
+use Rattle.run_replay.specs.declared.marks.Dot.{Dot}
+use Rattle.run_replay.specs.declared.marks.EraLine.{EraLine}
+use Rattle.run_replay.specs.Marks.{End, Called, EraMarks, RunMarks}
 use Rattle.run_layout.specs.declared.marked.Mark.{Mark}
 use Rattle.run_layout.specs.declared.marked.Mark.TheVariants as mark
 use Rattle.run_layout.specs.declared.marked.Sign as code

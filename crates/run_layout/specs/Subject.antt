@@ -17,7 +17,7 @@ use Rattle.uni_script.specs.Schedules.{word_of_object}
 use Rattle.uni_script.specs.Scripts.{ScriptSession, OwnSession, scripts_of}
 use Rattle.uni_script.specs.Replay.{IsInput, fault_of_script}
 use Rattle.uni_script.specs.Remarks.{remark_at, remarks_of_script}
-use Rattle.run_marks.specs.Marks.{RunMarks, marks_of_run}
+use Rattle.run_replay.specs.Marks.{RunMarks, marks_of_run}
 use Rattle.run_layout.specs.declared.subject.PictureFault.{PictureFault}
 use Rattle.run_layout.specs.declared.subject.PictureFault.TheVariants.{Script, TooManyEvents, Misdrawn}
 

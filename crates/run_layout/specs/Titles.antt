@@ -3,7 +3,7 @@ use Rattle.std.specs.Prelude.{◌≡◌, true, List, ℕ, ◌++◌, codes, refl}
 use Rattle.std.specs.Fmt.{decimal, digits}
 use Rattle.uni_core.specs.declared.stage.StepKind.TheVariants.{DecideAfter}
 use Rattle.uni_script.specs.Answer.{call_text}
-use Rattle.run_marks.specs.declared.marks.StepMark.{StepMark}
+use Rattle.run_replay.specs.declared.marks.StepMark.{StepMark}
 use Rattle.run_layout.specs.Wording.{name_text, meaning_of}
 
 -- the title of the mark of a step: its process, its call, which of the call's own steps it is, and what it does

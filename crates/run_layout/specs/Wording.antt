@@ -10,11 +10,11 @@ use Rattle.uni_core.specs.declared.stage.StepKind.TheVariants.{DecideAfter, Deci
 use Rattle.uni_script.specs.declared.answer.Refusal.{Refusal}
 use Rattle.uni_script.specs.declared.answer.Refusal.TheVariants.{Process, Busy, Row, Idle, Pending, Sequence, History, Count}
 use Rattle.uni_script.specs.Answer.{call_text}
-use Rattle.run_marks.specs.declared.marks.Dot.{Dot}
-use Rattle.run_marks.specs.declared.marks.EraEnd.{EraEnd}
-use Rattle.run_marks.specs.declared.marks.EraEnd.TheVariants.{Trim, Reshape}
-use Rattle.run_marks.specs.declared.marks.EraLine.{EraLine}
-use Rattle.run_marks.specs.Marks.{End, Called, Cell, RunMarks, lanes_of}
+use Rattle.run_replay.specs.declared.marks.Dot.{Dot}
+use Rattle.run_replay.specs.declared.marks.EraEnd.{EraEnd}
+use Rattle.run_replay.specs.declared.marks.EraEnd.TheVariants.{Trim, Reshape}
+use Rattle.run_replay.specs.declared.marks.EraLine.{EraLine}
+use Rattle.run_replay.specs.Marks.{End, Called, Cell, RunMarks, lanes_of}
 
 -- the letter of a kind of step
 abbrev pub letter_of : StepKind → ℕ

@@ -4,7 +4,7 @@ ghost use Rattle.std.specs.Prelude.{◌≤◌, ◌<◌, ◌^◌};
 
 use crate::refusals::{Told, told_of};
 use crate::wording::{label_of, line_of};
-use run_marks::{Bar, Era, Marks};
+use run_replay::{Bar, Era, Marks};
 use signs::{Layout, Span};
 use std::alloc::{AllocError, Global};
 use uni_script::PlacedRemark;

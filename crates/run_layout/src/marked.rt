@@ -3,7 +3,7 @@
 ghost use Rattle.std.specs.Prelude.{◌≡◌, ◌-◌, ◌++◌, ◌∷◌, [], IfOk, OnOk, Some, map};
 ghost use Rattle.std.specs.List.{flat_map};
 ghost use Rattle.signs.specs.Signs.{meaning};
-ghost use Rattle.run_marks.specs.Shown.{bar_shown, era_shown, marks_shown};
+ghost use Rattle.run_replay.specs.MarksShown.{bar_shown, era_shown, marks_shown};
 ghost use Rattle.run_layout.specs.Refusals.{told_shown};
 ghost use Rattle.run_layout.specs.Marked.{after_events, arrow_in, arrow_signs, at, bar_sign, counts_signs, dot_sign};
 ghost use Rattle.run_layout.specs.Marked.{line_sign, names_from, new_names, refusal_signs, sign_shown, signs_of};
@@ -13,7 +13,7 @@ use crate::axis::MOST_LANES;
 use crate::refusals::{Told, told_of};
 use crate::titles::step_title;
 use crate::wording::{counts_of, label_of, line_of, name_of};
-use run_marks::{Bar, Dot, Era, EraLine, Marks, StepMark};
+use run_replay::{Bar, Dot, Era, EraLine, Marks, StepMark};
 use signs::{Edge, Look, Part};
 use std::alloc::{AllocError, Global};
 use uni_core::StepKind;

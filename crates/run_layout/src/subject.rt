@@ -6,7 +6,7 @@ ghost use Rattle.uni_script.specs.Objects.{spoken};
 ghost use Rattle.uni_script.specs.Replay.{HasFault, IsFaultOfScript};
 ghost use Rattle.uni_script.specs.Scripts.{scripts_of, own_scripts_of};
 ghost use Rattle.uni_script.specs.declared.fault.BenchFault.{BenchFault as Fault};
-ghost use Rattle.run_marks.specs.Shown.{marks_shown};
+ghost use Rattle.run_replay.specs.MarksShown.{marks_shown};
 ghost use Rattle.run_layout.specs.Choice.{chosen, chosen_remarks};
 ghost use Rattle.run_layout.specs.Subject.{marks_of_events, marks_of_record, marks_of_own, events_of_record};
 ghost use Rattle.run_layout.specs.Subject.{picture_fault_text, IsSubject, IsSubjectOf, HasTooManyEvents, HasMoreEvents};
@@ -14,7 +14,7 @@ ghost use Rattle.run_layout.specs.Subject.{picture_fault_text, IsSubject, IsSubj
 use crate::axis::MOST_EVENTS;
 use crate::choice::{Range, chosen, chosen_remarks};
 use ready_objects::{BookObject, DirectoryObject, QueueObject, Spoken, StickyObject};
-use run_marks::{Marks, marks_of};
+use run_replay::{Marks, marks_of};
 use std::alloc::{AllocError, Global};
 use std::fmt;
 use uni_record::Recorded;

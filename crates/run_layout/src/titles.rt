@@ -4,7 +4,7 @@ ghost use Rattle.std.specs.Prelude.{◌≡◌, IfOk};
 ghost use Rattle.run_layout.specs.Titles.{step_title};
 
 use crate::wording::meaning_of;
-use run_marks::StepMark;
+use run_replay::StepMark;
 use std::alloc::{AllocError, Global};
 use std::io::Write;
 

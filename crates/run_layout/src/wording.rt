@@ -3,13 +3,13 @@
 ghost use Rattle.std.specs.Prelude.{◌≡◌, ◌++◌, [], IfOk, OnOk, option_map};
 ghost use Rattle.std.specs.List.{find};
 ghost use Rattle.std.specs.Option.{option_map_or};
-ghost use Rattle.run_marks.specs.Shown.{end_shown, bar_shown, cell_shown, marks_shown};
+ghost use Rattle.run_replay.specs.MarksShown.{end_shown, bar_shown, cell_shown, marks_shown};
 ghost use Rattle.run_layout.specs.Wording.{linker_text, is_help};
 ghost use Rattle.run_layout.specs.Wording.{letter_of, meaning_of, label_text, counted_text, counts_text, line_text};
 ghost use Rattle.run_layout.specs.Wording.{refusal_words, lane_of, cell_words, cell_state, cell_name, title_text};
 ghost use Rattle.run_layout.specs.Wording.{name_text};
 
-use run_marks::{Bar, BarEnd, CellBox, Dot, EraEnd, EraLine, Marks, StepMark};
+use run_replay::{Bar, BarEnd, CellBox, Dot, EraEnd, EraLine, Marks, StepMark};
 use std::alloc::{AllocError, Global};
 use std::io::Write;
 use uni_core::StepKind;

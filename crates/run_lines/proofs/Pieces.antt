@@ -3,7 +3,7 @@ use Rattle.std.proofs.Common.{◌≡◌, ◌∙◌, ℕ, List, ◌++◌, ap, map
 use Rattle.std.proofs.lemmas.Simd.{map-map}
 use Rattle.signs.specs.Signs.{AreShown, Meaning, Places}
 use Rattle.uni_script.specs.declared.remarks.PlacedRemark.{PlacedRemark}
-use Rattle.run_marks.specs.Marks.{RunMarks}
+use Rattle.run_replay.specs.Marks.{RunMarks}
 use Rattle.run_lines.specs.declared.canvas.Stroke as code
 use Rattle.run_lines.specs.Canvas.{outline_of, stroke_shown}
 use Rattle.run_lines.specs.Sheet.{HasText, above_text, below_text}

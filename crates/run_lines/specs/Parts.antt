@@ -10,7 +10,7 @@ use Rattle.uni_core.specs.declared.stage.StepKind.TheVariants.{DecideAfter}
 use Rattle.uni_script.specs.declared.remarks.Remark.{Remark}
 use Rattle.uni_script.specs.declared.remarks.Remark.TheVariants.{Heading, Note, Refused}
 use Rattle.uni_script.specs.declared.remarks.PlacedRemark.{PlacedRemark}
-use Rattle.run_marks.specs.Marks.{RunMarks}
+use Rattle.run_replay.specs.Marks.{RunMarks}
 use Rattle.run_layout.specs.declared.marked.Mark.{Mark}
 use Rattle.run_layout.specs.declared.marked.Mark.TheVariants as mark
 use Rattle.run_layout.specs.Marked.{Sign, after_events, part, signs_of}

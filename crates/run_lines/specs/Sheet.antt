@@ -7,8 +7,8 @@ use Rattle.signs.specs.Signs.{Places, AreApart, AreShown, Meaning}
 use Rattle.uni_script.specs.declared.remarks.Remark.{Remark}
 use Rattle.uni_script.specs.declared.remarks.Remark.TheVariants.{Heading, Note, Refused}
 use Rattle.uni_script.specs.declared.remarks.PlacedRemark.{PlacedRemark}
-use Rattle.run_marks.specs.declared.marks.Dot.{Dot}
-use Rattle.run_marks.specs.Marks.{Cell, EraMarks, RunMarks}
+use Rattle.run_replay.specs.declared.marks.Dot.{Dot}
+use Rattle.run_replay.specs.Marks.{Cell, EraMarks, RunMarks}
 use Rattle.run_layout.specs.Wording.{cell_name, cell_words, cell_state, name_text, title_text}
 use Rattle.run_layout.specs.Wrapping.{lines_of}
 use Rattle.run_lines.specs.declared.numbering.Numbering.{Numbering}

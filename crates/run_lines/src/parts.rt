@@ -3,7 +3,7 @@
 ghost use Rattle.std.specs.Prelude.{◌≡◌, ◌≤◌, ◌++◌, ◌∷◌, IfOk, OnOk, length, map};
 ghost use Rattle.std.specs.List.{flat_map};
 ghost use Rattle.signs.specs.Signs.{meaning};
-ghost use Rattle.run_marks.specs.Shown.{marks_shown};
+ghost use Rattle.run_replay.specs.MarksShown.{marks_shown};
 ghost use Rattle.run_layout.specs.Marked.{sign_shown};
 ghost use Rattle.run_lines.specs.Numbers.{no_notes};
 ghost use Rattle.run_lines.specs.Parts.{is_arrow, layered, number_parts, numbers_from};
@@ -12,7 +12,7 @@ ghost use Rattle.run_lines.specs.Parts.{step_letter};
 
 use crate::numbering::Numbering;
 use run_layout::{Mark, Sign, after_events, letter_of, push_part, signs_of};
-use run_marks::Marks;
+use run_replay::Marks;
 use signs::{Edge, Look, Part};
 use std::alloc::{AllocError, Global};
 use std::io::Write;

@@ -5,7 +5,7 @@ ghost use Rattle.std.specs.Prelude.{length, map, take};
 ghost use Rattle.std.specs.List.{flat_map};
 ghost use Rattle.signs.specs.Signs.{meaning, places_shown};
 ghost use Rattle.uni_script.specs.declared.fault.BenchFault.{BenchFault as Fault};
-ghost use Rattle.run_marks.specs.Shown.{marks_shown};
+ghost use Rattle.run_replay.specs.MarksShown.{marks_shown};
 ghost use Rattle.run_lines.specs.Canvas.{stroke_shown};
 ghost use Rattle.run_lines.specs.Sheet.{AreSide, HasText, IsTextOf, ShowsRows, above_text};
 ghost use Rattle.run_lines.specs.Sheet.{below_text, block_text, bottom_row};
@@ -21,7 +21,7 @@ use run_layout::{
     MOST_LANES, PictureFault, Scale, Side, Stretch, any_unchanged, axis_of, kinds_of,
     lanes_between, name_of, signs_of, title_of,
 };
-use run_marks::Marks;
+use run_replay::Marks;
 use signs::{Layout, Part, are_shown};
 use std::alloc::{AllocError, Global};
 use uni_script::PlacedRemark;

@@ -2,14 +2,14 @@
 
 ghost use Rattle.std.specs.Prelude.{◌≡◌, ◌++◌, ◌+◌, ◌<◌, ◌≤◌, ◌^◌, IfOk, OnOk};
 ghost use Rattle.std.specs.Prelude.{length, map, option_map};
-ghost use Rattle.run_marks.specs.Shown.{cell_shown, era_shown};
+ghost use Rattle.run_replay.specs.MarksShown.{cell_shown, era_shown};
 ghost use Rattle.run_lines.specs.Numbers.{no_notes};
 ghost use Rattle.run_lines.specs.Sheet.{ended, wrapped, padded, headings_text, numbered_note, notes_from, state_text};
 ghost use Rattle.run_lines.specs.Sheet.{cell_line, cell_text, era_text, eras_from};
 
 use crate::numbering::Numbering;
 use run_layout::{cell_name, cell_state, cell_words, letter_of, meaning_of, push_lines};
-use run_marks::{CellBox, Dot, Era};
+use run_replay::{CellBox, Dot, Era};
 use std::alloc::{AllocError, Global};
 use std::io::Write;
 use uni_core::StepKind;

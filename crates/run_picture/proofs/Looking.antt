@@ -7,7 +7,7 @@ use Rattle.svg_text.specs.Figures.{Picture, figure}
 use Rattle.svg_text.specs.Svg.{svg_text}
 use Rattle.signs.specs.Signs.{AreShown, Meaning, Outline, Places, outline_of}
 use Rattle.uni_script.specs.declared.remarks.PlacedRemark.{PlacedRemark}
-use Rattle.run_marks.specs.Marks.{RunMarks}
+use Rattle.run_replay.specs.Marks.{RunMarks}
 use Rattle.run_picture.specs.Drawn.{IsDrawingOf, IsSvgOf}
 
 abbrev seen : Shape → Outline

@@ -5,7 +5,7 @@ use Rattle.svg_text.specs.Figures.{Picture}
 use Rattle.svg_text.specs.Svg.{svg_text}
 use Rattle.signs.specs.Signs.{Places, AreApart, AreShown, AreWithin, Fills, Meaning, outline_of}
 use Rattle.uni_script.specs.declared.remarks.PlacedRemark.{PlacedRemark}
-use Rattle.run_marks.specs.Marks.{RunMarks}
+use Rattle.run_replay.specs.Marks.{RunMarks}
 use Rattle.run_layout.specs.Marked.{signs_of}
 use Rattle.run_layout.specs.Wording.{title_text}
 use Rattle.run_picture.specs.Parts.{parts_of, eras_from}

@@ -7,8 +7,8 @@ use Rattle.signs.specs.declared.sign.Look.{Look}
 use Rattle.signs.specs.declared.sign.Look.TheVariants as look
 use Rattle.signs.specs.declared.sign.Edge.TheVariants as edge
 use Rattle.signs.specs.Signs.{Meaning}
-use Rattle.run_marks.specs.declared.marks.Dot.{Dot}
-use Rattle.run_marks.specs.Marks.{Cell, EraMarks}
+use Rattle.run_replay.specs.declared.marks.Dot.{Dot}
+use Rattle.run_replay.specs.Marks.{Cell, EraMarks}
 use Rattle.run_layout.specs.declared.marked.Mark.{Mark}
 use Rattle.run_layout.specs.declared.marked.Mark.TheVariants as mark
 use Rattle.run_layout.specs.Marked.{Sign, part, part_in}

@@ -1,7 +1,7 @@
 -- The picture of a script.
 use Rattle.std.specs.Prelude.{ℕ, List, Option}
 use Rattle.uni_script.specs.declared.remarks.PlacedRemark.{PlacedRemark}
-use Rattle.run_marks.specs.Marks.{RunMarks}
+use Rattle.run_replay.specs.Marks.{RunMarks}
 use Rattle.uni_script.specs.Outcome.{Kind}
 use Rattle.uni_script.specs.Scripts.{scripts_of}
 use Rattle.run_layout.specs.declared.choice.Range.{Range}

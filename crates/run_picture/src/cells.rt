@@ -5,7 +5,7 @@ ghost use Rattle.std.specs.Prelude.{◌≤◌, ◌<◌, ◌^◌, ◌+◌, IfOk};
 use crate::figures::{Toward, push_line, push_rect, push_text, push_tip, width_of};
 use crate::lanes::MARGIN;
 use crate::parts::{anchor_lines, cell_lines, era_name};
-use run_marks::{CellBox, Dot, Era};
+use run_replay::{CellBox, Dot, Era};
 use std::alloc::{AllocError, Global};
 use svg_text::{Paint, Shape};
 

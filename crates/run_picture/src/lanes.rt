@@ -4,7 +4,7 @@ ghost use Rattle.std.specs.Prelude.{◌≤◌, ◌<◌, ◌^◌, ◌+◌, ◌*�
 
 use crate::figures::{push_line, push_text};
 use run_layout::{Axis, MOST_LANES, Stretch, name_of};
-use run_marks::Marks;
+use run_replay::Marks;
 use std::alloc::{AllocError, Global};
 use svg_text::{Paint, Shape};
 

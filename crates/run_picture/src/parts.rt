@@ -3,7 +3,7 @@
 ghost use Rattle.std.specs.Prelude.{◌≡◌, ◌++◌, ◌∷◌, [], ◌+◌, ◌<◌, ◌^◌, IfOk, OnOk, map};
 ghost use Rattle.std.specs.List.{flat_map};
 ghost use Rattle.signs.specs.Signs.{meaning};
-ghost use Rattle.run_marks.specs.Shown.{cell_shown, era_shown};
+ghost use Rattle.run_replay.specs.MarksShown.{cell_shown, era_shown};
 ghost use Rattle.run_layout.specs.Marked.{sign_shown};
 ghost use Rattle.run_picture.specs.Parts.{anchor_lines, anywhere, box_parts, cell_lines};
 ghost use Rattle.run_picture.specs.Parts.{cell_parts, era_name, era_parts};
@@ -12,7 +12,7 @@ ghost use Rattle.run_picture.specs.Parts.{eras_from, parts_of, step_look};
 use run_layout::{
     Mark, Sign, cell_name, cell_state, cell_words, letter_of, push_part, push_part_in,
 };
-use run_marks::{CellBox, Dot, Era};
+use run_replay::{CellBox, Dot, Era};
 use signs::{Edge, Look, Part};
 use std::alloc::{AllocError, Global};
 use std::io::Write;

@@ -10,7 +10,7 @@ use crate::notes::{description_of, line_letters, push_headings, push_rooms};
 use crate::rows::{push_rows, rows_of};
 use crate::strip::{label_span, push_signs};
 use run_layout::{Axis, Scale, Side, Sign, any_unchanged, axis_of, kinds_of, signs_of, title_of};
-use run_marks::Marks;
+use run_replay::Marks;
 use signs::{Layout, Span};
 use std::alloc::{AllocError, Global};
 use svg_text::{Anchor, Drawing, Paint, Shape};

@@ -4,14 +4,14 @@ ghost use Rattle.std.specs.Prelude.{◌≡◌, ◌-◌, [], IfOk, IsErrOf, IsTru
 ghost use Rattle.svg_text.specs.Figures.{picture};
 ghost use Rattle.signs.specs.Signs.{AreWithin, meaning, places_shown};
 ghost use Rattle.uni_script.specs.declared.fault.BenchFault.{BenchFault as Fault};
-ghost use Rattle.run_marks.specs.Shown.{marks_shown};
+ghost use Rattle.run_replay.specs.MarksShown.{marks_shown};
 ghost use Rattle.run_layout.specs.Wording.{title_text};
 ghost use Rattle.run_picture.specs.Drawn.{HasBoxes, IsDrawingOf, IsStripOf};
 
 use crate::parts::{boxes_of, parts_of};
 use crate::sheet::Drawn;
 use run_layout::{PictureFault, signs_of, title_of};
-use run_marks::Marks;
+use run_replay::Marks;
 use signs::{Layout, Part, are_shown, are_within, fill};
 use std::alloc::Global;
 use svg_text::Drawing;

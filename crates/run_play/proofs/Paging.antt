@@ -2,7 +2,7 @@
 use Rattle.std.proofs.Common.{◌≡◌, ◌≤◌, List, ℕ, Option, Result, Ok, Err, OnOk, IfOk, false, length, map, sym, subst, true}
 use Rattle.std.specs.Prelude.{Vec}
 use Rattle.std.specs.declared.alloc.Global.{Global}
-use Rattle.json_text.specs.Json.{object_text}
+use Rattle.run_tell.specs.Json.{object_text}
 use Rattle.ready_objects.specs.Spoken.{Language}
 use Rattle.seq_object.specs.Sequential.{Sequential}
 use Rattle.uni_model.specs.Worlds.{Event}

@@ -13,14 +13,14 @@ use Rattle.uni_model.specs.Worlds.{WorldOf, Event, response_of_step, world_after
 use Rattle.uni_model.specs.Worlds.Event.{Call, Step, Trim, Reshape}
 use Rattle.uni_core.specs.Readers.{kind_of}
 use Rattle.uni_core.specs.Same.{without_counts}
-use Rattle.run_trace.specs.Held.{alone, held}
-use Rattle.run_trace.specs.Proposal.{proposal_of}
-use Rattle.run_trace.specs.Frames.{Steps, frame_of, stepped}
+use Rattle.run_replay.specs.Held.{alone, held}
+use Rattle.run_replay.specs.Proposal.{proposal_of}
+use Rattle.run_replay.specs.Frames.{Steps, frame_of, stepped}
 use Rattle.run_graph.specs.Graph.{path_of, shown_at, IsGraph, LeadsTo}
 use Rattle.run_graph.specs.Schedule.{Plan, event_of, moved, shown, world_at}
 use Rattle.run_graph.proofs.Reached.{shown-next, shown_at-path, some-same}
-use Rattle.run_trace.specs.Shown.{frame_shown}
-use Rattle.run_trace.specs.declared.frame.Frame.{Frame as FrameOfCode}
+use Rattle.run_replay.specs.ScenesShown.{frame_shown}
+use Rattle.run_replay.specs.declared.frame.Frame.{Frame as FrameOfCode}
 use Rattle.run_play.specs.Edges.{edge_text, frame_at, frame_text, step_text}
 
 module _ {S I R : Type 0} (object : Sequential S I R) (l : Language I R) (text : S → List ℕ) (to : ℕ) where

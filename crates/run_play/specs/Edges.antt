@@ -4,13 +4,13 @@ use Rattle.std.specs.Prelude.{option_and_then}
 use Rattle.std.specs.Fmt.{digits}
 use Rattle.std.specs.Option.{option_map_or}
 use Rattle.std.specs.declared.alloc.Global.{Global}
-use Rattle.json_text.specs.Json.{Number, Text, Json, Member, named, object_text, text_or_null}
+use Rattle.run_tell.specs.Json.{Number, Text, Json, Member, named, object_text, text_or_null}
 use Rattle.ready_objects.specs.Spoken.{Language}
 use Rattle.run_graph.specs.Graph.{path_of}
 use Rattle.run_graph.specs.Schedule.{Plan, event_of, world_at}
 use Rattle.run_layout.specs.Wording.{letter_of}
-use Rattle.run_trace.specs.Held.{Field, Held, alone, cell_text}
-use Rattle.run_trace.specs.Frames.{Begun, Frame, Stepped, Begins, Steps, Ends, frame_of}
+use Rattle.run_replay.specs.Held.{Field, Held, alone, cell_text}
+use Rattle.run_replay.specs.Frames.{Begun, Frame, Stepped, Begins, Steps, Ends, frame_of}
 use Rattle.uni_core.specs.declared.stage.StepKind.TheVariants as kinds
 
 -- What is told beside what the place of a step holds: the reply that is settled with a state, the cell that the step proposed, or

@@ -3,7 +3,7 @@ use Rattle.std.specs.Prelude.{◌≡◌, ℕ, ◌≤◌, ◌==◌, Bool, true, f
 use Rattle.std.specs.Fmt.{digits}
 use Rattle.std.specs.List.{flat_map}
 use Rattle.std.specs.declared.alloc.Global.{Global}
-use Rattle.json_text.specs.Json.{Number, Text, Json, Member, named, object_text, list_text}
+use Rattle.run_tell.specs.Json.{Number, Text, Json, Member, named, object_text, list_text}
 use Rattle.uni_model.specs.Worlds.{Event}
 use Rattle.uni_script.specs.declared.remarks.PlacedRemark.{PlacedRemark}
 use Rattle.uni_script.specs.declared.remarks.Remark.{Remark}

@@ -7,15 +7,15 @@ ghost use Rattle.uni_core.specs.World.{world_of};
 ghost use Rattle.run_graph.specs.AtHand.{AreAtHand};
 ghost use Rattle.run_graph.specs.Graph.{IsGraph};
 ghost use Rattle.run_graph.specs.Schedule.{event_of, moved, plan_of, planned};
-ghost use Rattle.run_trace.specs.Frames.{frame_of};
-ghost use Rattle.run_trace.specs.Shown.{begun_shown, frame_shown, step_shown};
+ghost use Rattle.run_replay.specs.Frames.{frame_of};
+ghost use Rattle.run_replay.specs.ScenesShown.{begun_shown, frame_shown, step_shown};
 ghost use Rattle.run_play.specs.Edges.{begun_text, beside_text, edge_text, frame_text, step_text, AreEdges};
 
-use json_text::{Member, Value, push_object, push_text_or_null};
+use run_tell::{Member, Value, push_object, push_text_or_null};
 use ready_objects::Spoken;
 use run_graph::{Graph, Plan, keep_world, no_worlds, take_world};
 use run_layout::letter_of;
-use run_trace::{Begun, Frame, Step, begun_of, cell_text, step_of};
+use run_replay::{Begun, Frame, Step, begun_of, cell_text, step_of};
 use std::alloc::{AllocError, Global};
 use uni_core::World;
 

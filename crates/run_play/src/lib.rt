@@ -1,7 +1,7 @@
 //! The page to play: all schedules of a script's calls, as one file for a browser, which needs no network.
 //!
 //! What a page is stands in `specs/Play.antt`: `IsPlayed`. It is the graph of `run_graph` with what each event does
-//! (`run_trace`), between fixed texts with the program that walks it. docs/play.md tells what a reader sees.
+//! (`run_replay`), between fixed texts with the program that walks it. docs/play.md tells what a reader sees.
 #![tactic(auto)]
 
 mod edges;

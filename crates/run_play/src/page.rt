@@ -1,7 +1,7 @@
 //! From the bytes of a script to the page.
 
 ghost use Rattle.std.specs.Prelude.{◌≡◌, ◌++◌, IfOk, OnOk, IsErrOf, false, map};
-ghost use Rattle.json_text.specs.Json.{object_text};
+ghost use Rattle.run_tell.specs.Json.{object_text};
 ghost use Rattle.uni_record.specs.Event.{events_shown};
 ghost use Rattle.uni_script.specs.Objects.{spoken};
 ghost use Rattle.uni_script.specs.Replay.{HasFault, IsFaultOfScript};
@@ -16,7 +16,7 @@ use crate::edges::edge_texts;
 use crate::fault::{PlayFault, of_graph};
 use crate::plan::{has_one_era, plan_of};
 use crate::viewer::{END, START};
-use json_text::{Member, Value, push_list, push_object};
+use run_tell::{Member, Value, push_list, push_object};
 use ready_objects::Spoken;
 use run_graph::{Plan, explore};
 use std::alloc::{AllocError, Global};

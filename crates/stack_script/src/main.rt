@@ -7,8 +7,7 @@ ghost use Rattle.std.specs.Prelude.{◌≡◌, false};
 
 use run_layout::Range;
 use run_lines::{COLUMNS, lines_of_object};
-use run_steps::InWords;
-use run_telling::trace_of_record;
+use run_tell::{InWords, trace_of_record};
 use stack::Stack;
 use std::alloc::Global;
 use std::process::ExitCode;

@@ -8,10 +8,10 @@ use Rattle.uni_script.specs.declared.fault.BenchFault.{BenchFault}
 use Rattle.run_layout.specs.Subject.{HasTooManyEvents}
 use Rattle.run_picture.specs.Picture.{IsPicture}
 use Rattle.run_lines.specs.Lines.{IsLines}
-use Rattle.run_json.specs.Trace.{IsTrace, IsWholeTrace}
-use Rattle.run_steps.specs.Steps.{IsSteps}
-use Rattle.run_page.specs.Page.{IsPage}
-use Rattle.run_history.specs.History.{IsHistory}
+use Rattle.run_tell.specs.Trace.{IsTrace, IsWholeTrace}
+use Rattle.run_tell.specs.Steps.{IsSteps}
+use Rattle.run_tell.specs.Page.{IsPage}
+use Rattle.run_tell.specs.History.{IsHistory}
 pub use Rattle.unidraw_run.specs.CommandLine.{form_of_words}
 use Rattle.unidraw_run.specs.declared.program.Form.{Form}
 use Rattle.unidraw_run.specs.declared.program.Form.TheVariants.{Svg, Lines, Steps, Json, Full, Html, History}

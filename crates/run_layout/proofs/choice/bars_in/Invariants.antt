@@ -1,6 +1,6 @@
 use Rattle.std.proofs.Common.{◌≡◌, ◌++◌, map}
 use Rattle.std.specs.List.{filter}
-use Rattle.run_marks.specs.Shown.{bar_shown}
+use Rattle.run_replay.specs.MarksShown.{bar_shown}
 use Rattle.run_layout.specs.Choice.{bar_in, is_bar_in}
 use Rattle.run_layout.proofs.choice.bars_in.Given as goal
 

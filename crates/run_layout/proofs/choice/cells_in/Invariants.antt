@@ -1,6 +1,6 @@
 use Rattle.std.proofs.Common.{◌≡◌, ◌++◌, map, not}
 use Rattle.std.specs.List.{filter, list_any}
-use Rattle.run_marks.specs.Shown.{cell_shown}
+use Rattle.run_replay.specs.MarksShown.{cell_shown}
 use Rattle.run_layout.specs.Choice.{links_outside}
 use Rattle.run_layout.proofs.choice.cells_in.Given as goal
 

@@ -1,7 +1,7 @@
 use Rattle.std.proofs.Common.{◌∙◌, ap, map, refl}
 use Rattle.std.specs.List.{filter}
-use Rattle.run_marks.specs.Shown.{marks_shown}
-use Rattle.run_marks.proofs.Replayed.{marks_are}
+use Rattle.run_replay.specs.MarksShown.{marks_shown}
+use Rattle.run_replay.proofs.Replayed.{marks_are}
 use Rattle.run_layout.specs.Choice.{is_in, meets, step_in, dot_in, line_in, era_in}
 use Rattle.run_layout.proofs.choice.chosen.Goals as goal
 

@@ -1,6 +1,6 @@
 use Rattle.std.proofs.Common.{◌≡◌, ◌++◌, map}
 use Rattle.std.specs.List.{filter}
-use Rattle.run_marks.specs.Shown.{era_shown}
+use Rattle.run_replay.specs.MarksShown.{era_shown}
 use Rattle.run_layout.specs.Choice.{meets, era_in}
 use Rattle.run_layout.proofs.choice.eras_in.Given as goal
 

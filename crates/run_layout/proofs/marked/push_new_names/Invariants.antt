@@ -1,5 +1,5 @@
 use Rattle.std.proofs.Common.{◌≡◌, ◌++◌, map, drop}
-use Rattle.run_marks.specs.Shown.{era_shown}
+use Rattle.run_replay.specs.MarksShown.{era_shown}
 use Rattle.run_layout.specs.Marked.{new_names, sign_shown}
 use Rattle.run_layout.proofs.marked.push_new_names.Given as goal
 

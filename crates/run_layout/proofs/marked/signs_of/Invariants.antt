@@ -1,6 +1,6 @@
 use Rattle.std.proofs.Common.{◌≡◌, ◌++◌, map, take}
 use Rattle.std.specs.List.{flat_map}
-use Rattle.run_marks.specs.Shown.{bar_shown}
+use Rattle.run_replay.specs.MarksShown.{bar_shown}
 use Rattle.run_layout.specs.Refusals.{told_shown}
 use Rattle.run_layout.specs.Marked.{sign_shown, line_sign, bar_sign, arrow_signs, step_sign, dot_sign, text_signs, refusal_signs}
 use Rattle.run_layout.proofs.marked.signs_of.Given as goal

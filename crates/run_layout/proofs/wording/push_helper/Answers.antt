@@ -2,7 +2,7 @@ use Rattle.std.proofs.Common.{◌≡◌, ◌∙◌, ◌++◌, [], ap, sym, subst
 use Rattle.std.specs.List.{find}
 use Rattle.std.specs.Option.{option_map_or}
 use Rattle.std.proofs.lemmas.List.{map-id, get_or_default, drop_all}
-use Rattle.run_marks.specs.Shown.{cell_shown}
+use Rattle.run_replay.specs.MarksShown.{cell_shown}
 use Rattle.run_layout.specs.Wording.{linker_text, is_help}
 use Rattle.run_layout.proofs.Finding.{found_here}
 use Rattle.run_layout.proofs.wording.push_helper.Goals as goal

@@ -1,6 +1,6 @@
 use Rattle.std.proofs.Common.{◌≡◌, drop, map}
 use Rattle.std.specs.List.{find}
-use Rattle.run_marks.specs.Shown.{cell_shown}
+use Rattle.run_replay.specs.MarksShown.{cell_shown}
 use Rattle.run_layout.specs.Wording.{is_help}
 use Rattle.run_layout.proofs.wording.push_helper.Given as goal
 

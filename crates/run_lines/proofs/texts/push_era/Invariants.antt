@@ -1,6 +1,6 @@
 use Rattle.std.proofs.Common.{◌≡◌, ◌++◌, map, take}
 use Rattle.std.specs.List.{flat_map}
-use Rattle.run_marks.specs.Shown.{cell_shown}
+use Rattle.run_replay.specs.MarksShown.{cell_shown}
 use Rattle.run_lines.specs.Sheet.{cell_text}
 use Rattle.run_lines.proofs.texts.push_era.Given as goal
 

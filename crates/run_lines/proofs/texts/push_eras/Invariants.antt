@@ -1,5 +1,5 @@
 use Rattle.std.proofs.Common.{◌≡◌, ◌++◌, map, drop}
-use Rattle.run_marks.specs.Shown.{era_shown}
+use Rattle.run_replay.specs.MarksShown.{era_shown}
 use Rattle.run_lines.specs.Sheet.{eras_from}
 use Rattle.run_lines.proofs.texts.push_eras.Given as goal
 

@@ -1,6 +1,6 @@
 use Rattle.std.proofs.Common.{◌≡◌, ◌++◌, map, drop}
 use Rattle.signs.specs.Signs.{meaning}
-use Rattle.run_marks.specs.Shown.{era_shown}
+use Rattle.run_replay.specs.MarksShown.{era_shown}
 use Rattle.run_picture.specs.Parts.{eras_from}
 use Rattle.run_picture.proofs.parts.boxes_of.Given as goal
 

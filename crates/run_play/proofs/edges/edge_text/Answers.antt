@@ -7,8 +7,8 @@ use Rattle.run_graph.specs.AtHand.{AreAtHand, IsTold}
 use Rattle.run_graph.specs.Graph.{shown_at}
 use Rattle.run_graph.specs.Schedule.{event_of, moved, plan_of}
 use Rattle.run_graph.proofs.AtHand.{AreAtHand-kept}
-use Rattle.run_trace.specs.Frames.{frame_of}
-use Rattle.run_trace.specs.Shown.{frame_shown}
+use Rattle.run_replay.specs.Frames.{frame_of}
+use Rattle.run_replay.specs.ScenesShown.{frame_shown}
 use Rattle.run_play.specs.Edges.{edge_text, frame_text}
 use Rattle.run_play.proofs.Telling.{edge_told, shown-target, target_below, OnOk-all}
 use Rattle.run_play.proofs.edges.edge_text.Goals as goal

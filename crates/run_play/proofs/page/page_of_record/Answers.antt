@@ -1,5 +1,5 @@
 use Rattle.std.proofs.Common.{◌∙◌, ap, map, sym}
-use Rattle.json_text.specs.Json.{object_text}
+use Rattle.run_tell.specs.Json.{object_text}
 use Rattle.uni_record.specs.Event.{events_shown}
 use Rattle.run_play.specs.Play.{graph_members, text_between}
 use Rattle.run_play.specs.declared.viewer.TheConstants.{START, END}

@@ -1,8 +1,0 @@
-use Rattle.std.proofs.Common.{◌≡◌, ◌++◌, map, take}
-use Rattle.std.specs.List.{flat_map}
-use Rattle.json_text.specs.Json.{after_comma}
-use Rattle.json_text.proofs.json.push_more_elements.Given as goal
-
--- the elements so far
-abbrev pub invariant-loop-element : goal.invariant-loop-element
-invariant-loop-element l = l.text.items ≡ l.initial.text.items ++ flat_map after_comma (map (λ e. e.items) (take l.element-index l.elements))

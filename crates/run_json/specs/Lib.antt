@@ -1,3 +1,0 @@
-pub mod Members
-pub mod Lines
-pub mod Trace

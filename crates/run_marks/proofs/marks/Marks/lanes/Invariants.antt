@@ -1,7 +1,0 @@
-use Rattle.std.proofs.Common.{◌≡◌, map, max, drop}
-use Rattle.run_marks.specs.Marks.{lanes_of}
-use Rattle.run_marks.specs.Shown.{era_shown}
-use Rattle.run_marks.proofs.marks.Marks.lanes.Given as goal
-
-abbrev pub invariant-loop-era : goal.invariant-loop-era
-invariant-loop-era l = max l.lanes (lanes_of (map era_shown (drop l.era-index l.era-items))) ≡ lanes_of (map era_shown l.era-items)

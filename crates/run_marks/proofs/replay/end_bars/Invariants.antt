@@ -1,9 +1,0 @@
-use Rattle.std.proofs.Common.{◌≡◌, ◌++◌, map, take, drop}
-use Rattle.run_marks.specs.Shown.{bar_shown}
-use Rattle.run_marks.specs.Replay.{bar_ended}
-use Rattle.run_marks.proofs.replay.end_bars.Given as goal
-
-abbrev pub invariant-loop-bar : goal.invariant-loop-bar
-invariant-loop-bar g l =
-    let ends = bar_ended l.process (record { event = l.place; reply = g.O.Spoken.language.resp_text l.response; steps = l.steps; turns = l.turns }) in
-    map bar_shown (take l.bar-index l.bar-items) ++ map ends (map bar_shown (drop l.bar-index l.bar-items)) ≡ map ends (map bar_shown l.fn.bars.items)

@@ -1,8 +1,0 @@
-use Rattle.std.proofs.Common.{◌∙◌, ap}
-use Rattle.uni_model.specs.Worlds.{opened_world}
-use Rattle.run_marks.proofs.replay.reopened.Goals as goal
-
-pub returns-in-Ok-clause-world : goal.returns-in-Ok-clause-world
-returns-in-Ok-clause-world g c =
-    let s = (g.O.SeqObject.sequential c.args.object).initial in
-    c.in-Ok.ensures.opened ∙ ap (λ n. opened_world n s c.first.result) c.processes.ensures ∙ ap (λ k. opened_world c.args.run.now.processes s k) c.first.ensures

@@ -1,5 +1,0 @@
-use Rattle.run_page.proofs.Escapes.{escaped_plain}
-use Rattle.run_page.proofs.laws.trace_ends_no_element.Goals as goal
-
-pub returns : goal.returns
-returns c = escaped_plain

@@ -1,0 +1,16 @@
+pub mod Proposing
+pub mod Staying
+pub mod Telling
+pub mod EachEvent
+pub mod PlacesMore
+pub mod Lists
+pub mod Walked
+pub mod Ends
+pub mod Dots
+pub mod Replayed
+pub mod WholeMarks
+pub mod Logged
+pub mod Boxed
+pub mod Opened
+pub mod Inside
+pub mod Replies

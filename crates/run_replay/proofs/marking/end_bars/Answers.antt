@@ -1,0 +1,30 @@
+use Rattle.std.proofs.Common.{◌≡◌, ◌<◌, ◌≤◌, ◌∙◌, ap, map, length, arith}
+use Rattle.run_replay.specs.MarksShown.{bar_shown}
+use Rattle.run_replay.specs.Marking.{bar_ended}
+use Rattle.run_replay.specs.Marks.{Called}
+use Rattle.run_replay.proofs.Walked.{changed-more, changed-end, written_back}
+use Rattle.run_replay.proofs.marking.end_bars.Goals as goal
+
+pub loop-bar-init : goal.loop-bar-init
+loop-bar-init g c =
+    let ends : Called → Called = bar_ended c.args.process (record { event = c.args.place; reply = g.O.Spoken.language.resp_text c.args.response; steps = c.args.steps; turns = c.args.turns }) in
+    ap (λ l. map ends (map bar_shown l)) c.deref_mut-bar-items.ensures.value
+
+pub loop-bar-preserved : goal.loop-bar-preserved
+loop-bar-preserved g c =
+    let ends : Called → Called = bar_ended c.args.process (record { event = c.args.place; reply = g.O.Spoken.language.resp_text c.args.response; steps = c.args.steps; turns = c.args.turns }) in
+    let same = c.loop-bar.auto.bar-items in
+    let test = c.loop-bar-test.true in
+    let within : c.loop-bar.bar-index < length c.loop-bar.bar-items = omega arith in
+    changed-more bar_shown ends c.loop-bar.bar-items c.loop-bar.bar-index c.bar-item.result c.end_bar.new.bar _ within c.in_ok-end_bar.ensures c.loop-bar.invariant
+
+pub returns : goal.returns
+returns g c =
+    let ends : Called → Called = bar_ended c.args.process (record { event = c.args.place; reply = g.O.Spoken.language.resp_text c.args.response; steps = c.args.steps; turns = c.args.turns }) in
+    let same = c.loop-bar.auto.bar-items in
+    let value = ap length c.deref_mut-bar-items.ensures.value in
+    let long : length c.loop-bar.bar-items ≡ length c.args.bars.now.items = same ∙ value in
+    let test = c.loop-bar-test.false in
+    let past : length c.loop-bar.bar-items ≤ c.loop-bar.bar-index = omega arith in
+    ap (map bar_shown) (written_back c.loop-bar.bar-items c.args.bars.now.items c.args.bars.now.len long c.args.bars.now.ok.0)
+    ∙ changed-end bar_shown ends c.loop-bar.bar-items c.loop-bar.bar-index _ past c.loop-bar.invariant

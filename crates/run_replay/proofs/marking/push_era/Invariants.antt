@@ -1,0 +1,12 @@
+use Rattle.std.proofs.Common.{◌≡◌, ◌+◌, ◌++◌, map, drop}
+use Rattle.uni_core.specs.World.{world_of}
+use Rattle.uni_log.specs.Entry.{entry_shown}
+use Rattle.run_replay.specs.Marks.{boxes_from}
+use Rattle.run_replay.specs.MarksShown.{cell_shown}
+use Rattle.run_replay.proofs.marking.push_era.Given as goal
+
+-- the boxes so far, and those of the rest
+abbrev pub invariant-loop-place : goal.invariant-loop-place
+invariant-loop-place g l =
+    map cell_shown l.cells.items ++ boxes_from g.O.Spoken.language g.O.Spoken.state_text (world_of l.world) (l.place + 1) (map entry_shown (drop l.place l.entry-items))
+    ≡ boxes_from g.O.Spoken.language g.O.Spoken.state_text (world_of l.world) 1 (map entry_shown l.entry-items)

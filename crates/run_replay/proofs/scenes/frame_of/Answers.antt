@@ -1,0 +1,21 @@
+use Rattle.std.proofs.Common.{◌∙◌, Some, sym, ap}
+use Rattle.uni_model.specs.Worlds.{world_after}
+use Rattle.uni_core.specs.World.{world_of}
+use Rattle.uni_record.specs.Event.{event_lent, event_shown}
+use Rattle.run_replay.specs.Frames.{Begins, frame_of}
+use Rattle.run_replay.proofs.Telling.{steps_told}
+use Rattle.run_replay.proofs.scenes.frame_of.Goals as goal
+
+pub returns-in_ok-begun_of-in-Call-clause-world : goal.returns-in_ok-begun_of-in-Call-clause-world
+returns-in_ok-begun_of-in-Call-clause-world g c =
+    c.in_ok-begun_of-in-Call.ensures.world ∙ ap (λ e. world_after (g.O.SeqObject.sequential c.args.replay.now.object) (world_of c.args.replay.now) (event_shown (event_lent e))) (sym c.in-Call.is)
+
+pub returns-in_ok-begun_of-in-Call-clause-frame : goal.returns-in_ok-begun_of-in-Call-clause-frame
+returns-in_ok-begun_of-in-Call-clause-frame g c =
+    ap (λ b. Some (Begins b)) c.in_ok-begun_of-in-Call.ensures.begun
+    ∙ ap (λ e. frame_of (g.O.SeqObject.sequential c.args.replay.now.object) g.O.Spoken.language g.O.Spoken.state_text (world_of c.args.replay.now) (event_shown (event_lent e))) (sym c.in-Call.is)
+
+pub returns-in_ok-step-in-Step-clause-frame : goal.returns-in_ok-step-in-Step-clause-frame
+returns-in_ok-step-in-Step-clause-frame g c =
+    steps_told (g.O.SeqObject.sequential c.args.replay.now.object) g.O.Spoken.language g.O.Spoken.state_text (world_of c.args.replay.now) c.in-Step.process _ c.in_ok-step-in-Step.ensures.step
+    ∙ ap (λ e. frame_of (g.O.SeqObject.sequential c.args.replay.now.object) g.O.Spoken.language g.O.Spoken.state_text (world_of c.args.replay.now) (event_shown (event_lent e))) (sym c.in-Step.is)

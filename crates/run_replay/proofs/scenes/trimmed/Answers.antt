@@ -1,0 +1,13 @@
+use Rattle.std.proofs.Common.{◌∙◌, None, ap}
+use Rattle.std.proofs.lemmas.Result.{IfOk-weaker}
+use Rattle.uni_model.specs.Worlds.{WorldOf}
+use Rattle.uni_core.specs.World.{world_of}
+use Rattle.uni_core.specs.Ends.{last_number}
+use Rattle.run_replay.specs.Frames.{ended}
+use Rattle.run_replay.proofs.scenes.trimmed.Goals as goal
+
+pub returns-clause-end : goal.returns-clause-end
+returns-clause-end g c =
+    IfOk-weaker c.end_of.result _ _ (λ end is. is
+    ∙ ap (λ k. ended g.O.Spoken.language g.O.Spoken.state_text None k (world_of c.trim.new.world).memory) c.in-Ok.ensures.number
+    ∙ ap (λ (u : WorldOf _ _ _). ended g.O.Spoken.language g.O.Spoken.state_text None (last_number (world_of c.args.replay.now)) u.memory) c.in-Ok.ensures.trimmed) c.end_of.ensures

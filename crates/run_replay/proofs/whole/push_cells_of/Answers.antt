@@ -1,0 +1,23 @@
+use Rattle.std.proofs.Common.{◌≡◌, ◌∙◌, ◌+◌, ◌-◌, ◌++◌, ◌∷◌, [], map, ap, sym, refl, arith}
+use Rattle.std.specs.List.{flat_map, range_with_len}
+use Rattle.uni_model.specs.Places.Name.{Of}
+use Rattle.uni_core.specs.World.{name_in, world_of}
+use Rattle.run_replay.specs.Held.{held}
+use Rattle.run_replay.specs.ScenesShown.{held_shown}
+use Rattle.run_replay.specs.Whole.{fields_of}
+use Rattle.run_replay.proofs.PlacesMore.{cells_more, fields_more}
+use Rattle.run_replay.proofs.whole.push_cells_of.Goals as goal
+
+pub loop-place-preserved : goal.loop-place-preserved
+loop-place-preserved g c =
+    let w = world_of c.args.world.now in
+    let h = held g.O.Spoken.language g.O.Spoken.state_text w.memory in
+    let old = map held_shown c.args.memory.now.items in
+    let now = map held_shown c.loop-place.memory.items in
+    let p = c.args.process in
+    let k = c.loop-place.place in
+    let nth : (c.begun.result - c.calls_in_era-calls.result) + k ≡ w.first p + k = omega arith in
+    let name : name_in w c.in-Some.cell ≡ Of p (w.first p + k) = c.in-Some.ensures.name ∙ ap (Of p) nth in
+    fields_more h fields_of (map (Of p) (range_with_len (w.first p) k)) (Of p (w.first p + k) ∷ []) old now (map held_shown c.push_cell.new.memory.items) c.loop-place.invariant
+    (c.in_ok-push_cell.ensures ∙ ap (λ x. now ++ map h (fields_of x)) name)
+    ∙ ap (λ cells. old ++ map h (flat_map fields_of cells)) (sym (cells_more (Of p) (w.first p) k (w.first p + k) refl))

@@ -1,0 +1,282 @@
+-- The marks of a run: what is drawn of its events, told by the events and the worlds before them.
+use Rattle.std.specs.Prelude.{◌≡◌, ℕ, ◌+◌, ◌-◌, ◌==◌, if◌then◌else◌, List, [], ◌∷◌, ◌++◌, length, map, max}
+use Rattle.std.specs.Prelude.{replicate, drop, true, false, Option, Some, None, option_map, refl}
+use Rattle.std.specs.Option.{option_map_or, option_or}
+use Rattle.seq_object.specs.Sequential.{Sequential}
+use Rattle.seq_object.specs.declared.call_id.CallId.{CallId}
+use Rattle.ready_objects.specs.Words.{text_of_words}
+use Rattle.ready_objects.specs.Spoken.{Language}
+use Rattle.uni_model.specs.Places.{seq_of}
+use Rattle.uni_model.specs.Places.Name.{Anchor}
+use Rattle.uni_model.specs.Stages.{Pending}
+use Rattle.uni_model.specs.Chain.{Entry}
+use Rattle.uni_model.specs.Worlds.{WorldOf, Event, world_after, response_of_step, opened_world}
+use Rattle.uni_model.specs.Worlds.Event.{Call, Step, Trim, Reshape}
+use Rattle.uni_model.specs.AtomicObject.{Act, Invoked}
+use Rattle.uni_model.specs.AtomicObject.Act.{Invoke, Linearize, Respond}
+use Rattle.uni_model.specs.History.{log, acts_of}
+use Rattle.uni_core.specs.Readers.{kind_of}
+use Rattle.uni_log.specs.Log.{state_settled_at}
+use Rattle.uni_core.specs.Ends.{last_number}
+use Rattle.uni_script.specs.Objects.{SpokenObject}
+use Rattle.run_replay.specs.Changes.{changes_place}
+use Rattle.run_replay.specs.declared.marks.StepMark.{StepMark}
+use Rattle.run_replay.specs.declared.marks.Dot.{Dot}
+use Rattle.run_replay.specs.declared.marks.EraEnd.TheVariants as era
+use Rattle.run_replay.specs.declared.marks.EraLine.{EraLine}
+
+-- how a call ended: by which event, with which reply, after how many own steps and turns
+pub record End : Type 0 where
+  pub event : ℕ
+  pub reply : List ℕ
+  pub steps : ℕ
+  pub turns : ℕ
+
+-- a call: the event with which it began, its words, and how it ended, if it has
+pub record Called : Type 0 where
+  pub call : CallId
+  pub from : ℕ
+  pub words : List ℕ
+  pub end : Option End
+
+-- a cell of the list: its number, its call with its words, and the reply and the state after it, where they are settled
+pub record Cell : Type 0 where
+  pub number : ℕ
+  pub call : CallId
+  pub words : List ℕ
+  pub reply : Option (List ℕ)
+  pub state : Option (List ℕ)
+
+-- an era: how many events came before it, its last event, where it has ended, its processes, the number of its anchor, and its cells
+pub record EraMarks : Type 0 where
+  pub from : ℕ
+  pub last : Option ℕ
+  pub processes : ℕ
+  pub anchor : ℕ
+  pub cells : List Cell
+
+-- the marks of a run
+pub record RunMarks : Type 0 where
+  pub object : List ℕ
+  pub events : ℕ
+  pub steps : List StepMark
+  pub bars : List Called
+  pub dots : List Dot
+  pub lines : List EraLine
+  pub eras : List EraMarks
+
+-- how many lanes there are: as many as an era has processes at most
+abbrev pub lanes_of : List EraMarks → ℕ
+lanes_of [] = 0
+lanes_of (e ∷ es) = max e.processes (lanes_of es)
+
+-- the step that an event is: the call that it is of, how many own steps that has taken with it, its kind, that of the stage at
+-- which its process stands, and whether it changes its place
+abbrev pub steps_by : {S I R : Type 0} → Sequential S I R → WorldOf S I R → (place : ℕ) → Event I → List StepMark
+steps_by object w place (Step p) =
+    let v = world_after object w (Step p) in
+    option_map_or (λ (call : Pending).
+    record {
+      event = place;
+      process = p;
+      nth = v.begun p - 1;
+      number = v.steps p;
+      kind = kind_of call.stage;
+      changed = changes_place object w p call;
+    } ∷ []) (w.call p) []
+steps_by object w place _ = []
+
+-- the calls that take effect among acts, in order
+abbrev pub linearized_in : {I R : Type 0} → List (Act I R) → List (Invoked I)
+linearized_in [] = []
+linearized_in (Invoke p k i ∷ acts) = linearized_in acts
+linearized_in (Linearize c ∷ acts) = c ∷ linearized_in acts
+linearized_in (Respond p k r ∷ acts) = linearized_in acts
+
+-- the dots of calls that take effect by a step of a process
+abbrev pub dots_of : {I : Type 0} → (place p : ℕ) → List (Invoked I) → List Dot
+dots_of place p calls = map (λ (c : Invoked _). record { event = place; call = record { process = c.process; nth = c.nth }; by = p }) calls
+
+-- the dots of an event: a step by which a call takes effect, whose cell it links, is that call's linearization point
+abbrev pub dots_by : {S I R : Type 0} → Sequential S I R → WorldOf S I R → (place : ℕ) → Event I → List Dot
+dots_by object w place (Step p) = dots_of place p (linearized_in (acts_of object w (Step p)))
+dots_by object w place _ = []
+
+-- the line of an event that ends an era
+abbrev pub lines_by : {S I R : Type 0} → WorldOf S I R → (place : ℕ) → Event I → List EraLine
+lines_by w place Trim = record { event = place; end = era.Trim; number = last_number w } ∷ []
+lines_by w place (Reshape n) = record { event = place; end = era.Reshape n; number = last_number w } ∷ []
+lines_by w place _ = []
+
+-- what the events of a run give, each with its place and the world before it, in order
+abbrev pub along : {S I R A : Type 0} → Sequential S I R → (WorldOf S I R → ℕ → Event I → List A) → WorldOf S I R
+    → (place : ℕ) → List (Event I) → List A
+along object by w place [] = []
+along object by w place (e ∷ es) = by w place e ++ along object by (world_after object w e) (place + 1) es
+
+-- the box of an entry of the log, with the text of the state after it, where that is settled
+abbrev pub box_of : {I R : Type 0} → Language I R → (state : Option (List ℕ)) → Entry I R → Cell
+box_of l state e = record {
+  number = e.number;
+  call = record { process = e.call.process; nth = e.call.nth };
+  words = text_of_words (l.inv_words e.call.inv);
+  reply = option_map l.resp_text e.response;
+  state = state;
+}
+
+-- the boxes of entries that stand in the list from a place on, each with the state that is settled in its cell
+abbrev pub boxes_from : {S I R : Type 0} → Language I R → (S → List ℕ) → WorldOf S I R → (place : ℕ) → List (Entry I R) → List Cell
+boxes_from l text w place [] = []
+boxes_from l text w place (e ∷ es) =
+    box_of l (option_map text (state_settled_at w place)) e ∷ boxes_from l text w (place + 1) es
+
+-- on an object with its words
+module _ {S I R : Type 0} (o : SpokenObject S I R) where
+  -- how the next step of a process ends its call, if it has a response
+  abbrev pub end_of_step : WorldOf S I R → (place p : ℕ) → Option End
+  end_of_step w place p =
+      let v = world_after o.object w (Step p) in
+      option_map (λ r. record { event = place; reply = o.language.resp_text r; steps = v.steps p; turns = v.turns p })
+      (response_of_step w p)
+
+  -- how an event ends the call of process p
+  abbrev pub end_by : (p : ℕ) → WorldOf S I R → (place : ℕ) → Event I → Option End
+  end_by p w place (Step q) = if q == p then end_of_step w place q else None
+  end_by p w place _ = None
+
+  -- the first end of a call of process p in a run
+  abbrev pub end_in : (p : ℕ) → WorldOf S I R → (place : ℕ) → List (Event I) → Option End
+  end_in p w place [] = None
+  end_in p w place (e ∷ es) = option_or (end_by p w place e) (end_in p (world_after o.object w e) (place + 1) es)
+
+  -- the bar of a call that process p begins
+  abbrev pub bar_begun : WorldOf S I R → (place p : ℕ) → I → Called
+  bar_begun w place p i =
+      record { call = record { process = p; nth = w.begun p }; from = place; words = text_of_words (o.language.inv_words i); end = None }
+
+  -- the bars of a run: each call ends where a step of its process first does
+  abbrev pub bars_in : WorldOf S I R → (place : ℕ) → List (Event I) → List Called
+  bars_in w place [] = []
+  bars_in w place (Call p i ∷ es) =
+      let v = world_after o.object w (Call p i) in
+      record (bar_begun w place p i) { end = end_in p v (place + 1) es } ∷ bars_in v (place + 1) es
+  bars_in w place (Step p ∷ es) = bars_in (world_after o.object w (Step p)) (place + 1) es
+  bars_in w place (Trim ∷ es) = bars_in (world_after o.object w Trim) (place + 1) es
+  bars_in w place (Reshape n ∷ es) = bars_in (world_after o.object w (Reshape n)) (place + 1) es
+
+-- on an object with its words and the text of each of its states
+module _ {S I R : Type 0} (o : SpokenObject S I R) (text : S → List ℕ) where
+  -- the era of a world, which began after so many events, and ends with an event, if it does
+  abbrev pub era_of : WorldOf S I R → (from : ℕ) → (last : Option ℕ) → EraMarks
+  era_of w from last = record {
+    from = from;
+    last = last;
+    processes = w.n;
+    anchor = seq_of w.memory Anchor;
+    cells = boxes_from o.language text w 1 (log w);
+  }
+
+  -- the eras of a run, where the present one began after so many events
+  abbrev pub eras_in : WorldOf S I R → (from place : ℕ) → List (Event I) → List EraMarks
+  eras_in w from place [] = era_of w from None ∷ []
+  eras_in w from place (Call p i ∷ es) = eras_in (world_after o.object w (Call p i)) from (place + 1) es
+  eras_in w from place (Step p ∷ es) = eras_in (world_after o.object w (Step p)) from (place + 1) es
+  eras_in w from place (Trim ∷ es) =
+      era_of w from (Some place) ∷ eras_in (world_after o.object w Trim) (place + 1) (place + 1) es
+  eras_in w from place (Reshape n ∷ es) =
+      era_of w from (Some place) ∷ eras_in (world_after o.object w (Reshape n)) (place + 1) (place + 1) es
+
+  -- the marks of a run from a world, on an object of this name
+  abbrev pub marks_of_run : (name : List ℕ) → WorldOf S I R → List (Event I) → RunMarks
+  marks_of_run name w events =
+      record {
+        object = name;
+        events = length events;
+        steps = along o.object (steps_by o.object) w 0 events;
+        bars = bars_in o w 0 events;
+        dots = along o.object (dots_by o.object) w 0 events;
+        lines = along o.object lines_by w 0 events;
+        eras = eras_in w 0 0 events;
+      }
+
+-- one process and an object that keeps the last number and answers the one before, from 9
+abbrev sample : Sequential ℕ ℕ ℕ
+sample = record { initial = 9; next = λ s i. i; answer = λ s i. s }
+
+-- a process alone takes 14 steps; the eighth links its cell
+one_call_dot : along sample (dots_by sample) (opened_world 1 9 1) 0 (Call 0 7 ∷ replicate 14 (Step 0))
+    ≡ record { event = 8; call = record { process = 0; nth = 0 }; by = 0 } ∷ []
+one_call_dot = refl
+
+-- a stopped process is helped: process 1 takes one step, and process 0 links first its cell, and then its own
+helped_dots : along sample (dots_by sample) (opened_world 2 9 1) 0 (Call 1 5 ∷ Step 1 ∷ Call 0 6 ∷ replicate 24 (Step 0))
+    ≡ record { event = 12; call = record { process = 1; nth = 0 }; by = 0 }
+    ∷ record { event = 20; call = record { process = 0; nth = 0 }; by = 0 } ∷ []
+helped_dots = refl
+
+-- of the steps of a process alone, those that read change nothing, and neither does the one that keeps the head where it is; nor
+-- does the last one, since the head is raised already
+one_call_changes : map (λ s. s.changed) (along sample (steps_by sample) (opened_world 1 9 1) 0 (Call 0 7 ∷ replicate 14 (Step 0)))
+    ≡ true ∷ replicate 6 false ++ replicate 5 true ++ false ∷ false ∷ []
+one_call_changes = refl
+
+-- the steps of the second of two calls count from 1
+second_call_numbers : map {B = ℕ × ℕ} (λ s. (s.nth, s.number)) (drop 12 (along sample (steps_by sample) (opened_world 1 9 1) 0
+    (Call 0 7 ∷ replicate 14 (Step 0) ++ Call 0 8 ∷ replicate 2 (Step 0))))
+    ≡ (0, 13) ∷ (0, 14) ∷ (1, 1) ∷ (1, 2) ∷ []
+second_call_numbers = refl
+
+-- two processes propose a cell after the anchor: the second proposal changes nothing
+two_proposals : map (λ s. s.changed) (drop 18 (along sample (steps_by sample) (opened_world 2 9 1) 0
+    (Call 0 7 ∷ Call 1 5 ∷ replicate 9 (Step 0) ++ replicate 9 (Step 1) ++ Step 0 ∷ Step 1 ∷ [])))
+    ≡ true ∷ false ∷ []
+two_proposals = refl
+
+-- an era that ends is marked by its last number
+trim_line : along sample lines_by (opened_world 1 9 1) 0 (Call 0 7 ∷ replicate 14 (Step 0) ++ Trim ∷ [])
+    ≡ record { event = 15; end = era.Trim; number = 2 } ∷ []
+trim_line = refl
+
+-- the words of the sample
+abbrev spoken : SpokenObject ℕ ℕ ℕ
+spoken = record {
+  object = sample;
+  language = record
+      { inv_words = λ i. (i ∷ []) ∷ []; inv_of_words = λ words. None; resp_text = λ r. r ∷ []; inv_of_word = λ w. w };
+}
+
+-- the call that is helped stays open, and the other one has its reply, steps and turns
+helped_bars : bars_in spoken (opened_world 2 9 1) 0 (Call 1 5 ∷ Step 1 ∷ Call 0 6 ∷ replicate 24 (Step 0))
+    ≡ record { call = record { process = 1; nth = 0 }; from = 0; words = 5 ∷ []; end = None }
+    ∷ record {
+      call = record { process = 0; nth = 0 };
+      from = 2;
+      words = 6 ∷ [];
+      end = Some (record { event = 26; reply = 5 ∷ []; steps = 24; turns = 2 });
+    }
+    ∷ []
+helped_bars = refl
+
+-- each of two calls of one process ends where it returns first
+two_ends : map (λ b. option_map (λ e. e.event) b.end)
+    (bars_in spoken (opened_world 1 9 1) 0 (Call 0 7 ∷ replicate 14 (Step 0) ++ Call 0 8 ∷ replicate 14 (Step 0)))
+    ≡ Some 14 ∷ Some 29 ∷ []
+two_ends = refl
+
+-- and each has its box, in the order of the dots, with the state after it
+helped_eras : eras_in spoken (λ s. s ∷ []) (opened_world 2 9 1) 0 0 (Call 1 5 ∷ Step 1 ∷ Call 0 6 ∷ replicate 24 (Step 0))
+    ≡ record {
+      from = 0;
+      last = None;
+      processes = 2;
+      anchor = 1;
+      cells = record { number = 2; call = record { process = 1; nth = 0 }; words = 5 ∷ []; reply = Some (9 ∷ []); state = Some (5 ∷ []) }
+          ∷ record { number = 3; call = record { process = 0; nth = 0 }; words = 6 ∷ []; reply = Some (5 ∷ []); state = Some (6 ∷ []) }
+          ∷ [];
+    }
+    ∷ []
+helped_eras = refl
+
+-- a run of two processes, and then of one, has two lanes
+two_lanes : lanes_of (eras_in spoken (λ s. s ∷ []) (opened_world 2 9 1) 0 0 (Reshape 1 ∷ [])) ≡ 2
+two_lanes = refl

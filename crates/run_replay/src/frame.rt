@@ -1,0 +1,210 @@
+//! The frames of a run, as plain data.
+
+ghost use Rattle.std.specs.Prelude.{◌≡◌, ◌++◌, IfOk, OnOk, map, option_map};
+ghost use Rattle.std.specs.Str.{bytes_eq};
+ghost use Rattle.run_replay.specs.Held.{change_of, changes_between, replies_changed};
+ghost use Rattle.run_replay.specs.ScenesShown.{change_shown, field_shown, held_shown};
+
+use seq_object::CallId;
+use std::alloc::{AllocError, Global};
+use uni_core::StepKind;
+
+/// A named field of the memory, and the text of what it holds.
+#[derive(Drop)]
+pub struct Field {
+    /// Its name, as `announce[1]`, `head[0]` or `1.0.seq`.
+    pub name: Vec<u8>,
+    /// The text of what it holds; `?` where nothing is written or settled there yet.
+    pub text: Vec<u8>,
+}
+
+/// What a place of the memory holds.
+#[derive(Drop)]
+pub struct Held {
+    /// The place's field; of a decision on a state and a response the state, as `1.0.state`.
+    pub field: Field,
+    /// The response that is decided with a state, as `1.0.reply`; `None` of any other place.
+    pub reply: Option<Field>,
+}
+
+/// A field that an event changed.
+#[derive(Drop)]
+pub struct Change {
+    /// Its name.
+    pub name: Vec<u8>,
+    /// The text of what it held.
+    pub before: Vec<u8>,
+    /// The text of what it holds now.
+    pub after: Vec<u8>,
+}
+
+/// A call that a process began.
+#[derive(Drop)]
+pub struct Begun {
+    /// The call.
+    pub call: CallId,
+    /// The words of its invocation.
+    pub words: Vec<u8>,
+    /// What its new cell was to ask for before it: nothing.
+    pub before: Held,
+    /// What its new cell asks for after it.
+    pub after: Held,
+}
+
+/// A step.
+#[derive(Drop)]
+pub struct Step {
+    /// The call in which it was taken.
+    pub call: CallId,
+    /// Its kind.
+    pub kind: StepKind,
+    /// What its one place held before it.
+    pub before: Held,
+    /// What that place held after it.
+    pub after: Held,
+    /// What that place would hold by what the step proposed; `None` of a step that reads or writes.
+    pub proposed: Option<Held>,
+    /// The kind of the process's next step; `None` where the call has returned.
+    pub next: Option<StepKind>,
+    /// The own steps of the call so far, this one among them.
+    pub steps: u64,
+    /// The turns of the call so far.
+    pub turns: u64,
+    /// The text of the call's reply, where this was its last step.
+    pub reply: Option<Vec<u8>>,
+}
+
+/// The end of an era. Afterwards the memory is one anchor, which all entries of announce and head name.
+#[derive(Drop)]
+pub struct EndedEra {
+    /// To how many processes the object was reshaped; `None` where the era ended by a trim.
+    pub reshaped: Option<u64>,
+    /// The number of the new anchor.
+    pub number: u64,
+    /// What is settled in the new anchor.
+    pub anchor: Held,
+}
+
+/// What an event did.
+#[derive(Drop)]
+pub enum Frame {
+    /// A process began a call.
+    Call(Begun),
+    /// A process took a step.
+    Step(Step),
+    /// An era ended.
+    End(EndedEra),
+}
+
+/// What an event did, and the whole memory after it.
+#[derive(Drop)]
+pub struct Scene {
+    /// What the event did.
+    pub frame: Frame,
+    /// What each place of the memory holds after it, where that is asked for: the entries of announce and head, and the
+    /// fields of the anchor and of each cell that was made in the era.
+    pub memory: Option<Vec<Held>>,
+}
+
+/// A copy of a field.
+///
+/// An `Err` says that memory was refused.
+fn field_copy(alloc: Global, field: &Field) -> Result<Field, AllocError>
+    ensures { IfOk result (λ copy. field_shown copy ≡ field_shown field.now) }
+{
+    Ok(Field {
+        name: Vec::from_slice(alloc, &field.name)?,
+        text: Vec::from_slice(alloc, &field.text)?,
+    })
+}
+
+/// A copy of what a place holds.
+///
+/// An `Err` says that memory was refused.
+pub(crate) fn held_copy(alloc: Global, held: &Held) -> Result<Held, AllocError>
+    ensures { IfOk result (λ copy. held_shown copy ≡ held_shown held.now) }
+{
+    let reply = match &held.reply {
+        Some(reply) => Some(field_copy(alloc, reply)?),
+        None => None,
+    };
+    Ok(Held {
+        field: field_copy(alloc, &held.field)?,
+        reply,
+    })
+}
+
+/// Whether a field holds the same text.
+fn is_same(before: &Field, after: &Field) -> bool
+    ensures { result ≡ bytes_eq before.now.text.items after.now.text.items }
+{
+    before.text.as_slice() == after.text.as_slice()
+}
+
+/// The change of a field.
+///
+/// An `Err` says that memory was refused.
+fn change_from(alloc: Global, before: &Field, after: &Field) -> Result<Change, AllocError>
+    ensures { IfOk result (λ change. change_shown change ≡
+        record { name = after.now.name.items; before = before.now.text.items; after = after.now.text.items }) }
+{
+    Ok(Change {
+        name: Vec::from_slice(alloc, &after.name)?,
+        before: Vec::from_slice(alloc, &before.text)?,
+        after: Vec::from_slice(alloc, &after.text)?,
+    })
+}
+
+/// Adds the change of a field, if there is one.
+///
+/// An `Err` says that memory was refused.
+fn push_change(
+    alloc: Global,
+    before: &Field,
+    after: &Field,
+    changes: &mut Vec<Change>,
+) -> Result<(), AllocError>
+    ensures { OnOk result (map change_shown changes.new.items ≡
+        map change_shown changes.old.items ++ change_of (field_shown before.now) (field_shown after.now)) }
+{
+    if is_same(before, after) {
+        return Ok(());
+    }
+    changes.push(change_from(alloc, before, after)?)?;
+    Ok(())
+}
+
+/// Adds the change of a reply, if there is one.
+///
+/// An `Err` says that memory was refused.
+fn push_reply_change(
+    alloc: Global,
+    before: &Option<Field>,
+    after: &Option<Field>,
+    changes: &mut Vec<Change>,
+) -> Result<(), AllocError>
+    ensures { OnOk result (map change_shown changes.new.items ≡
+        map change_shown changes.old.items ++ replies_changed (option_map field_shown before.now)
+        (option_map field_shown after.now)) }
+{
+    let Some(before) = before else {
+        return Ok(());
+    };
+    match after {
+        Some(after) => push_change(alloc, before, after, changes),
+        None => Ok(()),
+    }
+}
+
+/// The fields of a place that have changed, from what it held before to what it holds afterwards.
+///
+/// An `Err` says that memory was refused.
+pub fn changes_of(alloc: Global, before: &Held, after: &Held) -> Result<Vec<Change>, AllocError>
+    ensures { IfOk result (λ changes. map change_shown changes.items ≡
+        changes_between (held_shown before.now) (held_shown after.now)) }
+{
+    let mut changes = Vec::new(alloc);
+    push_change(alloc, &before.field, &after.field, &mut changes)?;
+    push_reply_change(alloc, &before.reply, &after.reply, &mut changes)?;
+    Ok(changes)
+}

@@ -1,0 +1,483 @@
+//! The marks of a run, by the replay of its events.
+
+ghost use Rattle.std.specs.Prelude.{◌≡◌, ℕ, ◌<◌, ◌++◌, ◌∷◌, [], ◌^◌, IfOk, OnOk};
+ghost use Rattle.std.specs.Prelude.{IfSome, IsSome, Some, drop, map, option_map};
+ghost use Rattle.std.specs.Option.{option_copied};
+ghost use Rattle.cell_arena.specs.Arena.{cell_of};
+ghost use Rattle.uni_model.specs.Places.{head_seq};
+ghost use Rattle.uni_model.specs.Transition.{place_of};
+ghost use Rattle.uni_model.specs.Worlds.{opened_world, world_after};
+ghost use Rattle.uni_model.specs.Worlds.Event.{Call, Step};
+ghost use Rattle.uni_model.specs.History.{calls_of};
+ghost use Rattle.uni_core.specs.Readers.{kind_of, place_named};
+ghost use Rattle.uni_core.specs.World.{name_in, world_of};
+ghost use Rattle.uni_log.specs.Entry.{entry_shown};
+ghost use Rattle.uni_record.specs.Event.{event_lent, event_shown, events_shown};
+ghost use Rattle.run_replay.specs.Marks.{marks_of_run, bar_begun, box_of, dots_of, era_of};
+ghost use Rattle.run_replay.specs.MarksShown.{bar_shown, cell_shown, era_shown, marks_shown};
+ghost use Rattle.run_replay.specs.Marking.{marks_with, from_with, bar_ended};
+ghost use Rattle.run_replay.specs.Changes.{announces, has_changed, presence, standing_at};
+
+use crate::marks::{Bar, BarEnd, CellBox, Dot, Era, EraEnd, EraLine, Marks, StepMark};
+use crate::opening::reopened;
+use cell_arena::CellId;
+use ready_objects::Spoken;
+use seq_object::CallId;
+use std::alloc::{AllocError, Global};
+use uni_core::{Place, Progress, StepKind, World, reshape, trim};
+use uni_log::{Entry, Log};
+use uni_record::{Event, Recorded};
+
+/// The marks of the run that a record has stored, on an object of this name; `object` is a further
+/// value of that object. They are found by a replay of the events.
+///
+/// An `Err` says that memory was refused. It would come too where the replay refused an event, as it
+/// never does with the object of the record; that isn't proved.
+pub fn marks_of<O: Spoken>(
+    alloc: Global,
+    name: &str,
+    object: O,
+    run: &Recorded<O>,
+) -> Result<Marks, AllocError>
+    ensures marks { IfOk result (λ marks. marks_shown marks
+        ≡ marks_of_run (record { object = O.sequential object; language = O.language }) O.state_text name.now
+        (opened_world run.now.processes (O.sequential object).initial run.now.first) (events_shown run.now.events)) }
+{
+    run.promise();
+    let mut replay = reopened(alloc, object, run)?;
+    let object = name.as_bytes().to_vec(alloc)?;
+    let mut marks = Marks {
+        object,
+        events: run.events().len() as u64,
+        steps: Vec::new(alloc),
+        bars: Vec::new(alloc),
+        dots: Vec::new(alloc),
+        lines: Vec::new(alloc),
+        eras: Vec::new(alloc),
+    };
+    let mut from = 0;
+    let mut place = 0;
+    for event in run.events() {
+        from = replay_event(alloc, event, from, place, &mut replay, &mut marks)?;
+        place += 1;
+    }
+    push_era(alloc, &replay, from, None, &mut marks.eras)?;
+    Ok(marks)
+}
+
+/// Takes an event in a replay, and adds its marks; the answer is how many events came before the
+/// present era.
+///
+/// An `Err` says that memory was refused, or the event.
+fn replay_event<O: Spoken>(
+    alloc: Global,
+    event: Event<&O::Inv>,
+    from: u64,
+    place: u64,
+    replay: &mut World<O>,
+    marks: &mut Marks,
+) -> Result<u64, AllocError>
+    requires { place < 2 ^ 63 }
+    ensures object { replay.new.object ≡ replay.old.object }
+    ensures from { IfOk result (λ next. next ≡ from_with from place (event_shown (event_lent event.entry))) }
+    ensures world { OnOk result (world_of replay.new
+        ≡ world_after (O.sequential replay.old.object) (world_of replay.old) (event_shown (event_lent event.entry))) }
+    ensures marks { OnOk result (marks_shown marks.new
+        ≡ marks_with (record { object = O.sequential replay.old.object; language = O.language }) O.state_text
+        (marks_shown marks.old) (world_of replay.old) from place (event_shown (event_lent event.entry))) }
+{
+    match event {
+        Event::Call(process, inv) => {
+            replay_call(alloc, process, inv, place, replay, &mut marks.bars)?;
+            Ok(from)
+        }
+        Event::Step(process) => {
+            replay_step(alloc, process, place, replay, marks)?;
+            Ok(from)
+        }
+        Event::Trim => {
+            push_era(alloc, replay, from, Some(place), &mut marks.eras)?;
+            let number = trim(replay).map_err(|_| AllocError)?;
+            let end = EraEnd::Trim;
+            let event = place;
+            marks.lines.push(EraLine { event, end, number })?;
+            Ok(place + 1)
+        }
+        Event::Reshape(processes) => {
+            push_era(alloc, replay, from, Some(place), &mut marks.eras)?;
+            let number = reshape(alloc, replay, processes).map_err(|_| AllocError)?;
+            let end = EraEnd::Reshape(processes);
+            let event = place;
+            marks.lines.push(EraLine { event, end, number })?;
+            Ok(place + 1)
+        }
+    }
+}
+
+/// A process begins a call in a replay: its bar begins.
+///
+/// An `Err` says that memory was refused, or the call.
+fn replay_call<O: Spoken>(
+    alloc: Global,
+    process: u64,
+    inv: &O::Inv,
+    place: u64,
+    replay: &mut World<O>,
+    bars: &mut Vec<Bar>,
+) -> Result<(), AllocError>
+    ensures object { replay.new.object ≡ replay.old.object }
+    ensures world { OnOk result (world_of replay.new
+        ≡ world_after (O.sequential replay.old.object) (world_of replay.old) (Call process inv.now)) }
+    ensures bars { OnOk result (map bar_shown bars.new.items
+        ≡ map bar_shown bars.old.items ++ bar_begun
+        (record { object = O.sequential replay.old.object; language = O.language })
+        (world_of replay.old) place process inv.now ∷ []) }
+{
+    let words = O::inv_text(alloc, inv)?;
+    let Ok(call) = replay.begin(alloc, process, inv) else {
+        return Err(AllocError);
+    };
+    let from = place;
+    let end = None;
+    bars.push(Bar {
+        call,
+        from,
+        words,
+        end,
+    })?;
+    Ok(())
+}
+
+/// Whether there is a cell in a world.
+///
+/// An `Err` says that there isn't.
+fn check_there<O: Spoken>(world: &World<O>, cell: CellId) -> Result<(), AllocError>
+    ensures { OnOk result (IsSome (cell_of world.now.shared.cells cell)) }
+{
+    world.shape();
+    if cell.index() == 0 {
+        return Ok(());
+    }
+    let place = u64::from(cell.index()) - 1;
+    let process = place % world.processes();
+    let first = world
+        .begun(process)
+        .saturating_sub(world.calls_in_era(process));
+    let nth = first.saturating_add(place / world.processes());
+    let process = process as u32;
+    match world.cell_of(CallId { process, nth }) {
+        Some(found) if found.index() == cell.index() => Ok(()),
+        _ => Err(AllocError),
+    }
+}
+
+/// 1 where a cell is linked.
+fn linked(link: Option<CellId>) -> u64
+    ensures { result ≡ presence link }
+{
+    match link {
+        Some(_) => 1,
+        None => 0,
+    }
+}
+
+/// 1 where a state is settled.
+fn settled<O: Spoken>(new: Option<&(O::State, Option<O::Resp>)>) -> u64
+    ensures { result ≡ presence (option_copied new.entry) }
+{
+    match new {
+        Some(_) => 1,
+        None => 0,
+    }
+}
+
+/// The number of the cell that the head of a process names.
+///
+/// An `Err` says that there is no such process.
+fn head_standing<O: Spoken>(world: &World<O>, process: u64) -> Result<u64, AllocError>
+    ensures { IfOk result (λ standing. standing ≡ head_seq (world_of world.now).memory process) }
+{
+    if process >= world.processes() {
+        return Err(AllocError);
+    }
+    Ok(world.head_seq(process))
+}
+
+/// What tells the contents of a place of a world apart: the number of a cell, or of the cell that a head names, and
+/// whether a cell is linked or a state is settled.
+///
+/// An `Err` would say that there is no such place, as a world's own steps never do.
+fn standing_at<O: Spoken>(world: &World<O>, place: Place) -> Result<u64, AllocError>
+    ensures { IfOk result (λ standing. standing
+        ≡ standing_at (world_of world.now).memory (place_named (name_in (world_of world.now)) place)) }
+{
+    match place {
+        Place::Announced(_) => Ok(0),
+        Place::HeadOf(process) => head_standing(world, process),
+        Place::SeqOf(cell) => {
+            check_there(world, cell)?;
+            Ok(world.seq(cell))
+        }
+        Place::AfterOf(cell) => {
+            check_there(world, cell)?;
+            Ok(linked(world.after(cell)))
+        }
+        Place::NewOf(cell) => {
+            check_there(world, cell)?;
+            Ok(settled::<O>(world.new_of(cell)))
+        }
+        Place::BeforeOf(cell) => {
+            check_there(world, cell)?;
+            Ok(linked(world.before(cell)))
+        }
+    }
+}
+
+/// A step that a process is about to take.
+#[derive(Clone, Copy)]
+struct Coming {
+    /// Its kind.
+    kind: StepKind,
+    /// Its place.
+    place: Place,
+}
+
+/// The next step of a process; `None` where it has no call pending.
+fn coming_step<O: Spoken>(world: &World<O>, process: u64) -> Option<Coming>
+    requires { process < (world_of world.now).n }
+    ensures kind { IfSome result (λ coming. option_map (λ c. kind_of c.stage) ((world_of world.now).call process)
+        ≡ Some coming.kind) }
+    ensures place { IfSome result (λ coming. option_map (λ c. place_of (world_of world.now).n process c.mine c.stage)
+        ((world_of world.now).call process)
+        ≡ Some (place_named (name_in (world_of world.now)) coming.place)) }
+{
+    let kind = world.next_kind(process)?;
+    let place = world.next_place(process)?;
+    Some(Coming { kind, place })
+}
+
+/// Whether a step has changed its place, which stood so before it, by the world after it.
+///
+/// An `Err` would say that there is no such place.
+fn has_changed<O: Spoken>(taken: Coming, before: u64, world: &World<O>) -> Result<bool, AllocError>
+    ensures { IfOk result (λ changed. changed ≡ has_changed taken.kind before
+        (standing_at (world_of world.now).memory (place_named (name_in (world_of world.now)) taken.place))) }
+{
+    let after = standing_at(world, taken.place)?;
+    Ok(announces(taken.kind) || before != after)
+}
+
+/// Whether a step of this kind announces a cell, which is a new one.
+fn announces(kind: StepKind) -> bool
+    ensures { result ≡ announces kind }
+{
+    match kind {
+        StepKind::Announce => true,
+        _ => false,
+    }
+}
+
+/// A process takes a step in a replay: it is marked, with a dot where a cell was linked, and the bar
+/// of its call ends where the call returns.
+///
+/// An `Err` says that memory was refused, or the step.
+fn replay_step<O: Spoken>(
+    alloc: Global,
+    process: u64,
+    place: u64,
+    replay: &mut World<O>,
+    marks: &mut Marks,
+) -> Result<(), AllocError>
+    ensures object { replay.new.object ≡ replay.old.object }
+    ensures world { OnOk result (world_of replay.new
+        ≡ world_after (O.sequential replay.old.object) (world_of replay.old) (Step process)) }
+    ensures marks { OnOk result ((from : ℕ)
+        → marks_shown marks.new ≡ marks_with
+        (record { object = O.sequential replay.old.object; language = O.language }) O.state_text
+        (marks_shown marks.old) (world_of replay.old) from place (Step process)) }
+{
+    if process >= replay.processes() {
+        return Err(AllocError);
+    }
+    let Some(coming) = coming_step(replay, process) else {
+        return Err(AllocError);
+    };
+    let standing = standing_at(replay, coming.place)?;
+    let before = Log::of(replay).entries(alloc)?.len();
+    let Ok(progress) = replay.step(alloc, process) else {
+        return Err(AllocError);
+    };
+    let nth = replay.begun(process).saturating_sub(1);
+    let steps = replay.steps(process);
+    marks.steps.push(StepMark {
+        event: place,
+        process,
+        nth,
+        number: steps,
+        kind: coming.kind,
+        changed: has_changed(coming, standing, replay)?,
+    })?;
+    push_dots(alloc, replay, before, place, process, &mut marks.dots)?;
+    if let Progress::Done(reply) = progress {
+        let turns = replay.turns(process);
+        end_bars::<O>(alloc, process, place, reply, steps, turns, &mut marks.bars)?;
+    }
+    Ok(())
+}
+
+/// Adds the dots of a step of a process, before which the list had so many cells.
+///
+/// An `Err` says that memory was refused.
+fn push_dots<O: Spoken>(
+    alloc: Global,
+    world: &World<O>,
+    before: usize,
+    place: u64,
+    process: u64,
+    dots: &mut Vec<Dot>,
+) -> Result<(), AllocError>
+    ensures { OnOk result (dots.new.items ≡ dots.old.items
+        ++ dots_of place process (drop before (calls_of (world_of world.now)))) }
+{
+    let entries = Log::of(world).entries(alloc)?;
+    for at in before..entries.len() {
+        dots.push(Dot {
+            event: place,
+            call: entries[at].call,
+            by: process,
+        })?;
+    }
+    Ok(())
+}
+
+/// Ends the bars of a process that haven't ended, by a step that has this response.
+///
+/// An `Err` says that memory was refused.
+fn end_bars<O: Spoken>(
+    alloc: Global,
+    process: u64,
+    place: u64,
+    response: O::Resp,
+    steps: u64,
+    turns: u64,
+    bars: &mut Vec<Bar>,
+) -> Result<(), AllocError>
+    ensures { OnOk result (map bar_shown bars.new.items
+        ≡ map (bar_ended process (record {
+          event = place;
+          reply = O.language.resp_text response;
+          steps = steps;
+          turns = turns;
+        })) (map bar_shown bars.old.items)) }
+{
+    for bar in bars.iter_mut() {
+        end_bar::<O>(alloc, process, place, response, steps, turns, bar)?;
+    }
+    Ok(())
+}
+
+/// Ends a bar, if it is one of the process and hasn't ended, by a step that has this response.
+///
+/// An `Err` says that memory was refused.
+fn end_bar<O: Spoken>(
+    alloc: Global,
+    process: u64,
+    place: u64,
+    response: O::Resp,
+    steps: u64,
+    turns: u64,
+    bar: &mut Bar,
+) -> Result<(), AllocError>
+    ensures { OnOk result (bar_shown bar.new ≡ bar_ended process
+        (record { event = place; reply = O.language.resp_text response; steps = steps; turns = turns })
+        (bar_shown bar.old)) }
+{
+    if bar.end.is_none() && process == u64::from(bar.call.process) {
+        let reply = O::resp_text(alloc, response)?;
+        bar.end = Some(BarEnd {
+            event: place,
+            reply,
+            steps,
+            turns,
+        });
+    }
+    Ok(())
+}
+
+/// Adds the era of a world, which began after so many events and ends with an event, if it does, with its cells.
+///
+/// An `Err` says that memory was refused.
+fn push_era<O: Spoken>(
+    alloc: Global,
+    world: &World<O>,
+    from: u64,
+    last: Option<u64>,
+    eras: &mut Vec<Era>,
+) -> Result<(), AllocError>
+    ensures { OnOk result (map era_shown eras.new.items
+        ≡ map era_shown eras.old.items ++ era_of
+        (record { object = O.sequential world.now.object; language = O.language }) O.state_text
+        (world_of world.now) from last ∷ []) }
+{
+    world.shape();
+    let anchor = world.seq(CellId::anchor());
+    let log = Log::of(world);
+    let entries = log.entries(alloc)?;
+    let mut cells = Vec::new(alloc);
+    for (place, entry) in entries.iter().enumerate() {
+        let state = state_text::<O>(alloc, log.state_at(place as u64 + 1))?;
+        cells.push(cell_of::<O>(alloc, entry, state)?)?;
+    }
+    let processes = world.processes();
+    eras.push(Era {
+        from,
+        last,
+        processes,
+        anchor,
+        cells,
+    })?;
+    Ok(())
+}
+
+/// The text of a state, where one is settled.
+///
+/// An `Err` says that memory was refused.
+fn state_text<O: Spoken>(
+    alloc: Global,
+    settled: Option<&O::State>,
+) -> Result<Option<Vec<u8>>, AllocError>
+    ensures { IfOk result (λ state. option_map (λ text. text.items) state
+        ≡ option_map O.state_text (option_copied settled.entry)) }
+{
+    let Some(state) = settled else {
+        return Ok(None);
+    };
+    let mut text = Vec::new(alloc);
+    O::push_state(&mut text, state)?;
+    Ok(Some(text))
+}
+
+/// The box of an entry of the log, with the text of the state after it, where that is settled.
+///
+/// An `Err` says that memory was refused.
+fn cell_of<O: Spoken>(
+    alloc: Global,
+    entry: &Entry<O::Inv, O::Resp>,
+    state: Option<Vec<u8>>,
+) -> Result<CellBox, AllocError>
+    ensures { IfOk result (λ cell. cell_shown cell
+        ≡ box_of O.language (option_map (λ text. text.items) state) (entry_shown entry.now)) }
+{
+    let words = O::inv_text(alloc, &entry.inv)?;
+    let reply = match entry.reply {
+        Some(response) => Some(O::resp_text(alloc, response)?),
+        None => None,
+    };
+    Ok(CellBox {
+        number: entry.seq,
+        call: entry.call,
+        words,
+        reply,
+        state,
+    })
+}

@@ -1,0 +1,258 @@
+//! What the places of a world hold, as text.
+
+ghost use Rattle.std.specs.Prelude.{◌≡◌, ◌<◌, Some, IfOk, IfSome, IsSome, codes, option_map};
+ghost use Rattle.std.specs.Option.{option_copied};
+ghost use Rattle.cell_arena.specs.Arena.{cell_of};
+ghost use Rattle.uni_model.specs.Places.Place.{Announced, HeadOf, SeqOf, AfterOf, NewOf, BeforeOf};
+ghost use Rattle.uni_core.specs.Readers.{place_named, IsPlaceIn};
+ghost use Rattle.uni_core.specs.World.{name_in, world_of};
+ghost use Rattle.run_replay.specs.Held.{alone, cell_text, entry_name, field_name, held, link_text, reply_text};
+ghost use Rattle.run_replay.specs.Held.{state_text};
+ghost use Rattle.run_replay.specs.ScenesShown.{held_shown};
+
+use crate::frame::{Field, Held};
+use cell_arena::CellId;
+use ready_objects::Spoken;
+use seq_object::{CallId, SeqObject};
+use std::alloc::{AllocError, Global};
+use std::io::Write;
+use uni_core::{Place, World};
+
+/// The text of a cell's name: that of the call that it was made for, or `anchor`.
+///
+/// An `Err` says that memory was refused.
+pub fn cell_text(alloc: Global, call: Option<CallId>) -> Result<Vec<u8>, AllocError>
+    ensures { IfOk result (λ text. text.items ≡ cell_text call) }
+{
+    let mut text = Vec::new(alloc);
+    match call {
+        None => text.extend_from_slice(b"anchor")?,
+        Some(call) => write!(text, "{call}").map_err(|_| AllocError)?,
+    }
+    Ok(text)
+}
+
+/// The name of a field of a cell, as `1.0.seq`.
+///
+/// An `Err` says that memory was refused.
+pub fn field_name(alloc: Global, cell: Option<CallId>, field: &str) -> Result<Vec<u8>, AllocError>
+    ensures { IfOk result (λ text. text.items ≡ field_name cell field.now) }
+{
+    let mut text = cell_text(alloc, cell)?;
+    write!(text, ".{field}").map_err(|_| AllocError)?;
+    Ok(text)
+}
+
+/// The name of an entry of an array, as `head[0]`.
+///
+/// An `Err` says that memory was refused.
+fn entry_name(alloc: Global, array: &str, process: u64) -> Result<Vec<u8>, AllocError>
+    ensures { IfOk result (λ text. text.items ≡ entry_name array.now process) }
+{
+    let mut text = Vec::new(alloc);
+    write!(text, "{array}[{process}]").map_err(|_| AllocError)?;
+    Ok(text)
+}
+
+/// A field without another beside it.
+pub(crate) fn alone(name: Vec<u8>, text: Vec<u8>) -> Held
+    ensures { held_shown result ≡ alone name.items text.items }
+{
+    Held {
+        field: Field { name, text },
+        reply: None,
+    }
+}
+
+/// The text of a link to a cell, or `?` where there is none.
+///
+/// An `Err` says that memory was refused.
+fn link_text<O: SeqObject>(
+    alloc: Global,
+    world: &World<O>,
+    cell: Option<CellId>,
+) -> Result<Vec<u8>, AllocError>
+    requires { IfSome cell (λ cell. IsSome (cell_of world.now.shared.cells cell)) }
+    ensures { IfOk result (λ text. text.items ≡ link_text (option_map (name_in (world_of world.now)) cell)) }
+{
+    match cell {
+        Some(cell) => cell_text(alloc, world.call_of(cell)),
+        None => Vec::from_slice(alloc, b"?"),
+    }
+}
+
+/// The text of a state that may be settled.
+///
+/// An `Err` says that memory was refused.
+fn state_text<O: Spoken>(
+    alloc: Global,
+    new: Option<&(O::State, Option<O::Resp>)>,
+) -> Result<Vec<u8>, AllocError>
+    ensures { IfOk result (λ text. text.items ≡ state_text O.state_text (option_copied new.entry)) }
+{
+    let mut text = Vec::new(alloc);
+    match new {
+        Some((state, _)) => O::push_state(&mut text, state)?,
+        None => text.push(b'?')?,
+    }
+    Ok(text)
+}
+
+/// The text of a response that may be settled.
+///
+/// An `Err` says that memory was refused.
+fn reply_text<O: Spoken>(
+    alloc: Global,
+    new: Option<&(O::State, Option<O::Resp>)>,
+) -> Result<Vec<u8>, AllocError>
+    ensures { IfOk result (λ text. text.items ≡ reply_text O.language (option_copied new.entry)) }
+{
+    match new {
+        Some((_, Some(reply))) => O::resp_text(alloc, *reply),
+        Some((_, None)) => Vec::from_slice(alloc, b"none"),
+        None => Vec::from_slice(alloc, b"?"),
+    }
+}
+
+/// What the announce entry of a process holds.
+///
+/// An `Err` says that memory was refused.
+pub(crate) fn announced_entry<O: Spoken>(
+    alloc: Global,
+    world: &World<O>,
+    process: u64,
+) -> Result<Held, AllocError>
+    requires { process < (world_of world.now).n }
+    ensures { IfOk result (λ found. held_shown found ≡
+        held O.language O.state_text (world_of world.now).memory (Announced process)) }
+{
+    let text = cell_text(alloc, world.call_of(world.announced(process)))?;
+    Ok(alone(entry_name(alloc, "announce", process)?, text))
+}
+
+/// What the head entry of a process holds.
+///
+/// An `Err` says that memory was refused.
+pub(crate) fn head_entry<O: Spoken>(
+    alloc: Global,
+    world: &World<O>,
+    process: u64,
+) -> Result<Held, AllocError>
+    requires { process < (world_of world.now).n }
+    ensures { IfOk result (λ found. held_shown found ≡
+        held O.language O.state_text (world_of world.now).memory (HeadOf process)) }
+{
+    let text = cell_text(alloc, world.call_of(world.head(process)))?;
+    Ok(alone(entry_name(alloc, "head", process)?, text))
+}
+
+/// The number of a cell.
+///
+/// An `Err` says that memory was refused.
+pub(crate) fn number_field<O: Spoken>(
+    alloc: Global,
+    world: &World<O>,
+    cell: CellId,
+) -> Result<Held, AllocError>
+    requires { IsSome (cell_of world.now.shared.cells cell) }
+    ensures { IfOk result (λ found. held_shown found ≡
+        held O.language O.state_text (world_of world.now).memory (SeqOf (name_in (world_of world.now) cell))) }
+{
+    let call = world.call_of(cell);
+    let number = world.seq(cell);
+    let mut text = Vec::new(alloc);
+    write!(text, "{number}").map_err(|_| AllocError)?;
+    Ok(alone(field_name(alloc, call, "seq")?, text))
+}
+
+/// The cell after a cell.
+///
+/// An `Err` says that memory was refused.
+pub(crate) fn after_field<O: Spoken>(
+    alloc: Global,
+    world: &World<O>,
+    cell: CellId,
+) -> Result<Held, AllocError>
+    requires { IsSome (cell_of world.now.shared.cells cell) }
+    ensures { IfOk result (λ found. held_shown found ≡
+        held O.language O.state_text (world_of world.now).memory (AfterOf (name_in (world_of world.now) cell))) }
+{
+    let call = world.call_of(cell);
+    let text = link_text(alloc, world, world.after(cell))?;
+    Ok(alone(field_name(alloc, call, "after")?, text))
+}
+
+/// The cell before a cell.
+///
+/// An `Err` says that memory was refused.
+pub(crate) fn before_field<O: Spoken>(
+    alloc: Global,
+    world: &World<O>,
+    cell: CellId,
+) -> Result<Held, AllocError>
+    requires { IsSome (cell_of world.now.shared.cells cell) }
+    ensures { IfOk result (λ found. held_shown found ≡
+        held O.language O.state_text (world_of world.now).memory (BeforeOf (name_in (world_of world.now) cell))) }
+{
+    let call = world.call_of(cell);
+    let text = link_text(alloc, world, world.before(cell))?;
+    Ok(alone(field_name(alloc, call, "before")?, text))
+}
+
+/// What a call's cell asks for, as this text.
+///
+/// An `Err` says that memory was refused.
+pub(crate) fn asked_field(alloc: Global, call: CallId, text: Vec<u8>) -> Result<Held, AllocError>
+    ensures { IfOk result (λ found. held_shown found ≡ alone (field_name (Some call) (codes "inv")) text.items) }
+{
+    Ok(alone(field_name(alloc, Some(call), "inv")?, text))
+}
+
+/// The state and the response that are settled in a cell.
+///
+/// An `Err` says that memory was refused.
+pub(crate) fn settled_fields<O: Spoken>(
+    alloc: Global,
+    world: &World<O>,
+    cell: CellId,
+) -> Result<Held, AllocError>
+    requires { IsSome (cell_of world.now.shared.cells cell) }
+    ensures { IfOk result (λ found. held_shown found ≡
+        held O.language O.state_text (world_of world.now).memory (NewOf (name_in (world_of world.now) cell))) }
+{
+    let call = world.call_of(cell);
+    let state = Field {
+        name: field_name(alloc, call, "state")?,
+        text: state_text::<O>(alloc, world.new_of(cell))?,
+    };
+    let reply = Field {
+        name: field_name(alloc, call, "reply")?,
+        text: reply_text::<O>(alloc, world.new_of(cell))?,
+    };
+    Ok(Held {
+        field: state,
+        reply: Some(reply),
+    })
+}
+
+/// What a place of a world holds.
+///
+/// An `Err` says that memory was refused.
+pub(crate) fn read_place<O: Spoken>(
+    alloc: Global,
+    world: &World<O>,
+    place: Place,
+) -> Result<Held, AllocError>
+    requires { IsPlaceIn (world_of world.now).n (λ cell. IsSome (cell_of world.now.shared.cells cell)) place }
+    ensures { IfOk result (λ found. held_shown found ≡
+        held O.language O.state_text (world_of world.now).memory (place_named (name_in (world_of world.now)) place)) }
+{
+    match place {
+        Place::Announced(process) => announced_entry(alloc, world, process),
+        Place::HeadOf(process) => head_entry(alloc, world, process),
+        Place::SeqOf(cell) => number_field(alloc, world, cell),
+        Place::AfterOf(cell) => after_field(alloc, world, cell),
+        Place::NewOf(cell) => settled_fields(alloc, world, cell),
+        Place::BeforeOf(cell) => before_field(alloc, world, cell),
+    }
+}

@@ -1,0 +1,334 @@
+//! The scenes of a run, by the replay of its events.
+
+ghost use Rattle.std.specs.Prelude.{◌≡◌, ◌<◌, ℕ, None, Some, IfOk, IfSome, IsSome, OnOk, map};
+ghost use Rattle.std.specs.Prelude.{option_and_then, option_map};
+ghost use Rattle.cell_arena.specs.Arena.{cell_of};
+ghost use Rattle.uni_model.specs.Transition.{place_of};
+ghost use Rattle.uni_model.specs.Worlds.{opened_world, world_after};
+ghost use Rattle.uni_model.specs.Worlds.{Event as model};
+ghost use Rattle.uni_core.specs.Readers.{call_of_name, kind_of, place_named, proposed_at, IsPlaceIn};
+ghost use Rattle.uni_core.specs.World.{current_of, name_in, world_of, IsProgress};
+ghost use Rattle.uni_core.specs.Ends.{last_number};
+ghost use Rattle.uni_record.specs.Event.{event_lent, event_shown, events_shown};
+ghost use Rattle.run_replay.specs.Frames.{answered, begun, ended, frame_of, stepped};
+ghost use Rattle.run_replay.specs.Proposal.{proposal_told};
+ghost use Rattle.run_replay.specs.Scenes.{scenes_from};
+ghost use Rattle.run_replay.specs.ScenesShown.{begun_shown, end_shown, frame_shown, held_shown, scene_shown};
+ghost use Rattle.run_replay.specs.ScenesShown.{step_shown};
+
+use crate::frame::{Begun, EndedEra, Frame, Held, Scene, Step, held_copy};
+use crate::opening::reopened;
+use crate::places::{alone, asked_field, cell_text, read_place, settled_fields};
+use crate::whole::memory_asked;
+use cell_arena::{CellId, Cells};
+use ready_objects::Spoken;
+use seq_object::CallId;
+use std::alloc::{AllocError, Global};
+use uni_core::{Place, Progress, StepKind, World, reshape, trim};
+use uni_record::{Event, Recorded};
+
+/// The scenes of the run that a record has stored, one for each of its events; `object` is a further value of the
+/// record's object. They are found by a replay of the events. They tell the whole memory only where that is asked for.
+///
+/// An `Err` says that memory was refused. It would come too where the replay refused an event, as it never does with
+/// the object of the record; that isn't proved.
+pub fn scenes_of<O: Spoken>(
+    alloc: Global,
+    object: O,
+    run: &Recorded<O>,
+    is_whole: bool,
+) -> Result<Vec<Scene>, AllocError>
+    ensures { IfOk result (λ scenes. map (λ scene. Some (scene_shown scene)) scenes.items ≡
+        scenes_from (O.sequential object) O.language O.state_text is_whole
+        (opened_world run.now.processes (O.sequential object).initial run.now.first) (events_shown run.now.events)) }
+{
+    let mut replay = reopened(alloc, object, run)?;
+    let mut scenes = Vec::new(alloc);
+    for event in run.events() {
+        let frame = frame_of(alloc, event, &mut replay)?;
+        let memory = memory_asked(alloc, is_whole, &replay)?;
+        scenes.push(Scene { frame, memory })?;
+    }
+    Ok(scenes)
+}
+
+/// Takes an event in a replay; the answer is its frame.
+///
+/// An `Err` says that memory was refused, or the event.
+fn frame_of<O: Spoken>(
+    alloc: Global,
+    event: Event<&O::Inv>,
+    replay: &mut World<O>,
+) -> Result<Frame, AllocError>
+    ensures object { replay.new.object ≡ replay.old.object }
+    ensures world { OnOk result (world_of replay.new ≡
+        world_after (O.sequential replay.old.object) (world_of replay.old) (event_shown (event_lent event.entry))) }
+    ensures frame { IfOk result (λ frame. Some (frame_shown frame) ≡
+        frame_of (O.sequential replay.old.object) O.language O.state_text (world_of replay.old)
+        (event_shown (event_lent event.entry))) }
+{
+    match event {
+        Event::Call(process, inv) => Ok(Frame::Call(begun_of(alloc, process, inv, replay)?)),
+        Event::Step(process) => {
+            let step = step_of(alloc, process, replay)?;
+            Ok(Frame::Step(step))
+        }
+        Event::Trim => Ok(Frame::End(trimmed(alloc, replay)?)),
+        Event::Reshape(processes) => Ok(Frame::End(reshaped(alloc, processes, replay)?)),
+    }
+}
+
+/// An era ends by a trim in a replay; the answer is what that left.
+///
+/// An `Err` says that memory was refused, or the trim.
+fn trimmed<O: Spoken>(alloc: Global, replay: &mut World<O>) -> Result<EndedEra, AllocError>
+    ensures object { replay.new.object ≡ replay.old.object }
+    ensures world { OnOk result (world_of replay.new ≡
+        world_after (O.sequential replay.old.object) (world_of replay.old) model.Trim) }
+    ensures end { IfOk result (λ end. end_shown end ≡
+        ended O.language O.state_text None (last_number (world_of replay.old))
+        (world_after (O.sequential replay.old.object) (world_of replay.old) model.Trim).memory) }
+{
+    let Ok(number) = trim(replay) else {
+        return Err(AllocError);
+    };
+    end_of(alloc, None, number, replay)
+}
+
+/// An era ends by a reshape in a replay; the answer is what that left.
+///
+/// An `Err` says that memory was refused, or the reshape.
+fn reshaped<O: Spoken>(
+    alloc: Global,
+    processes: u64,
+    replay: &mut World<O>,
+) -> Result<EndedEra, AllocError>
+    ensures object { replay.new.object ≡ replay.old.object }
+    ensures world { OnOk result (world_of replay.new ≡
+        world_after (O.sequential replay.old.object) (world_of replay.old) (model.Reshape processes)) }
+    ensures end { IfOk result (λ end. end_shown end ≡
+        ended O.language O.state_text (Some processes) (last_number (world_of replay.old))
+        (world_after (O.sequential replay.old.object) (world_of replay.old) (model.Reshape processes)).memory) }
+{
+    let Ok(number) = reshape(alloc, replay, processes) else {
+        return Err(AllocError);
+    };
+    end_of(alloc, Some(processes), number, replay)
+}
+
+/// A process begins a call in a replay; the answer is what that did.
+///
+/// An `Err` says that memory was refused, or the call.
+pub fn begun_of<O: Spoken>(
+    alloc: Global,
+    process: u64,
+    inv: &O::Inv,
+    replay: &mut World<O>,
+) -> Result<Begun, AllocError>
+    ensures object { replay.new.object ≡ replay.old.object }
+    ensures world { OnOk result (world_of replay.new ≡
+        world_after (O.sequential replay.old.object) (world_of replay.old) (model.Call process inv.now)) }
+    ensures begun { IfOk result (λ call. begun_shown call ≡
+        begun (O.sequential replay.old.object) O.language O.state_text (world_of replay.old) process inv.now) }
+{
+    replay.shape();
+    let Ok(call) = replay.begin(alloc, process, inv) else {
+        return Err(AllocError);
+    };
+    let unmade = Vec::from_slice(alloc, b"?")?;
+    let asked = O::inv_text(alloc, inv)?;
+    let before = asked_field(alloc, call, unmade)?;
+    let after = asked_field(alloc, call, asked)?;
+    let words = O::inv_text(alloc, inv)?;
+    Ok(Begun {
+        call,
+        words,
+        before,
+        after,
+    })
+}
+
+/// The text of the reply that a step answers; `None` where the call goes on.
+///
+/// An `Err` says that memory was refused.
+fn reply_of<O: Spoken>(
+    alloc: Global,
+    progress: Progress<O::Resp>,
+) -> Result<Option<Vec<u8>>, AllocError>
+    ensures { IfOk result (λ text. option_map (λ t. t.items) text ≡
+        option_map O.language.resp_text (answered progress)) }
+{
+    match progress {
+        Progress::Done(reply) => Ok(Some(O::resp_text(alloc, reply)?)),
+        Progress::Going => Ok(None),
+    }
+}
+
+/// What a step of this kind proposed, by the call whose cell it proposed and by what its place holds after it.
+///
+/// An `Err` says that memory was refused.
+fn proposed_of(
+    alloc: Global,
+    kind: StepKind,
+    offered: Option<CallId>,
+    after: &Held,
+) -> Result<Option<Held>, AllocError>
+    ensures { IfOk result (λ proposed. option_map held_shown proposed
+        ≡ proposal_told kind offered (held_shown after.now)) }
+{
+    match kind {
+        StepKind::DecideAfter => {
+            let name = Vec::from_slice(alloc, &after.field.name)?;
+            Ok(Some(alone(name, cell_text(alloc, offered)?)))
+        }
+        StepKind::DecideNew => Ok(Some(held_copy(alloc, after)?)),
+        StepKind::Announce
+        | StepKind::ScanHead
+        | StepKind::ScanSeq
+        | StepKind::WriteScan
+        | StepKind::Test
+        | StepKind::ReadAnnounce
+        | StepKind::ReadHelpSeq
+        | StepKind::WriteBefore
+        | StepKind::WriteSeq
+        | StepKind::WriteHead
+        | StepKind::Finish => Ok(None),
+    }
+}
+
+/// A step that a process is about to take.
+#[derive(Clone, Copy)]
+struct Coming {
+    /// Its call.
+    call: CallId,
+    /// Its kind.
+    kind: StepKind,
+    /// Its place.
+    place: Place,
+    /// The call whose cell it proposes, if it proposes a cell.
+    proposed: Option<CallId>,
+}
+
+/// The call whose cell the next step of a process proposes after its head.
+fn proposed_call<O: Spoken>(world: &World<O>, process: u64) -> Option<CallId>
+    requires { process < (world_of world.now).n }
+    ensures { result ≡ option_and_then call_of_name
+        (option_and_then (λ c. proposed_at c.stage) ((world_of world.now).call process)) }
+{
+    match world.next_proposal(process) {
+        Some(cell) => world.call_of(cell),
+        None => None,
+    }
+}
+
+/// The next step of a process; `None` where it has no call pending.
+fn coming_step<O: Spoken>(world: &World<O>, process: u64) -> Option<Coming>
+    requires { process < (world_of world.now).n }
+    ensures call { IfSome result (λ coming. current_of (world_of world.now) process ≡ Some coming.call) }
+    ensures kind { IfSome result (λ coming. option_map (λ c. kind_of c.stage) ((world_of world.now).call process) ≡
+        Some coming.kind) }
+    ensures place { IfSome result (λ coming. option_map (λ c. place_of (world_of world.now).n process c.mine c.stage)
+        ((world_of world.now).call process)
+        ≡ Some (place_named (name_in (world_of world.now)) coming.place)) }
+    ensures there { IfSome result (λ coming. IsPlaceIn (world_of world.now).n
+        (λ cell. IsSome (cell_of world.now.shared.cells cell)) coming.place) }
+    ensures proposed { IfSome result (λ coming. coming.proposed ≡ option_and_then call_of_name
+        (option_and_then (λ c. proposed_at c.stage) ((world_of world.now).call process))) }
+{
+    let call = world.current(process)?;
+    let kind = world.next_kind(process)?;
+    let place = world.next_place(process)?;
+    let proposed = proposed_call(world, process);
+    Some(Coming {
+        call,
+        kind,
+        place,
+        proposed,
+    })
+}
+
+/// A process takes a step in a replay; the answer is that of the step. The cells stay.
+///
+/// An `Err` says that memory was refused, or the step.
+fn take_step<O: Spoken>(
+    alloc: Global,
+    process: u64,
+    replay: &mut World<O>,
+) -> Result<Progress<O::Resp>, AllocError>
+    ensures object { replay.new.object ≡ replay.old.object }
+    ensures world { OnOk result (world_of replay.new ≡
+        world_after (O.sequential replay.old.object) (world_of replay.old) (model.Step process)) }
+    ensures progress { IfOk result (IsProgress (world_of replay.old) process) }
+    ensures cells { OnOk result ((cell : ℕ) → IsSome (cell_of replay.old.shared.cells cell)
+        → IsSome (cell_of replay.new.shared.cells cell)) }
+{
+    replay.shape();
+    replay.cells().shape();
+    let Ok(progress) = replay.step(alloc, process) else {
+        return Err(AllocError);
+    };
+    replay.shape();
+    replay.cells().shape();
+    Ok(progress)
+}
+
+/// A process takes a step in a replay; the answer is what it did.
+///
+/// An `Err` says that memory was refused, or the step.
+pub fn step_of<O: Spoken>(
+    alloc: Global,
+    process: u64,
+    replay: &mut World<O>,
+) -> Result<Step, AllocError>
+    ensures object { replay.new.object ≡ replay.old.object }
+    ensures world { OnOk result (world_of replay.new ≡
+        world_after (O.sequential replay.old.object) (world_of replay.old) (model.Step process)) }
+    ensures step { IfOk result (λ step. Some (step_shown step) ≡
+        option_map (stepped (O.sequential replay.old.object) O.language O.state_text (world_of replay.old) process)
+        ((world_of replay.old).call process)) }
+{
+    if process >= replay.processes() {
+        return Err(AllocError);
+    }
+    replay.shape();
+    let Some(coming) = coming_step(replay, process) else {
+        return Err(AllocError);
+    };
+    let before = read_place(alloc, replay, coming.place)?;
+    let progress = take_step(alloc, process, replay)?;
+    let after = read_place(alloc, replay, coming.place)?;
+    let proposed = proposed_of(alloc, coming.kind, coming.proposed, &after)?;
+    let reply = reply_of::<O>(alloc, progress)?;
+    Ok(Step {
+        call: coming.call,
+        kind: coming.kind,
+        before,
+        after,
+        proposed,
+        next: replay.next_kind(process),
+        steps: replay.steps(process),
+        turns: replay.turns(process),
+        reply,
+    })
+}
+
+/// How an era ended, with the number of the anchor of the world after it.
+///
+/// An `Err` says that memory was refused.
+fn end_of<O: Spoken>(
+    alloc: Global,
+    reshaped: Option<u64>,
+    number: u64,
+    replay: &World<O>,
+) -> Result<EndedEra, AllocError>
+    ensures { IfOk result (λ end. end_shown end ≡
+        ended O.language O.state_text reshaped number (world_of replay.now).memory) }
+{
+    replay.shape();
+    let anchor = settled_fields(alloc, replay, CellId::anchor())?;
+    Ok(EndedEra {
+        reshaped,
+        number,
+        anchor,
+    })
+}

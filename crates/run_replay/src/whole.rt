@@ -1,0 +1,200 @@
+//! The whole memory of a world, as text.
+
+ghost use Rattle.std.specs.Prelude.{◌≡◌, ◌++◌, ◌∷◌, [], ◌<◌, IfOk, IsSome, OnOk, map, codes, option_map};
+ghost use Rattle.cell_arena.specs.Arena.{cell_of};
+ghost use Rattle.std.specs.List.{flat_map, range_with_len};
+ghost use Rattle.std.specs.Option.{option_copied, option_map_or};
+ghost use Rattle.ready_objects.specs.Words.{text_of_words};
+ghost use Rattle.uni_model.specs.Places.Place.{Announced, HeadOf, InvOf};
+ghost use Rattle.uni_core.specs.World.{name_in, world_of};
+ghost use Rattle.run_replay.specs.Held.{held};
+ghost use Rattle.run_replay.specs.Scenes.{memory_asked};
+ghost use Rattle.run_replay.specs.ScenesShown.{held_shown};
+ghost use Rattle.run_replay.specs.Whole.{cells_below, cells_of, fields_of, whole_memory};
+
+use crate::frame::Held;
+use crate::places::{
+    after_field, alone, announced_entry, before_field, field_name, head_entry, number_field,
+    settled_fields,
+};
+use cell_arena::CellId;
+use ready_objects::Spoken;
+use seq_object::CallId;
+use std::alloc::{AllocError, Global};
+use uni_core::World;
+
+/// Adds what a place holds.
+///
+/// An `Err` says that memory was refused.
+fn push_held(memory: &mut Vec<Held>, held: Held) -> Result<(), AllocError>
+    ensures { OnOk result (map held_shown memory.new.items
+        ≡ map held_shown memory.old.items ++ held_shown held ∷ []) }
+{
+    memory.push(held)?;
+    Ok(())
+}
+
+/// Adds what the announce entries hold.
+///
+/// An `Err` says that memory was refused.
+fn push_announced<O: Spoken>(
+    alloc: Global,
+    world: &World<O>,
+    memory: &mut Vec<Held>,
+) -> Result<(), AllocError>
+    ensures { OnOk result (map held_shown memory.new.items ≡ map held_shown memory.old.items
+        ++ map (held O.language O.state_text (world_of world.now).memory)
+        (map Announced (range_with_len 0 (world_of world.now).n))) }
+{
+    for process in 0..world.processes() {
+        push_held(memory, announced_entry(alloc, world, process)?)?;
+    }
+    Ok(())
+}
+
+/// Adds what the head entries hold.
+///
+/// An `Err` says that memory was refused.
+fn push_heads<O: Spoken>(
+    alloc: Global,
+    world: &World<O>,
+    memory: &mut Vec<Held>,
+) -> Result<(), AllocError>
+    ensures { OnOk result (map held_shown memory.new.items ≡ map held_shown memory.old.items
+        ++ map (held O.language O.state_text (world_of world.now).memory)
+        (map HeadOf (range_with_len 0 (world_of world.now).n))) }
+{
+    for process in 0..world.processes() {
+        push_held(memory, head_entry(alloc, world, process)?)?;
+    }
+    Ok(())
+}
+
+/// The text of what a cell asks for, or `?` where it asks for nothing.
+///
+/// An `Err` says that memory was refused.
+fn asked_text<O: Spoken>(alloc: Global, inv: Option<&O::Inv>) -> Result<Vec<u8>, AllocError>
+    ensures { IfOk result (λ text. text.items
+        ≡ option_map_or (λ i. text_of_words (O.language.inv_words i)) (option_copied inv.entry) (codes "?")) }
+{
+    match inv {
+        Some(inv) => O::inv_text(alloc, inv),
+        None => Vec::from_slice(alloc, b"?"),
+    }
+}
+
+/// What a cell asks for.
+///
+/// An `Err` says that memory was refused.
+fn asked_of<O: Spoken>(alloc: Global, world: &World<O>, cell: CellId) -> Result<Held, AllocError>
+    requires { IsSome (cell_of world.now.shared.cells cell) }
+    ensures { IfOk result (λ found. held_shown found ≡
+        held O.language O.state_text (world_of world.now).memory (InvOf (name_in (world_of world.now) cell))) }
+{
+    let call = world.call_of(cell);
+    let text = asked_text::<O>(alloc, world.inv(cell))?;
+    Ok(alone(field_name(alloc, call, "inv")?, text))
+}
+
+/// Adds what the fields of a cell hold.
+///
+/// An `Err` says that memory was refused.
+fn push_cell<O: Spoken>(
+    alloc: Global,
+    world: &World<O>,
+    cell: CellId,
+    memory: &mut Vec<Held>,
+) -> Result<(), AllocError>
+    requires { IsSome (cell_of world.now.shared.cells cell) }
+    ensures { OnOk result (map held_shown memory.new.items ≡ map held_shown memory.old.items
+        ++ map (held O.language O.state_text (world_of world.now).memory)
+        (fields_of (name_in (world_of world.now) cell))) }
+{
+    push_held(memory, asked_of(alloc, world, cell)?)?;
+    push_held(memory, number_field(alloc, world, cell)?)?;
+    push_held(memory, after_field(alloc, world, cell)?)?;
+    push_held(memory, before_field(alloc, world, cell)?)?;
+    push_held(memory, settled_fields(alloc, world, cell)?)
+}
+
+/// Adds what the cells hold that a process has made in the present era.
+///
+/// An `Err` says that memory was refused.
+fn push_cells_of<O: Spoken>(
+    alloc: Global,
+    world: &World<O>,
+    process: u64,
+    memory: &mut Vec<Held>,
+) -> Result<(), AllocError>
+    requires { process < (world_of world.now).n }
+    ensures { OnOk result (map held_shown memory.new.items ≡ map held_shown memory.old.items
+        ++ map (held O.language O.state_text (world_of world.now).memory)
+        (flat_map fields_of (cells_of (world_of world.now) process))) }
+{
+    world.shape();
+    let calls = world.calls_in_era(process);
+    let first = world.begun(process) - calls;
+    for place in 0..calls {
+        let call = CallId {
+            process: process as u32,
+            nth: first + place,
+        };
+        let Some(cell) = world.cell_of(call) else {
+            return Err(AllocError);
+        };
+        push_cell(alloc, world, cell, memory)?;
+    }
+    Ok(())
+}
+
+/// Adds what all cells hold that were made in the present era.
+///
+/// An `Err` says that memory was refused.
+fn push_cells<O: Spoken>(
+    alloc: Global,
+    world: &World<O>,
+    memory: &mut Vec<Held>,
+) -> Result<(), AllocError>
+    ensures { OnOk result (map held_shown memory.new.items ≡ map held_shown memory.old.items
+        ++ map (held O.language O.state_text (world_of world.now).memory)
+        (flat_map fields_of (cells_below (world_of world.now) (world_of world.now).n))) }
+{
+    for process in 0..world.processes() {
+        push_cells_of(alloc, world, process, memory)?;
+    }
+    Ok(())
+}
+
+/// What all places of a world hold.
+///
+/// An `Err` says that memory was refused.
+fn whole_memory<O: Spoken>(alloc: Global, world: &World<O>) -> Result<Vec<Held>, AllocError>
+    ensures { IfOk result (λ memory. map held_shown memory.items
+        ≡ whole_memory O.language O.state_text (world_of world.now)) }
+{
+    world.shape();
+    let mut memory = Vec::new(alloc);
+    push_announced(alloc, world, &mut memory)?;
+    push_heads(alloc, world, &mut memory)?;
+    push_cell(alloc, world, CellId::anchor(), &mut memory)?;
+    push_cells(alloc, world, &mut memory)?;
+    Ok(memory)
+}
+
+/// The same, where it is asked for.
+///
+/// An `Err` says that memory was refused.
+pub(crate) fn memory_asked<O: Spoken>(
+    alloc: Global,
+    is_whole: bool,
+    world: &World<O>,
+) -> Result<Option<Vec<Held>>, AllocError>
+    ensures { IfOk result (λ memory. option_map (λ m. map held_shown m.items) memory
+        ≡ memory_asked O.language O.state_text is_whole (world_of world.now)) }
+{
+    if is_whole {
+        Ok(Some(whole_memory(alloc, world)?))
+    } else {
+        Ok(None)
+    }
+}

@@ -1,0 +1,56 @@
+-- Lists and texts, piece by piece.
+use Rattle.std.proofs.Common.{◌≡◌, ◌∙◌, ℕ, Option, ◌+◌, ◌<◌, List, [], ◌∷◌, ◌++◌, length, map, take, get_or, ap, sym, append_assoc, length-append, arith}
+use Rattle.std.proofs.lemmas.List.{take_more, map-append}
+use Rattle.run_replay.specs.Frames.{Frame, Stepped, Begins, Steps, Ends}
+use Rattle.run_replay.specs.Scenes.{Scene}
+use Rattle.std.proofs.lemmas.List.Concat.{flat_map-append}
+use Rattle.std.specs.List.{flat_map}
+use Rattle.run_tell.specs.Json.{after_comma, member_text, object_text, separated}
+use Rattle.run_tell.proofs.JsonPieces.{members_more}
+use Rattle.run_tell.specs.TraceLines.{scene_line}
+use Rattle.run_tell.specs.TraceMembers.{frame_members, memory_members, step_call, step_members, step_place, step_start}
+
+-- one more element, as it is seen
+pub map_more : {A B D C : Type 0} (f : A → C) (g : D → C) (s : B → D) (old new : List A) (xs : List B) (i : ℕ) (x : B) (y : A) → i < length xs → x ≡ get_or xs i x
+    → map f old ≡ map g (map s (take i xs)) → new ≡ old ++ y ∷ [] → f y ≡ g (s x) → map f new ≡ map g (map s (take (i + 1) xs))
+map_more f g s old new xs i x y inside is before pushed same =
+    let one : take (i + 1) xs ≡ take i xs ++ x ∷ [] = take_more xs i x inside ∙ ap (λ z. take i xs ++ z ∷ []) (sym is) in
+    let more : map g (map s (take (i + 1) xs)) ≡ map g (map s (take i xs)) ++ g (s x) ∷ [] =
+    ap (λ l. map g (map s l)) one ∙ ap (map g) (map-append s (take i xs) (x ∷ [])) ∙ map-append g (map s (take i xs)) (s x ∷ []) in
+    ap (map f) pushed ∙ map-append f old (y ∷ []) ∙ ap (λ l. l ++ f y ∷ []) before ∙ ap (λ z. map g (map s (take i xs)) ++ z ∷ []) same ∙ sym more
+
+-- the members of a step, part by part
+step_start-some : (k : ℕ) (line : Option ℕ) (s : Stepped) → 0 < length (step_start k line s)
+unfolding step_start
+step_start-some k line s = omega arith
+
+pub step_parts : (old start place call : List ℕ) (k : ℕ) (line : Option ℕ) (s : Stepped) → start ≡ old ++ separated (map member_text (step_start k line s))
+    → place ≡ start ++ flat_map after_comma (map member_text (step_place s)) → call ≡ place ++ flat_map after_comma (map member_text (step_call s))
+    → call ≡ old ++ separated (map member_text (step_members k line s))
+step_parts old start place call k line s is_start is_place is_call =
+    let first = separated (map member_text (step_start k line s)) in
+    let on_place = flat_map after_comma (map member_text (step_place s)) in
+    let on_call = flat_map after_comma (map member_text (step_call s)) in
+    let further : flat_map after_comma (map member_text (step_place s ++ step_call s)) ≡ on_place ++ on_call =
+    ap (flat_map after_comma) (map-append member_text (step_place s) (step_call s)) ∙ flat_map-append after_comma (map member_text (step_place s)) (map member_text (step_call s)) in
+    is_call ∙ ap (λ l. l ++ on_call) (is_place ∙ ap (λ l. l ++ on_place) is_start) ∙ append_assoc (old ++ first) on_place on_call ∙ append_assoc old first (on_place ++ on_call)
+    ∙ ap (λ l. old ++ l) (sym (members_more (step_start k line s) (step_place s ++ step_call s) (step_start-some k line s) ∙ ap (λ l. first ++ l) further))
+
+-- the line of an event, its members and then the memory
+frame_members-some : (k : ℕ) (line : Option ℕ) (f : Frame) → 0 < length (frame_members k line f)
+frame_members-some k line (Begins b) = omega arith
+frame_members-some k line (Steps s) = let some = step_start-some k line s in omega (arith, length-append (step_start k line s) (step_place s ++ step_call s))
+frame_members-some k line (Ends e) = omega arith
+
+braces : (old first more : List ℕ) → (((old ++ 123 ∷ []) ++ first) ++ more) ++ (125 ∷ []) ++ (10 ∷ []) ≡ old ++ ((123 ∷ []) ++ (first ++ more) ++ (125 ∷ []) ++ (10 ∷ []))
+braces old first more = simp append_assoc
+
+pub scene_parts : (old opened framed told closed new : List ℕ) (k : ℕ) (line : Option ℕ) (s : Scene) → opened ≡ old ++ 123 ∷ [] → framed ≡ opened ++ separated (map member_text (frame_members k line s.frame))
+    → told ≡ framed ++ flat_map after_comma (map member_text (memory_members s.memory)) → closed ≡ told ++ 125 ∷ [] → new ≡ closed ++ 10 ∷ [] → new ≡ old ++ scene_line k line s
+unfolding object_text
+scene_parts old opened framed told closed new k line s is_opened is_framed is_told is_closed is_new =
+    let first = separated (map member_text (frame_members k line s.frame)) in
+    let more = flat_map after_comma (map member_text (memory_members s.memory)) in
+    let whole = members_more (frame_members k line s.frame) (memory_members s.memory) (frame_members-some k line s.frame) in
+    is_new ∙ ap (λ l. l ++ 10 ∷ []) (is_closed ∙ ap (λ l. l ++ 125 ∷ []) (is_told ∙ ap (λ l. l ++ more) (is_framed ∙ ap (λ l. l ++ first) is_opened)))
+    ∙ braces old first more ∙ sym (ap (λ l. old ++ ((123 ∷ []) ++ l ++ (125 ∷ []) ++ (10 ∷ []))) whole)

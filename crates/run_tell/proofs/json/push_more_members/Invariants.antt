@@ -1,0 +1,9 @@
+use Rattle.std.proofs.Common.{◌≡◌, ◌++◌, map, take}
+use Rattle.std.specs.List.{flat_map}
+use Rattle.run_tell.specs.Json.{after_comma, member_text}
+use Rattle.run_tell.specs.JsonShown.{member_shown}
+use Rattle.run_tell.proofs.json.push_more_members.Given as goal
+
+-- the members so far
+abbrev pub invariant-loop-one : goal.invariant-loop-one
+invariant-loop-one l = l.text.items ≡ l.initial.text.items ++ flat_map after_comma (map member_text (map member_shown (take l.one-index l.members)))

@@ -1,0 +1,10 @@
+use Rattle.std.proofs.Common.{◌≡◌, ◌++◌, Some, map, drop}
+use Rattle.run_replay.specs.ScenesShown.{scene_shown}
+use Rattle.run_tell.specs.Order.{told_from}
+use Rattle.run_tell.proofs.order.push_events.Given as goal
+
+-- the text so far, and those of the rest
+abbrev pub invariant-loop-event : goal.invariant-loop-event
+invariant-loop-event g l =
+    l.text.items ++ told_from g.T.Telling.wording l.lines l.event (map (λ scene. Some (scene_shown scene)) (drop l.event l.scenes)) l.rest
+    ≡ l.initial.text.items ++ told_from g.T.Telling.wording l.lines 0 (map (λ scene. Some (scene_shown scene)) l.scenes) l.fn.remarks

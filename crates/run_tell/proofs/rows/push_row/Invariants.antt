@@ -1,0 +1,8 @@
+use Rattle.std.proofs.Common.{◌≡◌, ◌++◌, map, take}
+use Rattle.std.specs.List.{flat_map}
+use Rattle.run_tell.specs.Rows.{cell}
+use Rattle.run_tell.proofs.rows.push_row.Given as goal
+
+-- the cells so far
+abbrev pub invariant-loop-text : goal.invariant-loop-text
+invariant-loop-text l = l.rows.items ≡ l.initial.rows.items ++ flat_map cell (map (λ text. text.now) (take l.text-index l.cells))

@@ -1,0 +1,9 @@
+use Rattle.std.proofs.Common.{◌≡◌, ◌++◌, codes, map, take}
+use Rattle.std.specs.List.{flat_map}
+use Rattle.run_replay.specs.ScenesShown.{change_shown}
+use Rattle.run_tell.specs.Sentences.{change_words, line_text}
+use Rattle.run_tell.proofs.step_lines.push_changes.Given as goal
+
+-- the lines so far
+abbrev pub invariant-loop-change : goal.invariant-loop-change
+invariant-loop-change l = l.text.items ≡ l.initial.text.items ++ flat_map (λ c. line_text (codes "    " ++ change_words c)) (map change_shown (take l.change-index l.changes))

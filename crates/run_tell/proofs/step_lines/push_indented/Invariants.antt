@@ -1,0 +1,8 @@
+use Rattle.std.proofs.Common.{◌≡◌, ◌++◌, map, take}
+use Rattle.std.specs.List.{flat_map}
+use Rattle.run_tell.specs.Sentences.{indented}
+use Rattle.run_tell.proofs.step_lines.push_indented.Given as goal
+
+-- the lines so far
+abbrev pub invariant-loop-line : goal.invariant-loop-line
+invariant-loop-line l = l.text.items ≡ l.initial.text.items ++ flat_map indented (map (λ line. line.items) (take l.line-index l.lines))

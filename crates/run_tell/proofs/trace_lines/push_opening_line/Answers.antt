@@ -1,0 +1,6 @@
+use Rattle.std.proofs.Common.{◌∙◌, refl}
+use Rattle.std.proofs.lemmas.Result.{on_ok_weaker}
+use Rattle.run_tell.proofs.trace_lines.push_opening_line.Goals as goal
+
+pub returns : goal.returns
+returns c = on_ok_weaker c.push_line.result (λ h. h ∙ rw (c.as_bytes.ensures.value, c.as_slice.ensures.value) refl) c.push_line.ensures

@@ -1,0 +1,15 @@
+pub mod Json
+pub mod JsonShown
+pub mod Access
+pub mod Opened
+pub mod Order
+pub mod Told
+pub mod TraceMembers
+pub mod TraceLines
+pub mod Trace
+pub mod Sentences
+pub mod Steps
+pub mod HistoryLines
+pub mod History
+pub mod Page
+pub mod Rows

@@ -1,0 +1,42 @@
+-- The order in which a run is told.
+use Rattle.std.specs.Prelude.{◌≡◌, ℕ, ◌+◌, nat_le, Bool, List, [], ◌∷◌, ◌++◌, take, drop, slice_get}
+use Rattle.std.specs.Prelude.{Option, Some, None, refl}
+use Rattle.std.specs.List.{flat_map, prefix_len}
+use Rattle.uni_script.specs.declared.remarks.PlacedRemark.{PlacedRemark}
+use Rattle.uni_script.specs.declared.remarks.Remark.TheVariants.{Refused}
+use Rattle.uni_script.specs.declared.answer.Refusal.TheVariants.{Sequence}
+use Rattle.run_replay.specs.Scenes.{Scene}
+use Rattle.run_tell.specs.Opened.{Opening, Trace}
+
+-- whether the whole memory is to be told after each event; and the texts of the pieces: how the run opened, an event with its number
+-- and with that of the script's line that stored it, and what is told beside the events
+pub record Wording : Type 0 where
+  pub is_whole : Bool
+  pub opening : Opening → List ℕ
+  pub event : ℕ → (line : Option ℕ) → Scene → List ℕ
+  pub remark : PlacedRemark → List ℕ
+
+-- the text of an event; there is none where there is no scene, as of no event of a run
+abbrev pub event_text : Wording → (event : ℕ) → (line : Option ℕ) → Option Scene → List ℕ
+event_text words k line None = []
+event_text words k line (Some scene) = words.event k line scene
+
+-- how many of these remarks stand first that are told before an event
+abbrev pub told_before : (event : ℕ) → List PlacedRemark → ℕ
+told_before k remarks = prefix_len (λ one. nat_le one.before k) remarks
+
+told_before_the_second : told_before 1 (record { line = 3; before = 1; remark = Refused Sequence }
+    ∷ record { line = 5; before = 2; remark = Refused Sequence } ∷ []) ≡ 1
+told_before_the_second = refl
+
+-- the texts of events from one on, each behind what is told before it, and of what is told after the last; `lines` has the line of
+-- each event, from the first on
+abbrev pub told_from : Wording → (lines : List ℕ) → (event : ℕ) → List (Option Scene) → List PlacedRemark → List ℕ
+told_from words lines k [] remarks = flat_map words.remark remarks
+told_from words lines k (scene ∷ scenes) remarks =
+    flat_map words.remark (take (told_before k remarks) remarks) ++ event_text words k (slice_get lines k) scene
+    ++ told_from words lines (k + 1) scenes (drop (told_before k remarks) remarks)
+
+-- a run, told, by its trace
+abbrev pub told_text : Wording → Trace → (lines : List ℕ) → List PlacedRemark → List ℕ
+told_text words trace lines remarks = words.opening trace.opening ++ told_from words lines 0 trace.scenes remarks

@@ -1,0 +1,227 @@
+-- The sentences of a run.
+use Rattle.std.specs.Prelude.{◌≡◌, ℕ, nat_le, if◌then◌else◌, List, [], ◌∷◌, ◌++◌, length, take, Option, Some, None}
+use Rattle.std.specs.Prelude.{codes, refl}
+use Rattle.std.specs.Fmt.{decimal, digits}
+use Rattle.std.specs.List.{flat_map}
+use Rattle.uni_core.specs.declared.stage.StepKind.{StepKind}
+use Rattle.uni_core.specs.declared.stage.StepKind.TheVariants.{Announce, ScanHead, ScanSeq, WriteScan, Test, ReadAnnounce, ReadHelpSeq}
+use Rattle.uni_core.specs.declared.stage.StepKind.TheVariants.{DecideAfter, DecideNew, WriteBefore, WriteSeq, WriteHead, Finish}
+use Rattle.uni_script.specs.declared.answer.Refusal.{Refusal}
+use Rattle.uni_script.specs.declared.answer.Refusal.TheVariants.{Idle, Count}
+use Rattle.uni_script.specs.declared.remarks.Remark.{Remark}
+use Rattle.uni_script.specs.declared.remarks.Remark.TheVariants.{Heading, Note, Refused}
+use Rattle.run_layout.specs.Refusals.{refused_text}
+use Rattle.run_layout.specs.Wording.{counted_text, letter_of}
+use Rattle.run_layout.specs.Wrapping.{lines_of}
+use Rattle.run_replay.specs.Held.{Change, Field, Held, alone, cell_text, changes_between}
+use Rattle.run_replay.specs.Frames.{Begun, Ended, Frame, Stepped, Begins, Steps, Ends}
+use Rattle.run_tell.specs.Access.{access_of}
+use Rattle.run_tell.specs.Opened.{Opening}
+
+-- ---- lines
+
+-- a line that goes on from the one above
+abbrev pub indented : List ℕ → List ℕ
+indented line = codes "        " ++ line ++ codes "\n"
+
+-- lines of which each but the first goes on from the one above
+abbrev pub broken : List (List ℕ) → List ℕ
+broken [] = []
+broken (first ∷ rest) = first ++ codes "\n" ++ flat_map indented rest
+
+-- words in one line where they have room in 100 columns, and else in lines of at most so many
+abbrev pub line_text : List ℕ → List ℕ
+line_text words = if nat_le (length words) 100 then words ++ codes "\n" else broken (lines_of 200 92 words)
+
+-- a place that has changed
+abbrev pub change_words : Change → List ℕ
+change_words c = c.name ++ codes ": " ++ c.before ++ codes " -> " ++ c.after
+
+abbrev pub changes_text : List Change → List ℕ
+changes_text changes = flat_map (λ c. line_text (codes "    " ++ change_words c)) changes
+
+-- ---- events
+
+-- an event of a process
+abbrev pub event_start : (event process : ℕ) → List ℕ
+event_start k p = decimal k ++ codes "  P" ++ decimal p ++ codes "  "
+
+-- a call that begins
+abbrev pub begun_sentence : Begun → List ℕ
+begun_sentence b = codes "calls " ++ b.words ++ codes ": its cell is " ++ cell_text (Some b.call) ++ codes "."
+
+abbrev pub begun_words : (event : ℕ) → Begun → List ℕ
+begun_words k b = event_start k b.call.process ++ begun_sentence b
+
+-- what the place of a step that reads or writes is to its process
+abbrev pub role_of : StepKind → List ℕ
+role_of Announce = codes ", its own cell."
+role_of ScanHead = codes ", in its scan."
+role_of ScanSeq = codes ", the number of that head."
+role_of WriteScan = codes ", the greatest of the heads."
+role_of Test = codes ", the number of its own cell."
+role_of ReadAnnounce = codes ", whose turn it is."
+role_of ReadHelpSeq = codes ", the number of that cell."
+role_of DecideAfter = codes "."
+role_of DecideNew = codes "."
+role_of WriteBefore = codes ", the way back."
+role_of WriteSeq = codes ", the number of that cell."
+role_of WriteHead = codes ", and moves on."
+role_of Finish = codes "."
+
+-- a step that reads or writes
+abbrev pub plain_words : Stepped → List ℕ
+plain_words s = access_of s.kind ++ codes " " ++ s.after.field.name ++ codes ": " ++ s.after.field.text ++ role_of s.kind
+
+-- how many own steps and turns a call took
+abbrev pub spent_words : (steps turns : ℕ) → List ℕ
+spent_words steps turns =
+    codes " after " ++ counted_text steps (codes "step") (codes "steps") ++ codes " and "
+    ++ counted_text turns (codes "turn") (codes "turns")
+
+abbrev pub holds_words : Held → List ℕ
+holds_words h = codes "; " ++ h.field.name ++ codes " is " ++ h.field.text ++ codes "."
+
+-- the last step of a call
+abbrev pub return_words : (reply : List ℕ) → Stepped → List ℕ
+return_words reply s = codes "returns " ++ reply ++ spent_words s.steps s.turns ++ holds_words s.after
+
+-- what is proposed for a place
+abbrev pub reply_words : Option Field → List ℕ
+reply_words None = []
+reply_words (Some reply) = codes " and " ++ reply.text ++ codes " for " ++ reply.name
+
+abbrev pub proposed_words : Held → List ℕ
+proposed_words h = codes "proposes " ++ h.field.text ++ codes " for " ++ h.field.name ++ reply_words h.reply
+
+-- what became of it: it won where anything has changed
+abbrev pub outcome_words : List Change → (after : Held) → List ℕ
+outcome_words [] after = codes "; " ++ after.field.text ++ codes " is there already: lost."
+outcome_words (c ∷ changes) after = codes ": won."
+
+-- the sentence of a step
+abbrev pub kept_words : (reply : Option (List ℕ)) → Stepped → List ℕ
+kept_words None s = plain_words s
+kept_words (Some reply) s = return_words reply s
+
+abbrev pub sentence_by : (proposed : Option Held) → Stepped → List ℕ
+sentence_by None s = kept_words s.reply s
+sentence_by (Some proposed) s = proposed_words proposed ++ outcome_words (changes_between s.before s.after) s.after
+
+abbrev pub sentence : Stepped → List ℕ
+sentence s = sentence_by s.proposed s
+
+abbrev pub step_words : (event : ℕ) → Stepped → List ℕ
+step_words k s = event_start k s.call.process ++ (letter_of s.kind ∷ []) ++ codes "  " ++ sentence s
+
+-- the end of an era
+abbrev pub end_word : Option ℕ → List ℕ
+end_word None = codes "trim"
+end_word (Some processes) = codes "reshape to " ++ counted_text processes (codes "process") (codes "processes")
+
+unfoldable pub number_words : (number : ℕ) → List ℕ
+number_words number = codes ": the anchor alone is left, with number " ++ decimal number ++ codes " and state "
+
+abbrev pub left_words : (number : ℕ) (anchor : Held) → List ℕ
+left_words number anchor = number_words number ++ anchor.field.text ++ codes "."
+
+abbrev pub end_sentence : Ended → List ℕ
+end_sentence e = end_word e.reshaped ++ left_words e.number e.anchor
+
+abbrev pub end_words : (event : ℕ) → Ended → List ℕ
+end_words k e = decimal k ++ codes "  " ++ end_sentence e
+
+-- an event, and under it what it changed
+abbrev pub frame_text : (event : ℕ) → Frame → List ℕ
+frame_text k (Begins b) = line_text (begun_words k b) ++ changes_text (changes_between b.before b.after)
+frame_text k (Steps s) = line_text (step_words k s) ++ changes_text (changes_between s.before s.after)
+frame_text k (Ends e) = line_text (end_words k e)
+
+-- ---- what is told beside the events
+
+abbrev pub refused_words : Refusal → List ℕ
+refused_words refusal = refused_text refusal ++ codes "."
+
+abbrev pub note_words : List ℕ → List ℕ
+note_words text = codes "# " ++ text
+
+abbrev pub remark_words : Remark → List ℕ
+remark_words (Heading text) = note_words text.items
+remark_words (Note text) = note_words text.items
+remark_words (Refused refusal) = refused_words refusal
+
+-- ---- the run
+
+abbrev pub opening_words : Opening → List ℕ
+opening_words o =
+    o.object ++ codes ": " ++ counted_text o.processes (codes "process") (codes "processes") ++ codes ", at most "
+    ++ counted_text o.row (codes "call") (codes "calls") ++ codes " each in an era; the anchor has number " ++ decimal o.number
+    ++ codes " and state " ++ o.state ++ codes "."
+
+-- ---- rows
+
+-- a step of process 1 at a link of the anchor, which held this before
+abbrev link_step : StepKind → (before after : List ℕ) → (proposed : Option Held) → Stepped
+link_step kind before after proposed =
+    record {
+      call = record { process = 1; nth = 0 };
+      kind = kind;
+      before = alone (codes "anchor.after") before;
+      after = alone (codes "anchor.after") after;
+      proposed = proposed;
+      next = None;
+      steps = 14;
+      turns = 1;
+      reply = None;
+    }
+
+lost_proposal : step_words 10 (link_step DecideAfter (codes "0.0") (codes "0.0") (Some (alone (codes "anchor.after") (codes "1.0"))))
+    ≡ codes "10  P1  L  proposes 1.0 for anchor.after; 0.0 is there already: lost."
+unfolding digits
+lost_proposal = refl
+
+won_proposal : step_words 10 (link_step DecideAfter (codes "?") (codes "1.0") (Some (alone (codes "anchor.after") (codes "1.0"))))
+    ≡ codes "10  P1  L  proposes 1.0 for anchor.after: won."
+unfolding digits
+won_proposal = refl
+
+read_head : sentence (record {
+  call = record { process = 1; nth = 0 };
+  kind = ScanHead;
+  before = alone (codes "head[0]") (codes "anchor");
+  after = alone (codes "head[0]") (codes "anchor");
+  proposed = None;
+  next = None;
+  steps = 2;
+  turns = 0;
+  reply = None;
+})
+    ≡ codes "reads head[0]: anchor, in its scan."
+read_head = refl
+
+last_step : sentence (record {
+  call = record { process = 1; nth = 0 };
+  kind = Finish;
+  before = alone (codes "head[1]") (codes "1.0");
+  after = alone (codes "head[1]") (codes "1.0");
+  proposed = None;
+  next = None;
+  steps = 14;
+  turns = 1;
+  reply = Some (codes "5");
+})
+    ≡ codes "returns 5 after 14 steps and 1 turn; head[1] is 1.0."
+unfolding digits
+last_step = refl
+
+refused_step : refused_words (Idle 1) ≡ codes "step refused: P1 idle."
+unfolding digits
+refused_step = refl
+
+refused_reshape : refused_words (Count 65) ≡ codes "reshape refused: count 65."
+unfolding digits
+refused_reshape = refl
+
+changed_entry : change_words (record { name = codes "announce[1]"; before = codes "anchor"; after = codes "1.0" })
+    ≡ codes "announce[1]: anchor -> 1.0"
+changed_entry = refl

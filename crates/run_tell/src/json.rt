@@ -1,0 +1,230 @@
+//! The text of objects and lists.
+
+ghost use Rattle.std.specs.Prelude.{◌≡◌, ◌++◌, ◌<◌, OnOk, map, option_map};
+ghost use Rattle.std.specs.Fmt.{decimal};
+ghost use Rattle.std.specs.List.{flat_map};
+ghost use Rattle.run_tell.specs.Json.{after_comma, code_text, escaped, escaped_byte, hex_digit, list_text};
+ghost use Rattle.run_tell.specs.Json.{MaybeNumber, text_or_null};
+ghost use Rattle.run_tell.specs.Json.{member_text, object_text, quoted, separated, value_text};
+ghost use Rattle.run_tell.specs.JsonShown.{member_shown, value_shown};
+
+use crate::value::{Member, Value};
+use std::alloc::AllocError;
+use std::io::Write;
+
+/// Adds an object with these members, in order.
+///
+/// An `Err` says that memory was refused.
+#[tactic(auto, unfolding(crate::specs::Json::object_text))]
+pub fn push_object(text: &mut Vec<u8>, members: &[Member<'_>]) -> Result<(), AllocError>
+    ensures { OnOk result (text.new.items ≡ text.old.items ++ object_text (map member_shown members.now)) }
+{
+    text.push(b'{')?;
+    push_members(text, members)?;
+    text.push(b'}')?;
+    Ok(())
+}
+
+/// Adds members with commas between them.
+///
+/// An `Err` says that memory was refused.
+pub fn push_members(text: &mut Vec<u8>, members: &[Member<'_>]) -> Result<(), AllocError>
+    ensures { OnOk result (text.new.items
+        ≡ text.old.items ++ separated (map member_text (map member_shown members.now))) }
+{
+    let Some((first, more)) = members.split_first() else {
+        return Ok(());
+    };
+    push_member(text, first)?;
+    push_more_members(text, more)
+}
+
+/// Adds members with a comma before each.
+///
+/// An `Err` says that memory was refused.
+pub fn push_more_members(text: &mut Vec<u8>, members: &[Member<'_>]) -> Result<(), AllocError>
+    ensures { OnOk result (text.new.items
+        ≡ text.old.items ++ flat_map after_comma (map member_text (map member_shown members.now))) }
+{
+    for one in members {
+        push_after_comma(text, one)?;
+    }
+    Ok(())
+}
+
+/// Adds a member with a comma before it.
+///
+/// An `Err` says that memory was refused.
+fn push_after_comma(text: &mut Vec<u8>, one: &Member<'_>) -> Result<(), AllocError>
+    ensures { OnOk result (text.new.items ≡ text.old.items ++ after_comma (member_text (member_shown one.now))) }
+{
+    text.push(b',')?;
+    push_member(text, one)
+}
+
+/// Adds a list whose elements have these texts, which are to be JSON.
+///
+/// An `Err` says that memory was refused.
+#[tactic(auto, unfolding(crate::specs::Json::list_text))]
+pub fn push_list(text: &mut Vec<u8>, elements: &[Vec<u8>]) -> Result<(), AllocError>
+    ensures { OnOk result (text.new.items ≡ text.old.items ++ list_text (map (λ e. e.items) elements.now)) }
+{
+    text.push(b'[')?;
+    push_elements(text, elements)?;
+    text.push(b']')?;
+    Ok(())
+}
+
+/// Adds texts with commas between them.
+///
+/// An `Err` says that memory was refused.
+fn push_elements(text: &mut Vec<u8>, elements: &[Vec<u8>]) -> Result<(), AllocError>
+    ensures { OnOk result (text.new.items ≡ text.old.items ++ separated (map (λ e. e.items) elements.now)) }
+{
+    let Some((first, more)) = elements.split_first() else {
+        return Ok(());
+    };
+    text.extend_from_slice(first)?;
+    push_more_elements(text, more)
+}
+
+/// Adds texts with a comma before each.
+///
+/// An `Err` says that memory was refused.
+fn push_more_elements(text: &mut Vec<u8>, elements: &[Vec<u8>]) -> Result<(), AllocError>
+    ensures { OnOk result (text.new.items
+        ≡ text.old.items ++ flat_map after_comma (map (λ e. e.items) elements.now)) }
+{
+    for element in elements {
+        text.push(b',')?;
+        text.extend_from_slice(element)?;
+    }
+    Ok(())
+}
+
+/// Adds a member.
+///
+/// An `Err` says that memory was refused.
+fn push_member(text: &mut Vec<u8>, one: &Member<'_>) -> Result<(), AllocError>
+    ensures { OnOk result (text.new.items ≡ text.old.items ++ member_text (member_shown one.now)) }
+{
+    push_quoted(text, one.0.as_bytes())?;
+    text.push(b':')?;
+    push_value(text, one.1)
+}
+
+/// Adds a value.
+///
+/// An `Err` says that memory was refused.
+fn push_value(text: &mut Vec<u8>, value: Value<'_>) -> Result<(), AllocError>
+    ensures { OnOk result (text.new.items ≡ text.old.items ++ value_text (value_shown value.entry)) }
+{
+    match value {
+        Value::Number(number) => push_number(text, number),
+        Value::Text(words) => push_quoted(text, words),
+        Value::Flag(true) => text.extend_from_slice(b"true"),
+        Value::Flag(false) => text.extend_from_slice(b"false"),
+        Value::MaybeNumber(number) => push_maybe_number(text, number),
+        Value::Json(json) => text.extend_from_slice(json),
+    }
+}
+
+/// Adds a number.
+///
+/// An `Err` says that memory was refused.
+fn push_number(text: &mut Vec<u8>, number: u64) -> Result<(), AllocError>
+    ensures { OnOk result (text.new.items ≡ text.old.items ++ decimal number) }
+{
+    write!(text, "{number}").map_err(|_| AllocError)
+}
+
+/// Adds a number, or `null` where there is none.
+///
+/// An `Err` says that memory was refused.
+fn push_maybe_number(text: &mut Vec<u8>, number: Option<u64>) -> Result<(), AllocError>
+    ensures { OnOk result (text.new.items ≡ text.old.items ++ value_text (MaybeNumber number)) }
+{
+    match number {
+        Some(number) => push_number(text, number),
+        None => text.extend_from_slice(b"null"),
+    }
+}
+
+/// Adds a string, or `null` where there is none.
+///
+/// An `Err` says that memory was refused.
+pub fn push_text_or_null(text: &mut Vec<u8>, words: &Option<Vec<u8>>) -> Result<(), AllocError>
+    ensures { OnOk result (text.new.items
+        ≡ text.old.items ++ text_or_null (option_map (λ w. w.items) words.now)) }
+{
+    match words {
+        Some(words) => push_quoted(text, words),
+        None => text.extend_from_slice(b"null"),
+    }
+}
+
+/// Adds a string: its text, escaped, between quotes.
+///
+/// An `Err` says that memory was refused.
+fn push_quoted(text: &mut Vec<u8>, words: &[u8]) -> Result<(), AllocError>
+    ensures { OnOk result (text.new.items ≡ text.old.items ++ quoted words.now) }
+{
+    text.push(b'"')?;
+    push_escaped(text, words)?;
+    text.push(b'"')?;
+    Ok(())
+}
+
+/// Adds a text with each quote, backslash and control byte escaped.
+///
+/// An `Err` says that memory was refused.
+fn push_escaped(text: &mut Vec<u8>, words: &[u8]) -> Result<(), AllocError>
+    ensures { OnOk result (text.new.items ≡ text.old.items ++ escaped words.now) }
+{
+    for byte in words {
+        push_escaped_byte(text, *byte)?;
+    }
+    Ok(())
+}
+
+/// Adds a byte of a string, escaped.
+///
+/// An `Err` says that memory was refused.
+fn push_escaped_byte(text: &mut Vec<u8>, byte: u8) -> Result<(), AllocError>
+    ensures { OnOk result (text.new.items ≡ text.old.items ++ escaped_byte byte) }
+{
+    match byte {
+        b'"' => text.extend_from_slice("\\\"".as_bytes()),
+        b'\\' => text.extend_from_slice("\\\\".as_bytes()),
+        0..=31 => push_code(text, byte),
+        plain => {
+            text.push(plain)?;
+            Ok(())
+        }
+    }
+}
+
+/// Adds a control byte by its code.
+///
+/// An `Err` says that memory was refused.
+fn push_code(text: &mut Vec<u8>, byte: u8) -> Result<(), AllocError>
+    requires { byte < 32 }
+    ensures { OnOk result (text.new.items ≡ text.old.items ++ code_text byte) }
+{
+    text.extend_from_slice("\\u00".as_bytes())?;
+    text.push(hex_digit(byte / 16))?;
+    text.push(hex_digit(byte % 16))?;
+    Ok(())
+}
+
+/// The digit of a number below 16, in hexadecimal.
+fn hex_digit(number: u8) -> u8
+    requires { number < 16 }
+    ensures { result ≡ hex_digit number }
+{
+    if number < 10 {
+        b'0' + number
+    } else {
+        b'a' + (number - 10)
+    }
+}

@@ -1,0 +1,47 @@
+//! Runs of scripts, told from beginning to end: from the bytes of a script to a text with a piece for how the run opened,
+//! one for each event, note and refusal, in the script's order.
+//!
+//! What the pieces are, a `Telling` says: lines of JSON, which tell what each event did to the memory (a trace), or the
+//! calls that begin and the replies (a history); sentences for a terminal (steps); or a page for a browser, which needs
+//! no network. What they are stands in `specs`: `TraceLines`, `HistoryLines`, `Sentences` and `Page`; of what JSON they
+//! are made in `Json`. docs/trace.md and docs/pictures.md tell what a reader sees.
+#![tactic(auto)]
+
+mod access;
+mod history;
+mod history_lines;
+mod json;
+mod opened;
+mod order;
+mod page;
+mod page_laws;
+mod rows;
+mod sentences;
+mod step_lines;
+mod steps;
+mod told;
+mod trace;
+mod trace_lines;
+mod trace_members;
+mod trace_memory;
+mod value;
+mod viewer;
+
+pub use access::access_of;
+pub use history::{InHistory, history_of};
+pub use json::{push_list, push_members, push_more_members, push_object, push_text_or_null};
+pub use opened::{Opened, Trace};
+pub use order::Telling;
+pub use page::page_of;
+pub use page_laws::trace_ends_no_element;
+pub use rows::InRows;
+pub use sentences::{
+    opening_words, push_begun_sentence, push_end_sentence, push_step_sentence, remark_words,
+};
+pub use step_lines::push_change_words;
+pub use steps::{InWords, steps_of};
+pub use told::{told_of, trace_of_record, trace_of_script};
+pub use trace::{InJson, InWholeJson, json_of, whole_json_of};
+pub use trace_lines::push_line;
+pub use value::{Member, Value};
+pub use viewer::{END, MIDDLE, START};

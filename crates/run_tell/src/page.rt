@@ -1,0 +1,103 @@
+//! From the bytes of a script to the page that shows its run.
+
+ghost use Rattle.std.specs.Prelude.{◌≡◌, ◌<◌, ◌≤◌, ◌++◌, IfOk, OnOk, IsErrOf, false};
+ghost use Rattle.uni_script.specs.Replay.{HasFault, IsFaultOfScript};
+ghost use Rattle.uni_script.specs.Scripts.{scripts_of};
+ghost use Rattle.uni_script.specs.declared.fault.BenchFault.{BenchFault as Fault};
+ghost use Rattle.uni_script.specs.declared.grammar.Version.{Version};
+ghost use Rattle.uni_script.specs.ScriptRun.{session_of_record};
+ghost use Rattle.run_layout.specs.Subject.{HasTooManyEvents, events_of_record};
+ghost use Rattle.run_tell.specs.Told.{IsLinearizableSession};
+ghost use Rattle.run_tell.specs.Page.{IsPage, escaped, escaped_byte, page_between, page_text};
+
+use crate::rows::InRows;
+use crate::viewer::{END, MIDDLE, START};
+use crate::trace::InJson;
+use run_layout::PictureFault;
+use crate::told::trace_of_script;
+use std::alloc::{AllocError, Global};
+use uni_script::{Options, ScriptRecord, ScriptRun, TextIn, run_of_script};
+
+/// Adds a byte of a trace, escaped.
+///
+/// An `Err` says that memory was refused.
+fn push_escaped_byte(text: &mut Vec<u8>, byte: u8) -> Result<(), AllocError>
+    ensures { OnOk result (text.new.items ≡ text.old.items ++ escaped_byte byte) }
+{
+    match byte {
+        b'<' => text.extend_from_slice("\\u003c".as_bytes()),
+        b'&' => text.extend_from_slice("\\u0026".as_bytes()),
+        plain => {
+            text.push(plain)?;
+            Ok(())
+        }
+    }
+}
+
+/// Adds a trace with each `<` and `&` escaped, as JSON escapes them in its strings.
+///
+/// An `Err` says that memory was refused.
+fn push_escaped(text: &mut Vec<u8>, trace: &[u8]) -> Result<(), AllocError>
+    ensures { OnOk result (text.new.items ≡ text.old.items ++ escaped trace.now) }
+{
+    for byte in trace {
+        push_escaped_byte(text, *byte)?;
+    }
+    Ok(())
+}
+
+/// The rows of a table and a trace, escaped, between three texts.
+///
+/// An `Err` says that memory was refused.
+#[tactic(auto, unfolding(crate::specs::Page::page_text))]
+fn between(
+    alloc: Global,
+    start: &str,
+    rows: &[u8],
+    middle: &str,
+    trace: &[u8],
+    end: &str,
+) -> Result<Vec<u8>, AllocError>
+    ensures { IfOk result (λ text. text.items ≡ page_text start.now rows.now middle.now trace.now end.now) }
+{
+    let mut text = Vec::new(alloc);
+    text.extend_from_slice(start.as_bytes())?;
+    text.extend_from_slice(rows)?;
+    text.extend_from_slice(middle.as_bytes())?;
+    push_escaped(&mut text, trace)?;
+    text.extend_from_slice(end.as_bytes())?;
+    Ok(text)
+}
+
+/// The page of the run of a script.
+///
+/// Errors: `TooManyEvents` where it has more than 2,000 events; else `Memory`.
+fn page_of_run(alloc: Global, run: &ScriptRun<ScriptRecord>) -> Result<Vec<u8>, PictureFault>
+    ensures few { OnOk result (events_of_record run.now.record ≤ 2000) }
+    ensures page { IfOk result (λ text. (version : Version) → text.items
+        ≡ page_between START.now MIDDLE.now END.now (session_of_record version run.now.record)
+        run.now.lines.items run.now.remarks.items) }
+    ensures linearizable { (version : Version) → IsLinearizableSession (session_of_record version run.now.record) }
+    ensures many { IsErrOf result PictureFault.TooManyEvents → 2000 < events_of_record run.now.record }
+    ensures memory { (e : Fault) → IsErrOf result (PictureFault.Script e) → e ≡ Fault.Memory }
+{
+    let trace = trace_of_script(alloc, &run.record, false)?;
+    let rows = trace.told::<InRows>(alloc, &run.lines, &run.remarks)?;
+    let lines = trace.told::<InJson>(alloc, &run.lines, &run.remarks)?;
+    Ok(between(alloc, START, &rows, MIDDLE, &lines, END)?)
+}
+
+/// The page that shows the run of the script that a reader has.
+///
+/// An `Err` is the first fault of the script; `Read` where the reader failed; `Memory` where memory was
+/// refused; or `TooManyEvents` of a good script that has more than 2,000 events.
+pub fn page_of<I: TextIn>(alloc: Global, reader: &mut I) -> Result<Vec<u8>, PictureFault>
+    requires { I.has_failed reader.old ≡ false }
+    ensures page { IfOk result (λ text. IsPage (I.remaining reader.old) text.items) }
+    ensures many { IsErrOf result PictureFault.TooManyEvents → HasTooManyEvents (I.remaining reader.old) }
+    ensures fault { (e : Fault) → IsErrOf result (PictureFault.Script e) → IsFaultOfScript e
+        → HasFault (scripts_of 1048576) (I.remaining reader.old) e }
+{
+    let run = run_of_script(alloc, reader, &Options::default())?;
+    page_of_run(alloc, &run)
+}

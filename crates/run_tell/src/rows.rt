@@ -1,0 +1,220 @@
+//! The rows of the table that a page shows where no script runs.
+
+ghost use Rattle.std.specs.Prelude.{◌≡◌, ◌++◌, [], IfOk, OnOk, decimal, map, option_map};
+ghost use Rattle.std.specs.List.{flat_map};
+ghost use Rattle.std.specs.Option.{option_map_or};
+ghost use Rattle.run_replay.specs.ScenesShown.{begun_shown, change_shown, end_shown, frame_shown, step_shown};
+ghost use Rattle.run_tell.specs.Rows.{begun_cells, cell, changed_words, end_cells, frame_cells};
+ghost use Rattle.run_tell.specs.Rows.{reply_words, row_text, stage_words, step_cells, told_cells};
+
+use run_layout::{letter_of, name_of, push_counted};
+use crate::sentences::{opening_words, push_begun_sentence, push_end_sentence, push_step_sentence, remark_words};
+use crate::step_lines::push_change_words;
+use crate::opened::Opened;
+use crate::order::Telling;
+use run_replay::{Begun, Change, EndedEra, Frame, Scene, Step, cell_text, changes_of};
+use std::alloc::{AllocError, Global};
+use std::io::Write;
+use svg_text::push_escaped;
+use uni_script::PlacedRemark;
+
+/// Adds a cell with this text.
+///
+/// An `Err` says that memory was refused.
+fn push_cell(rows: &mut Vec<u8>, text: &[u8]) -> Result<(), AllocError>
+    ensures { OnOk result (rows.new.items ≡ rows.old.items ++ cell text.now) }
+{
+    rows.extend_from_slice(b"<td>")?;
+    push_escaped(rows, text)
+}
+
+/// Adds a row of cells with these texts.
+///
+/// An `Err` says that memory was refused.
+#[tactic(auto, unfolding(crate::specs::Rows::row_text))]
+fn push_row(rows: &mut Vec<u8>, cells: &[&[u8]]) -> Result<(), AllocError>
+    ensures { OnOk result (rows.new.items ≡ rows.old.items ++ row_text (map (λ text. text.now) cells.now)) }
+{
+    rows.extend_from_slice(b"<tr>")?;
+    for text in cells {
+        push_cell(rows, text)?;
+    }
+    rows.push(b'\n')?;
+    Ok(())
+}
+
+/// Adds the row of words without an event.
+///
+/// An `Err` says that memory was refused.
+fn push_told_row(rows: &mut Vec<u8>, words: &[u8]) -> Result<(), AllocError>
+    ensures { OnOk result (rows.new.items ≡ rows.old.items ++ row_text (told_cells words.now)) }
+{
+    push_row(rows, &[b"", b"", b"", b"", words, b"", b""])
+}
+
+/// The text of a number.
+///
+/// An `Err` says that memory was refused.
+fn number_text(alloc: Global, number: u64) -> Result<Vec<u8>, AllocError>
+    ensures { IfOk result (λ text. text.items ≡ decimal number) }
+{
+    let mut text = Vec::new(alloc);
+    write!(text, "{number}").map_err(|_| AllocError)?;
+    Ok(text)
+}
+
+/// What has changed, a line for each place.
+///
+/// An `Err` says that memory was refused.
+fn changed_words(alloc: Global, changes: &[Change]) -> Result<Vec<u8>, AllocError>
+    ensures { IfOk result (λ words. words.items ≡ changed_words (map change_shown changes.now)) }
+{
+    let mut words = Vec::new(alloc);
+    for change in changes {
+        push_change_words(&mut words, change)?;
+        words.push(b'\n')?;
+    }
+    Ok(words)
+}
+
+/// Adds the reply of a call that has returned.
+///
+/// An `Err` says that memory was refused.
+fn push_reply(words: &mut Vec<u8>, reply: &Option<Vec<u8>>) -> Result<(), AllocError>
+    ensures { OnOk result (words.new.items
+        ≡ words.old.items ++ option_map_or reply_words (option_map (λ r. r.items) reply.now) []) }
+{
+    match reply {
+        Some(reply) => {
+            words.extend_from_slice(b", reply ")?;
+            words.extend_from_slice(reply)
+        }
+        None => Ok(()),
+    }
+}
+
+/// What a call has come to with a step.
+///
+/// An `Err` says that memory was refused.
+fn stage_words(alloc: Global, step: &Step) -> Result<Vec<u8>, AllocError>
+    ensures { IfOk result (λ words. words.items ≡ stage_words (step_shown step.now)) }
+{
+    let mut words = Vec::new(alloc);
+    push_counted(&mut words, step.steps, "step", "steps")?;
+    words.extend_from_slice(b", ")?;
+    push_counted(&mut words, step.turns, "turn", "turns")?;
+    push_reply(&mut words, &step.reply)?;
+    Ok(words)
+}
+
+/// Adds the row of a call that begins.
+///
+/// An `Err` says that memory was refused.
+fn push_begun_row(
+    alloc: Global,
+    event: u64,
+    begun: &Begun,
+    rows: &mut Vec<u8>,
+) -> Result<(), AllocError>
+    ensures { OnOk result (rows.new.items ≡ rows.old.items ++ row_text (begun_cells event (begun_shown begun.now))) }
+{
+    let number = number_text(alloc, event)?;
+    let process = name_of(alloc, u64::from(begun.call.process))?;
+    let call = cell_text(alloc, Some(begun.call))?;
+    let mut happened = Vec::new(alloc);
+    push_begun_sentence(alloc, begun, &mut happened)?;
+    let changes = changes_of(alloc, &begun.before, &begun.after)?;
+    let changed = changed_words(alloc, &changes)?;
+    push_row(
+        rows,
+        &[&number, &process, &call, b"", &happened, &changed, b""],
+    )
+}
+
+/// Adds the row of a step.
+///
+/// An `Err` says that memory was refused.
+fn push_step_row(
+    alloc: Global,
+    event: u64,
+    step: &Step,
+    rows: &mut Vec<u8>,
+) -> Result<(), AllocError>
+    ensures { OnOk result (rows.new.items ≡ rows.old.items ++ row_text (step_cells event (step_shown step.now))) }
+{
+    let number = number_text(alloc, event)?;
+    let process = name_of(alloc, u64::from(step.call.process))?;
+    let call = cell_text(alloc, Some(step.call))?;
+    let kind = [letter_of(step.kind)];
+    let changes = changes_of(alloc, &step.before, &step.after)?;
+    let mut happened = Vec::new(alloc);
+    push_step_sentence(&mut happened, step, &changes)?;
+    let changed = changed_words(alloc, &changes)?;
+    let stage = stage_words(alloc, step)?;
+    push_row(
+        rows,
+        &[&number, &process, &call, &kind, &happened, &changed, &stage],
+    )
+}
+
+/// Adds the row of the end of an era.
+///
+/// An `Err` says that memory was refused.
+fn push_end_row(
+    alloc: Global,
+    event: u64,
+    end: &EndedEra,
+    rows: &mut Vec<u8>,
+) -> Result<(), AllocError>
+    ensures { OnOk result (rows.new.items ≡ rows.old.items ++ row_text (end_cells event (end_shown end.now))) }
+{
+    let number = number_text(alloc, event)?;
+    let mut happened = Vec::new(alloc);
+    push_end_sentence(&mut happened, end)?;
+    push_row(rows, &[&number, b"", b"", b"", &happened, b"", b""])
+}
+
+/// Tells a run in rows of a table.
+pub struct InRows;
+
+impl Telling for InRows {
+    ghost use Rattle.run_tell.specs.Rows.{rows_wording};
+
+    ghost wording = { rows_wording };
+
+    fn is_whole() -> bool {
+        false
+    }
+
+    fn push_opening(
+        alloc: Global,
+        opened: &Opened<'_>,
+        text: &mut Vec<u8>,
+    ) -> Result<(), AllocError> {
+        let words = opening_words(alloc, opened)?;
+        push_told_row(text, &words)
+    }
+
+    fn push_scene(
+        alloc: Global,
+        event: u64,
+        _: Option<u64>,
+        scene: &Scene,
+        text: &mut Vec<u8>,
+    ) -> Result<(), AllocError> {
+        match &scene.frame {
+            Frame::Call(begun) => push_begun_row(alloc, event, begun, text),
+            Frame::Step(step) => push_step_row(alloc, event, step, text),
+            Frame::End(end) => push_end_row(alloc, event, end, text),
+        }
+    }
+
+    fn push_remark(
+        alloc: Global,
+        one: &PlacedRemark,
+        text: &mut Vec<u8>,
+    ) -> Result<(), AllocError> {
+        let words = remark_words(alloc, &one.remark)?;
+        push_told_row(text, &words)
+    }
+}

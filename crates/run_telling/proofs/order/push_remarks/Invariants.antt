@@ -1,7 +1,0 @@
-use Rattle.std.proofs.Common.{◌≡◌, ◌++◌, take}
-use Rattle.std.specs.List.{flat_map}
-use Rattle.run_telling.proofs.order.push_remarks.Given as goal
-
--- the text so far
-abbrev pub invariant-loop-one : goal.invariant-loop-one
-invariant-loop-one g l = l.text.items ≡ l.initial.text.items ++ flat_map g.T.Telling.wording.remark (take l.one-index l.remarks)

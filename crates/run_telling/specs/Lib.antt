@@ -1,4 +1,0 @@
-pub mod Access
-pub mod Opened
-pub mod Order
-pub mod Told

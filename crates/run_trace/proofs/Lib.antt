@@ -1,5 +1,0 @@
-pub mod Proposing
-pub mod Staying
-pub mod Telling
-pub mod EachEvent
-pub mod PlacesMore

@@ -1,5 +1,0 @@
-use Rattle.run_trace.proofs.EachEvent.{TellsEachEvent-holds}
-use Rattle.run_trace.proofs.laws.scenes_tell_each_event.Goals as goal
-
-pub returns : goal.returns
-returns g c object is_whole w events = TellsEachEvent-holds (g.O.SeqObject.sequential object) g.O.Spoken.language g.O.Spoken.state_text is_whole w events
