@@ -88,7 +88,7 @@ chosen range marks =
 abbrev pub is_heading : Remark → Bool
 is_heading (Heading text) = true
 is_heading (Note text) = false
-is_heading (Refused refusal) = false
+is_heading (Refused command refusal) = false
 
 abbrev pub is_told_in : Range → PlacedRemark → Bool
 is_told_in range one = is_heading one.remark || is_in range one.before
@@ -127,7 +127,7 @@ bars_of_three = refl
 
 -- a refusal before event 10 and one before event 20 are told, and none before event 21
 abbrev refused : (before : ℕ) → PlacedRemark
-refused before = record { line = 7; before = before; remark = Refused Sequence }
+refused before = record { line = 7; before = before; remark = Refused [] Sequence }
 
 remarks_of_four : chosen_remarks ten_to_twenty (refused 9 ∷ refused 10 ∷ refused 20 ∷ refused 21 ∷ []) ≡ refused 0 ∷ refused 10 ∷ []
 remarks_of_four = refl

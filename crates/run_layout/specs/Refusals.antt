@@ -45,13 +45,13 @@ times_text times = if times == 1 then [] else codes " x" ++ decimal times
 
 -- the label of a remark that was told so often in a row; a note has none
 abbrev pub told_text : (times : ℕ) → Remark → Option (List ℕ)
-told_text times (Refused refusal) = Some (refused_text refusal ++ times_text times)
+told_text times (Refused command refusal) = Some (refused_text refusal ++ times_text times)
 told_text times (Heading text) = None
 told_text times (Note text) = None
 
 -- whether both are refusals with the same text
 abbrev pub have_same_text : Remark → Remark → Bool
-have_same_text (Refused one) (Refused other) = pointwise nat_eq (refused_text one) (refused_text other)
+have_same_text (Refused command one) (Refused other_command other) = pointwise nat_eq (refused_text one) (refused_text other)
 have_same_text _ _ = false
 
 -- whether a refusal comes again at once, after as many events
@@ -77,7 +77,7 @@ labels_of remarks = labels_from 0 remarks
 
 -- two equal refusals have one label, and one of another process has its own
 abbrev idle : (process : ℕ) → PlacedRemark
-idle process = record { line = 7; before = 3; remark = Refused (Idle process) }
+idle process = record { line = 7; before = 3; remark = Refused [] (Idle process) }
 
 labels_of_three : labels_of (idle 0 ∷ idle 0 ∷ idle 1 ∷ [])
     ≡ record { before = 3; text = None }

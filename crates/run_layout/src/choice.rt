@@ -276,7 +276,7 @@ fn is_told_in(range: Range, one: &PlacedRemark) -> bool
 {
     match one.remark {
         Remark::Heading(_) => true,
-        Remark::Note(_) | Remark::Refused(_) => range.has(one.before),
+        Remark::Note(_) | Remark::Refused { .. } => range.has(one.before),
     }
 }
 

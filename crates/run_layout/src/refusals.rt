@@ -78,7 +78,7 @@ fn told_text(alloc: Global, times: u64, remark: &Remark) -> Result<Option<Vec<u8
     ensures { IfOk result (λ label. option_map (λ text. text.items) label ≡ told_text times remark.now) }
 {
     match remark {
-        Remark::Refused(refusal) => {
+        Remark::Refused { refusal, .. } => {
             let mut text = refused_text(alloc, *refusal)?;
             push_times(&mut text, times)?;
             Ok(Some(text))
@@ -94,7 +94,13 @@ fn have_same_text(alloc: Global, one: &Remark, other: &Remark) -> Result<bool, A
     ensures { IfOk result (λ same. same ≡ have_same_text one.now other.now) }
 {
     match (one, other) {
-        (Remark::Refused(first), Remark::Refused(second)) => {
+        (
+            Remark::Refused { refusal: first, .. },
+            Remark::Refused {
+                refusal: second,
+                ..
+            },
+        ) => {
             let text = refused_text(alloc, *first)?;
             let other = refused_text(alloc, *second)?;
             Ok(text.as_slice() == other.as_slice())

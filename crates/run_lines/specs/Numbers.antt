@@ -20,7 +20,7 @@ note_number numbering before = number_or_next numbering.last numbering.number be
 abbrev pub numbered : Numbering → (before : ℕ) → Remark → Numbering
 numbered numbering before (Note text) = record { number = note_number numbering before; last = Some before }
 numbered numbering before (Heading text) = record { number = numbering.number; last = None }
-numbered numbering before (Refused refusal) = record { number = numbering.number; last = None }
+numbered numbering before (Refused command refusal) = record { number = numbering.number; last = None }
 
 abbrev pub numbering_after : Numbering → PlacedRemark → Numbering
 numbering_after numbering one = numbered numbering one.before one.remark

@@ -52,7 +52,7 @@ abbrev pub number_parts : (number before : ℕ) → Remark → List Meaning
 number_parts number before (Note text) =
     record { look = look.Text; columns = (after_events before, After before); lanes = None; text = decimal number } ∷ []
 number_parts number before (Heading text) = []
-number_parts number before (Refused refusal) = []
+number_parts number before (Refused command refusal) = []
 
 abbrev pub numbers_from : Numbering → List PlacedRemark → List Meaning
 numbers_from numbering [] = []

@@ -41,7 +41,7 @@ trimmed text = take (length text - suffix_len (λ letter. letter == 32) text) te
 abbrev pub heading_text : (columns : ℕ) → Remark → List ℕ
 heading_text columns (Heading text) = wrapped columns text.items
 heading_text columns (Note text) = []
-heading_text columns (Refused refusal) = []
+heading_text columns (Refused command refusal) = []
 
 abbrev pub headings_text : (columns : ℕ) → List PlacedRemark → List ℕ
 headings_text columns remarks = flat_map (λ one. heading_text columns one.remark) remarks
@@ -98,7 +98,7 @@ numbered_note columns number text =
 abbrev pub note_text : (columns number : ℕ) → Remark → List ℕ
 note_text columns number (Note text) = numbered_note columns number text.items
 note_text columns number (Heading text) = []
-note_text columns number (Refused refusal) = []
+note_text columns number (Refused command refusal) = []
 
 abbrev pub notes_from : (columns : ℕ) → Numbering → List PlacedRemark → List ℕ
 notes_from columns numbering [] = []

@@ -48,7 +48,7 @@ impl Numbering {
                 number: self.note_number(one.before),
                 last: Some(one.before),
             },
-            Remark::Heading(_) | Remark::Refused(_) => Numbering {
+            Remark::Heading(_) | Remark::Refused { .. } => Numbering {
                 number: self.number,
                 last: None,
             },

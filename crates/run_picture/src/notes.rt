@@ -99,7 +99,7 @@ fn stem_of(axis: &Axis, place: usize) -> u64
 fn note_text(remark: &Remark) -> &[u8] {
     match remark {
         Remark::Note(text) => text,
-        Remark::Heading(_) | Remark::Refused(_) => &[],
+        Remark::Heading(_) | Remark::Refused { .. } => &[],
     }
 }
 

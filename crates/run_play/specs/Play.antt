@@ -64,7 +64,7 @@ IsPageOfSession goal b page =
 
 -- whether a remark is a refusal
 abbrev pub is_refusal : Remark → Bool
-is_refusal (Refused refusal) = true
+is_refusal (Refused command refusal) = true
 is_refusal (Heading text) = false
 is_refusal (Note text) = false
 

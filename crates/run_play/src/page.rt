@@ -33,7 +33,7 @@ fn any_refused(remarks: &[PlacedRemark]) -> bool
     ensures { result ≡ any_refused remarks.now }
 {
     for one in remarks {
-        if let Remark::Refused(_) = one.remark {
+        if let Remark::Refused { .. } = one.remark {
             return true;
         }
     }

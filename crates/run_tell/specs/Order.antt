@@ -25,8 +25,8 @@ event_text words k line (Some scene) = words.event k line scene
 abbrev pub told_before : (event : ℕ) → List PlacedRemark → ℕ
 told_before k remarks = prefix_len (λ one. nat_le one.before k) remarks
 
-told_before_the_second : told_before 1 (record { line = 3; before = 1; remark = Refused Sequence }
-    ∷ record { line = 5; before = 2; remark = Refused Sequence } ∷ []) ≡ 1
+told_before_the_second : told_before 1 (record { line = 3; before = 1; remark = Refused [] Sequence }
+    ∷ record { line = 5; before = 2; remark = Refused [] Sequence } ∷ []) ≡ 1
 told_before_the_second = refl
 
 -- the texts of events from one on, each behind what is told before it, and of what is told after the last; `lines` has the line of

@@ -148,7 +148,7 @@ note_words text = codes "# " ++ text
 abbrev pub remark_words : Remark → List ℕ
 remark_words (Heading text) = note_words text.items
 remark_words (Note text) = note_words text.items
-remark_words (Refused refusal) = refused_words refusal
+remark_words (Refused command refusal) = refused_words refusal
 
 -- ---- the run
 

@@ -139,7 +139,7 @@ refusal_members line k refusal =
 abbrev pub remark_members : (line events : ℕ) → Remark → List Member
 remark_members line k (Heading text) = note_members (codes "heading") line k text.items
 remark_members line k (Note text) = note_members (codes "note") line k text.items
-remark_members line k (Refused refusal) = refusal_members line k refusal
+remark_members line k (Refused command refusal) = refusal_members line k refusal
 
 -- ---- the run
 

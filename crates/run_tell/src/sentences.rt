@@ -333,7 +333,7 @@ pub fn remark_words(alloc: Global, remark: &Remark) -> Result<Vec<u8>, AllocErro
     match remark {
         Remark::Heading(note) => note_words(alloc, note),
         Remark::Note(note) => note_words(alloc, note),
-        Remark::Refused(refusal) => refused_words(alloc, *refusal),
+        Remark::Refused { refusal, .. } => refused_words(alloc, *refusal),
     }
 }
 

@@ -253,7 +253,9 @@ pub(crate) fn push_remark_line(
     match &one.remark {
         Remark::Heading(heading) => push_note("heading", one.line, one.before, heading, text),
         Remark::Note(note) => push_note("note", one.line, one.before, note, text),
-        Remark::Refused(refusal) => push_refusal(alloc, one.line, one.before, *refusal, text),
+        Remark::Refused { refusal, .. } => push_refusal(
+            alloc, one.line, one.before, *refusal, text,
+        ),
     }
 }
 

@@ -28,7 +28,7 @@ module _ {B : Type 0} (kind : Kind B) (number : ℕ) where
   -- and of a command its refusal, and its events
   pub heard_of_line-command : (b c : B) (line : List ℕ) → is_note line ≡ false
       → record {
-        remarks = remarks_after number (kind.events b) (option_map Refused (kind.refusal b (words_of_text line)));
+        remarks = remarks_after number (kind.events b) (option_map (Refused line) (kind.refusal b (words_of_text line)));
         lines = replicate (kind.events c - kind.events b) number;
       } ≡ heard_of_line kind number (Some b) (Some c) line
   heard_of_line-command b c line other = rw other refl

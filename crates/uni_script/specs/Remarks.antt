@@ -13,11 +13,11 @@ use Rattle.uni_script.specs.Grammar.{is_note, lines_of}
 use Rattle.uni_script.specs.Outcome.{Kind, outcome_of_line}
 use Rattle.uni_script.specs.Scripts.{scripts_of}
 
--- what a line says that is no event: a note before the header, one after it, or why its command was refused
+-- what a line says that is no event: a note before the header, one after it, or itself and why it was refused
 pub data RemarkText : Type 0 where
   Heading : List ℕ → RemarkText
   Note : List ℕ → RemarkText
-  Refused : Refusal → RemarkText
+  Refused : (line : List ℕ) → Refusal → RemarkText
 
 -- what is said, the number of the line that says it, and how many events come before it
 pub record RemarkAt : Type 0 where
@@ -29,7 +29,7 @@ pub record RemarkAt : Type 0 where
 abbrev pub remark_text : Remark → RemarkText
 remark_text (remark.Heading text) = Heading text.items
 remark_text (remark.Note text) = Note text.items
-remark_text (remark.Refused refusal) = Refused refusal
+remark_text (remark.Refused command refusal) = Refused command.items refusal
 
 abbrev pub remark_at : PlacedRemark → RemarkAt
 remark_at t = record { line = t.line; before = t.before; text = remark_text t.remark }
@@ -86,7 +86,8 @@ heading_of_line line = if is_note line then Some (Heading (text_of_note line)) e
 module _ {B : Type 0} (kind : Kind B) where
   -- what a line after the header says that is no event, if anything
   abbrev pub remark_of_line : B → List ℕ → Option RemarkText
-  remark_of_line b line = if is_note line then Some (Note (text_of_note line)) else option_map Refused (kind.refusal b (words_of_text line))
+  remark_of_line b line =
+      if is_note line then Some (Note (text_of_note line)) else option_map (Refused line) (kind.refusal b (words_of_text line))
 
   -- what a line of this number tells on the session before it; there is none before the header
   abbrev pub remarks_of_line : (number : ℕ) → Option B → List ℕ → List RemarkAt
@@ -139,15 +140,15 @@ notes : remarks_of_script (scripts_of 100) (codes "# one\nuniversal 1 queue 2 8\
 unfolding digits number_of_word
 notes = refl
 
--- a step of a process without a call is refused
+-- a step of a process without a call is refused; its line is told as it was typed
 refusal_without_a_call : remarks_of_script (scripts_of 100) (codes "universal 1 queue 2 8\nstep 1\n")
-    ≡ record { line = 2; before = 0; text = Refused (Idle 1) } ∷ []
+    ≡ record { line = 2; before = 0; text = Refused (codes "step 1") (Idle 1) } ∷ []
 unfolding digits number_of_word
 refusal_without_a_call = refl
 
 -- a call is refused while the one before is pending
 refusal_of_a_second_call : remarks_of_script (scripts_of 100) (codes "universal 1 queue 2 8\ncall 0 deq\ncall 0 deq\n")
-    ≡ record { line = 3; before = 1; text = Refused (Busy 0) } ∷ []
+    ≡ record { line = 3; before = 1; text = Refused (codes "call 0 deq") (Busy 0) } ∷ []
 unfolding digits number_of_word
 refusal_of_a_second_call = refl
 

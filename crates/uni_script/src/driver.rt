@@ -409,7 +409,7 @@ fn run_line<S: Scripts, O: Spoken, L: Listener>(
     let refusal = make(session, alloc, command, text)?;
     listener.events(number, session.events().len().saturating_sub(before))?;
     match refusal {
-        Some(refusal) => Ok(listener.refusal(number, before as u64, refusal)?),
+        Some(refusal) => Ok(listener.refusal(alloc, number, before as u64, line, refusal)?),
         None => Ok(()),
     }
 }

@@ -16,7 +16,12 @@ pub enum Remark {
     /// A note after the header, without its `#`.
     Note(Vec<u8>),
     /// A command that was refused.
-    Refused(Refusal),
+    Refused {
+        /// Its line, as it was typed.
+        command: Vec<u8>,
+        /// Why it was refused.
+        refusal: Refusal,
+    },
 }
 
 /// A remark, and where it stands in the script and among the events.
@@ -51,9 +56,16 @@ pub(crate) trait Listener {
     /// Hears why the command of a line of this number was refused, after so many events.
     ///
     /// An `Err` says that memory was refused.
-    fn refusal(&mut self, number: u64, before: u64, refusal: Refusal) -> Result<(), AllocError>
+    fn refusal(
+        &mut self,
+        alloc: Global,
+        number: u64,
+        before: u64,
+        line: &[u8],
+        refusal: Refusal,
+    ) -> Result<(), AllocError>
         ensures { OnOk result (HeardGrows (heard self.old) (heard self.new)
-            (heard_remarks (remarks_after number before (Some (Refused refusal))))) };
+            (heard_remarks (remarks_after number before (Some (Refused line.now refusal))))) };
 
     /// Hears that a line of this number has stored so many events.
     ///
@@ -75,7 +87,14 @@ impl Listener for Deaf {
         Ok(())
     }
 
-    fn refusal(&mut self, _: u64, _: u64, _: Refusal) -> Result<(), AllocError> {
+    fn refusal(
+        &mut self,
+        _: Global,
+        _: u64,
+        _: u64,
+        _: &[u8],
+        _: Refusal,
+    ) -> Result<(), AllocError> {
         Ok(())
     }
 
@@ -136,11 +155,20 @@ impl Listener for Remarks {
         Ok(())
     }
 
-    fn refusal(&mut self, number: u64, before: u64, refusal: Refusal) -> Result<(), AllocError> {
+    fn refusal(
+        &mut self,
+        alloc: Global,
+        number: u64,
+        before: u64,
+        line: &[u8],
+        refusal: Refusal,
+    ) -> Result<(), AllocError> {
+        let mut command = Vec::new(alloc);
+        command.extend_from_slice(line)?;
         self.remarks.push(PlacedRemark {
             line: number,
             before,
-            remark: Remark::Refused(refusal),
+            remark: Remark::Refused { command, refusal },
         })?;
         Ok(())
     }

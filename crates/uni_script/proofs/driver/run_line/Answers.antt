@@ -86,7 +86,7 @@ returns-clause-heard g c = λ kind inside about.
     let refusal = about.refusal b line_words ∙ refusal_of_words-some o version inside b line_words c.in-Some.command (words ∙ c.in-Some.is) in
     let quiet = refusal ∙ sym c.in_ok-refusal.ensures.refusal ∙ c.in-None.is in
     let heard = ap (λ k. heard_events c.args.number k) count
-    ∙ ap (λ r. record { remarks = remarks_after c.args.number (kind.events (inside b)) (option_map Refused r); lines = replicate (kind.events (inside after) - kind.events (inside b)) c.args.number }) (sym quiet)
+    ∙ ap (λ r. record { remarks = remarks_after c.args.number (kind.events (inside b)) (option_map (Refused c.args.line.now) r); lines = replicate (kind.events (inside after) - kind.events (inside b)) c.args.number }) (sym quiet)
     ∙ heard_of_line-command kind c.args.number (inside b) (inside after) c.args.line.now (sym c.if-is_note.ensures) in
     subst (HeardGrows (g.L.Listener.heard c.args.listener.now) (g.L.Listener.heard c.events-3.new.self)) heard c.in_ok-events.ensures
 
@@ -103,11 +103,11 @@ returns-in-Some-refusal-clause-heard g c = λ kind inside about.
     let count = c.saturating_sub.ensures ∙ rw (many, more) refl in
     let refusal = about.refusal b line_words ∙ refusal_of_words-some o version inside b line_words c.in-Some.command (words ∙ c.in-Some.is) in
     let refused = refusal ∙ sym c.in_ok-refusal.ensures.refusal ∙ c.in-Some-refusal.is in
-    let told = remarks_after c.args.number c.len-before.result (Some (Refused c.in-Some-refusal.refusal)) in
+    let told = remarks_after c.args.number c.len-before.result (Some (Refused c.args.line.now c.in-Some-refusal.refusal)) in
     let heard = heard_events-remarks c.args.number c.saturating_sub.result told
     ∙ ap (λ k. record { remarks = told; lines = replicate k c.args.number }) count
-    ∙ ap (λ n. record { remarks = remarks_after c.args.number n (Some (Refused c.in-Some-refusal.refusal)); lines = replicate (kind.events (inside after) - kind.events (inside b)) c.args.number }) many
-    ∙ ap (λ r. record { remarks = remarks_after c.args.number (kind.events (inside b)) (option_map Refused r); lines = replicate (kind.events (inside after) - kind.events (inside b)) c.args.number }) (sym refused)
+    ∙ ap (λ n. record { remarks = remarks_after c.args.number n (Some (Refused c.args.line.now c.in-Some-refusal.refusal)); lines = replicate (kind.events (inside after) - kind.events (inside b)) c.args.number }) many
+    ∙ ap (λ r. record { remarks = remarks_after c.args.number (kind.events (inside b)) (option_map (Refused c.args.line.now) r); lines = replicate (kind.events (inside after) - kind.events (inside b)) c.args.number }) (sym refused)
     ∙ heard_of_line-command kind c.args.number (inside b) (inside after) c.args.line.now (sym c.if-is_note.ensures) in
     subst (HeardGrows (g.L.Listener.heard c.args.listener.now) (g.L.Listener.heard c.refusal.new.self)) heard
     (HeardGrows-trans (g.L.Listener.heard c.args.listener.now) (g.L.Listener.heard c.events-3.new.self) (g.L.Listener.heard c.refusal.new.self) (heard_events c.args.number c.saturating_sub.result) (heard_remarks told) c.in_ok-events.ensures c.in_ok-refusal-in-Some-refusal.ensures)
