@@ -1,15 +1,5 @@
 -- Rows, seen as an arena.
-use Rattle.std.proofs.Common.{◌≡◌, ◌∙◌, ◌++◌, ◌∷◌, [], ◌==◌, ◌+◌, ◌-◌, ◌*◌, ◌<◌, ◌≤◌, ◌⊎◌, ◌↔◌, ℕ, zero, suc, List, Option, Some, None, IsSome, inl, inr, if◌then◌else◌, length, map, slice_set, slice_get, slice_index_or, refl, ap, sym, arith, option_map, is_some, get_or-set_same, get_or-set_other, length-append}
-use Rattle.std.proofs.lemmas.List.{get_or_past, get_or_default, length-map}
-use Rattle.std.proofs.lemmas.List.FromFn.{length-map-range_with_len, get_or-map-range_with_len}
-use Rattle.std.proofs.lemmas.Nat.{le-div}
-use Rattle.std.proofs.lemmas.Option.{slice_get_past}
-use Rattle.std.proofs.lemmas.Bool.{cases_eq, cases_lt}
-use Rattle.std.proofs.Math.ListN.{length-set}
-use Rattle.cell_arena.specs.CellRecord.{CellRecord, ChangesOnly, HasOnlyAnchor, index_of, nth_of, owner_of}
-use Rattle.cell_arena.specs.Arena.{processes_of, made_of, cell_of}
-use Rattle.cell_arena.specs.Rows.{Rows, AreRows, AreEmpty, arena_of, cell_at, cells_of, rows_of}
-use Rattle.cell_arena.specs.Lending.{with_cell}
+use Rattle.cell_arena.proofs.Vocabulary.{AreEmpty, AreRows, CellRecord, ChangesOnly, HasOnlyAnchor, IsSome, List, None, Option, Rows, Some, [], ap, arena_of, arith, cases_eq, cases_lt, cell_at, cell_of, cells_of, get_or-map-range_with_len, get_or-set_other, get_or-set_same, get_or_default, get_or_past, if◌then◌else◌, index_of, inl, inr, is_some, le-div, length, length-append, length-map, length-map-range_with_len, length-set, made_of, map, nth_of, option_map, owner_of, processes_of, refl, rows_of, slice_get, slice_get_past, slice_index_or, slice_set, suc, sym, with_cell, zero, ℕ, ◌*◌, ◌++◌, ◌+◌, ◌-◌, ◌<◌, ◌==◌, ◌↔◌, ◌∙◌, ◌∷◌, ◌≡◌, ◌≤◌, ◌⊎◌}
 use Rattle.cell_arena.proofs.Changes.{with_row, rows_of-with_row, at_same, at_other, ChangesOnly-added, ChangesOnly-by, cell_at-is_some, cell_at-no_others}
 use Rattle.cell_arena.proofs.Lists.{slice_get-within, slice_index_or-within}
 

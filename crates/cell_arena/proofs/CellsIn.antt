@@ -1,11 +1,6 @@
 -- Columns, seen as a list of cells.
-use Rattle.std.proofs.Common.{◌≡◌, ◌≢◌, ◌∙◌, ◌∷◌, [], ◌++◌, ◌+◌, ◌-◌, ◌<◌, ◌≤◌, ℕ, zero, suc, Bool, true, if◌then◌else◌, List, Option, None, inl, inr, length, get_or, slice_index_or, slice_set, replicate, refl, ap, sym, arith, get_or-set_same, get_or-set_other}
-use Rattle.std.proofs.lemmas.List.{get_or_past, get_or_default, get_or-replicate, length-append, length-replicate, ext_get_or}
-use Rattle.std.proofs.lemmas.List.FromFn.{length-map-range_with_len, get_or-map-range_with_len}
-use Rattle.std.proofs.lemmas.Bool.{cases_eq, cases_lt}
-use Rattle.std.proofs.Math.ListN.{length-set}
-use Rattle.cell_arena.specs.CellRecord.{CellRecord, with_seq}
-use Rattle.cell_arena.specs.Columns.{Fields, AreEven, Reserved, blank, cell_in, cells_in, filled}
+use Rattle.cell_arena.proofs.Vocabulary.{AreEven, Bool, CellRecord, Fields, List, None, Option, Reserved, [], ap, arith, blank, cases_eq, cases_lt, cell_in, cells_in, ext_get_or, filled, get_or, get_or-map-range_with_len, get_or-replicate, get_or-set_other, get_or-set_same, get_or_default, get_or_past, if◌then◌else◌, inl, inr, length, length-map-range_with_len, length-replicate, length-set, refl, replicate, slice_index_or, slice_set, suc, sym, true, with_seq, zero, ℕ, ◌++◌, ◌+◌, ◌-◌, ◌<◌, ◌∙◌, ◌∷◌, ◌≡◌, ◌≢◌, ◌≤◌}
+use Rattle.std.proofs.lemmas.List.{length-append}
 
 -- a default at the end changes nothing that is read
 pub get_or-and_default : {A : Type 0} (xs : List A) (j : ℕ) (d : A) → slice_index_or (xs ++ d ∷ []) j d ≡ slice_index_or xs j d

@@ -1,10 +1,5 @@
 -- What one row that changes does to the cells of rows.
-use Rattle.std.proofs.Common.{◌≡◌, ◌≢◌, ◌∙◌, ◌++◌, ◌∷◌, [], ◌==◌, ◌<◌, ◌⊎◌, ◌↔◌, ℕ, List, Option, Some, IsSome, inl, inr, if◌then◌else◌, length, slice_get, slice_set, refl, ap, sym, arith, eq-eqb, get_or-set_same, get_or-set_other, option_map, is_some}
-use Rattle.std.proofs.lemmas.Bool.{cases_eq, ne_eqb, cond-true, cond-false}
-use Rattle.std.proofs.Math.ListN.{length-set}
-use Rattle.cell_arena.specs.CellRecord.{CellRecord, ChangesOnly, index_of, owner_of, nth_of}
-use Rattle.cell_arena.specs.Rows.{Rows, cell_at, cells_of, rows_of}
-use Rattle.cell_arena.specs.Lending.{with_cell}
+use Rattle.cell_arena.proofs.Vocabulary.{CellRecord, ChangesOnly, IsSome, List, Option, Rows, Some, [], ap, arith, cases_eq, cell_at, cells_of, cond-false, cond-true, eq-eqb, get_or-set_other, get_or-set_same, if◌then◌else◌, index_of, inl, inr, is_some, length, length-set, ne_eqb, nth_of, option_map, owner_of, refl, rows_of, slice_get, slice_set, sym, with_cell, ℕ, ◌++◌, ◌<◌, ◌==◌, ◌↔◌, ◌∙◌, ◌∷◌, ◌≡◌, ◌≢◌, ◌⊎◌}
 use Rattle.cell_arena.proofs.Places.{owner_of-index_of, nth_of-index_of, index_of-owner_of}
 use Rattle.cell_arena.proofs.Lists.{slice_get-set_same, slice_get-set_other, slice_get-append_same, slice_get-append_other, slice_get-within, slice_get-there, slice_index_or-within}
 

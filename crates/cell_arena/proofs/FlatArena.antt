@@ -1,12 +1,6 @@
 -- Cells that stand at their indices, seen as an arena.
-use Rattle.std.proofs.Common.{◌≡◌, ◌≢◌, ◌∙◌, ◌∷◌, [], ◌==◌, ◌+◌, ◌*◌, ◌<◌, ◌≤◌, ◌⊎◌, ◌↔◌, ℕ, zero, suc, List, Option, Some, None, IsSome, IsSomeAnd, inl, inr, if◌then◌else◌, length, map, slice_set, slice_index_or, replicate, refl, ap, sym, arith, option_map, is_some, get_or-set_same, get_or-set_other}
-use Rattle.std.proofs.lemmas.List.{get_or_past, get_or-replicate, length-replicate}
-use Rattle.std.proofs.lemmas.Nat.{mul-add-lt}
-use Rattle.std.proofs.lemmas.Bool.{cases_eq, cases_lt}
-use Rattle.std.proofs.Math.ListN.{length-set}
-use Rattle.cell_arena.specs.CellRecord.{CellRecord, ChangesOnly, HasOnlyAnchor, anchor_for, anchor_with, index_of, owner_of, nth_of}
-use Rattle.cell_arena.specs.Columns.{Reserved, blank, filled, with_cell}
-use Rattle.cell_arena.specs.ColumnCells.{Flat, IsFlat, at, made_by_owner, made_cell, made_cells}
+use Rattle.cell_arena.proofs.Vocabulary.{CellRecord, ChangesOnly, Flat, HasOnlyAnchor, IsFlat, IsSome, IsSomeAnd, List, None, Option, Reserved, Some, [], anchor_for, anchor_with, ap, arith, at, blank, cases_eq, cases_lt, filled, get_or-replicate, get_or-set_other, get_or-set_same, get_or_past, if◌then◌else◌, index_of, inl, inr, is_some, length, length-replicate, length-set, made_by_owner, made_cell, made_cells, map, mul-add-lt, nth_of, option_map, owner_of, refl, replicate, slice_index_or, slice_set, suc, sym, zero, ℕ, ◌*◌, ◌+◌, ◌<◌, ◌==◌, ◌↔◌, ◌∙◌, ◌∷◌, ◌≡◌, ◌≢◌, ◌≤◌, ◌⊎◌}
+use Rattle.cell_arena.specs.Columns.{with_cell}
 use Rattle.cell_arena.proofs.CellsIn.{get_or-filled, length-filled}
 use Rattle.cell_arena.proofs.Changes.{at_same, at_other}
 use Rattle.cell_arena.proofs.Places.{owner_of-index_of, nth_of-index_of, index_of-owner_of}

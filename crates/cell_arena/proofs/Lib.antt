@@ -1,3 +1,4 @@
+pub mod Vocabulary
 pub mod Places
 pub mod Lists
 pub mod Changes

@@ -1,6 +1,5 @@
 -- Lists with one element changed, or added.
-use Rattle.std.proofs.Common.{◌≡◌, ◌≢◌, ◌++◌, ◌∷◌, [], ◌<◌, ℕ, zero, suc, List, Some, IsSome, length, slice_get, slice_index_or, slice_set, refl, ap, arith}
-use Rattle.cell_arena.specs.Rows.{AreEmpty}
+use Rattle.cell_arena.proofs.Vocabulary.{AreEmpty, IsSome, List, Some, [], ap, arith, length, refl, slice_get, slice_index_or, slice_set, suc, zero, ℕ, ◌++◌, ◌<◌, ◌∷◌, ◌≡◌, ◌≢◌}
 
 module _ {A : Type 0} where
   pub slice_get-set_same : (xs : List A) (i : ℕ) (x : A) → i < length xs → slice_get (slice_set xs i x) i ≡ Some x

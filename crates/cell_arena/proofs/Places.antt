@@ -1,7 +1,5 @@
 -- Indices of cells, and who made them.
-use Rattle.std.proofs.Common.{◌≡◌, ◌∙◌, ◌+◌, ◌-◌, ◌*◌, ◌/◌, ◌%◌, ◌<◌, ℕ, ap, arith}
-use Rattle.std.proofs.lemmas.Nat.{div-mul-add, mod-mul-add, div-add-mod'}
-use Rattle.cell_arena.specs.CellRecord.{index_of, owner_of, nth_of}
+use Rattle.cell_arena.proofs.Vocabulary.{ap, arith, div-add-mod', div-mul-add, index_of, mod-mul-add, nth_of, owner_of, ℕ, ◌%◌, ◌*◌, ◌+◌, ◌-◌, ◌/◌, ◌<◌, ◌∙◌, ◌≡◌}
 
 module _ (n : ℕ) where
   pub owner_of-index_of : (p nth : ℕ) → p < n → owner_of n (index_of n p nth) ≡ p

@@ -1,16 +1,5 @@
 -- The sum of the balances, and their limit.
-use Rattle.std.proofs.Common.{◌≡◌, ℕ, ◌+◌, ◌-◌, ◌<◌, ◌≤◌, ◌==◌, ◌≢◌, false, not, ◌||◌, List, [], ◌∷◌, length, inl, inr, refl, sym, ◌∙◌, arith}
-use Rattle.std.specs.Prelude.{sum, slice_index}
-use Rattle.std.specs.List.{All}
-use Rattle.std.proofs.Math.ListN.{length-set}
-use Rattle.std.proofs.lemmas.Bool.{cases_Bool, leb-true, eqb-false, or_parts, not-false, cases_lt}
-use Rattle.std.proofs.lemmas.List.{get_or_past, get_or-set_other}
-use Rattle.std.proofs.lemmas.List.Elements.{All-head, All-tail, All-set, All-replicate}
-use Rattle.std.proofs.lemmas.List.Sums.{sum_by-set}
-use Rattle.seq_object.specs.History.{state_after}
-use Rattle.ready_objects.specs.declared.book.BookInv.{BookInv}
-use Rattle.ready_objects.specs.declared.book.BookInv.TheVariants.{Deposit, Withdraw, Move, Total}
-use Rattle.ready_objects.specs.Book.{book, book_start, has_room, has_funds, put_in, taken_out, book_next, book_answer, HasAccounts, added_by, taken_by, total_added, total_taken}
+use Rattle.ready_objects.proofs.Vocabulary.{All, All-head, All-replicate, All-set, All-tail, BookInv, Deposit, HasAccounts, List, Move, Total, Withdraw, [], added_by, arith, book, book_answer, book_next, book_start, cases_Bool, cases_lt, eqb-false, false, get_or-set_other, get_or_past, has_funds, has_room, inl, inr, leb-true, length, length-set, not, not-false, or_parts, put_in, refl, slice_index, state_after, sum, sum_by-set, sym, taken_by, taken_out, total_added, total_taken, ℕ, ◌+◌, ◌-◌, ◌<◌, ◌==◌, ◌||◌, ◌∙◌, ◌∷◌, ◌≡◌, ◌≢◌, ◌≤◌}
 
 -- what goes in is in the sum
 sum-put_in : (balances : List ℕ) (a v : ℕ) → a < length balances → sum (put_in balances a v) ≡ sum balances + v

@@ -1,13 +1,5 @@
 -- The book's words, read.
-use Rattle.std.proofs.Common.{◌≡◌, ℕ, ◌<◌, ◌≤◌, List, [], ◌∷◌, Option, Some, None, refl, inl, inr, sym, ap, ◌∙◌, arith}
-use Rattle.std.specs.Prelude.{codes}
-use Rattle.std.specs.Fmt.{decimal}
-use Rattle.std.specs.Str.{bytes_eq}
-use Rattle.std.proofs.lemmas.Bool.{cases_Bool}
-use Rattle.ready_objects.specs.declared.book.BookInv.{BookInv}
-use Rattle.ready_objects.specs.declared.book.BookInv.TheVariants.{Deposit, Withdraw, Move, Total}
-use Rattle.ready_objects.specs.Number.{number_of_word, number_below}
-use Rattle.ready_objects.specs.Book.{◌>>=◌, book_words, with_account, with_accounts, book_inv_of_words}
+use Rattle.ready_objects.proofs.Vocabulary.{BookInv, Deposit, List, Move, None, Option, Some, Total, Withdraw, [], ap, arith, book_inv_of_words, book_words, bytes_eq, cases_Bool, codes, decimal, inl, inr, number_below, number_of_word, refl, sym, with_account, with_accounts, ℕ, ◌<◌, ◌>>=◌, ◌∙◌, ◌∷◌, ◌≡◌, ◌≤◌}
 use Rattle.ready_objects.proofs.Numbers.{number_of_word-decimal, decimal-number_of_word, number_below-decimal, decimal-number_below}
 use Rattle.ready_objects.proofs.Words.{named}
 

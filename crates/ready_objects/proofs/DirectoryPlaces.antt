@@ -1,21 +1,11 @@
 -- The place of a name's pair among the pairs of a directory, and what follows from it.
-use Rattle.std.proofs.Common.{◌≡◌, ℕ, zero, suc, ◌==◌, ◌+◌, ◌<◌, ◌≤◌, Bool, true, false, cond, nat_lt, List, [], ◌∷◌, ◌++◌, length, map, get_or, take, position, remove, slice_get, Option, Some, None, if◌then◌else◌, refl, sym, ap, subst, ◌∙◌, inl, inr, arith, lt-ltb}
-use Rattle.std.specs.List.{position_or_len, list_any, IsDistinct, All}
-use Rattle.std.specs.Map.{lookup, set_value, remove_entry}
+use Rattle.ready_objects.proofs.Vocabulary.{AddsName, All, All-from_recursion, All-push, AreNamed, Bool, IsDistinct, List, None, Option, Pairs, Some, [], ap, arith, bytes_eq, cases_Bool, cond, false, get_or, get_or-map, get_or-take, get_or_from_slice_get, inl, inr, length, length-take, list_any, lookup, map, map-append, map-set, named, nat_tests, position, position_or_len, refl, remove, remove_entry, set, set_value, slice_get, slice_get_within, subst, suc, sym, take, take-append-le, true, value_of, zero, ℕ, ◌++◌, ◌+◌, ◌<◌, ◌==◌, ◌∙◌, ◌∷◌, ◌≡◌, ◌≤◌}
+use Rattle.std.proofs.Common.{nat_lt, if◌then◌else◌, lt-ltb}
 use Rattle.std.specs.Option.{MatchOption, option_map}
-use Rattle.std.specs.Str.{bytes_eq}
 use Rattle.std.specs.Cmp.Lexicographic.{bytes_decides}
-use Rattle.std.proofs.Math.ListN.{set, length-take, get_or-map}
 use Rattle.std.proofs.Math.Seq.{take-length}
-use Rattle.std.proofs.lemmas.Option.{slice_get_within, get_or_from_slice_get}
 use Rattle.indexmap.specs.IndexSet.{insert_key}
-use Rattle.std.proofs.lemmas.Bool.{cases_Bool}
-use Rattle.std.proofs.lemmas.Bool.Decides.{nat_tests}
-use Rattle.std.proofs.lemmas.List.{map-append, map-set, get_or-take, take-append-le}
-use Rattle.std.proofs.lemmas.List.Elements.{All-from_recursion, All-push}
 use Rattle.ready_objects.specs.declared.directory.Pair.{Pair}
-use Rattle.ready_objects.specs.Directory.{Pairs, value_of}
-use Rattle.ready_objects.specs.SharedNames.{named, AreNamed, AddsName}
 
 module _ {A : Type 0} (test : A → Bool) where
   -- the item at the place passes, and none before it

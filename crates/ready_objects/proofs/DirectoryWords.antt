@@ -1,16 +1,7 @@
 -- The directory's words, read.
-use Rattle.std.proofs.Common.{◌≡◌, ℕ, ◌≤◌, ◌==◌, not, true, ◌&&◌, List, [], ◌∷◌, length, Option, Some, None, refl, inl, inr, sym, ap, ◌∙◌, arith}
-use Rattle.std.specs.Prelude.{codes, nat_lt, nat_le, option_map, option_and_then}
-use Rattle.std.specs.Fmt.{decimal}
-use Rattle.std.specs.List.{list_all}
-use Rattle.std.specs.Str.{bytes_eq}
-use Rattle.std.proofs.lemmas.Bool.{cases_Bool, cond-true, and_parts, and_from}
-use Rattle.std.proofs.lemmas.Bool.Decides.{nat_tests}
+use Rattle.ready_objects.proofs.Vocabulary.{At, Del, Get, List, None, Option, Put, Size, Some, [], and_from, and_parts, ap, arith, bytes_eq, cases_Bool, codes, cond-true, decimal, directory_inv_of_words, directory_words, inl, inr, length, list_all, nat_le, nat_lt, nat_tests, not, number_below, number_of_word, option_and_then, option_map, put_of, refl, sym, true, ℕ, ◌&&◌, ◌==◌, ◌∙◌, ◌∷◌, ◌≡◌, ◌≤◌}
 use Rattle.ready_objects.specs.declared.directory.DirectoryInv.{DirectoryInv}
-use Rattle.ready_objects.specs.declared.directory.DirectoryInv.TheVariants.{Put, Get, Del, Size, At}
-use Rattle.ready_objects.specs.Directory.{directory_words, put_of, directory_inv_of_words}
 use Rattle.ready_objects.specs.Name.{is_name_byte, is_name, name_of_word}
-use Rattle.ready_objects.specs.Number.{number_of_word, number_below}
 use Rattle.ready_objects.proofs.Numbers.{number_of_word-decimal, decimal-number_of_word, decimal-number_below}
 use Rattle.ready_objects.proofs.Words.{lacks_space, named}
 

@@ -1,3 +1,4 @@
+pub mod Vocabulary
 pub mod Numbers
 pub mod Words
 pub mod QueueWords

@@ -1,17 +1,9 @@
 -- Numbers in words.
-use Rattle.std.proofs.Common.{◌≡◌, ℕ, zero, suc, ◌+◌, ◌-◌, ◌*◌, ◌^◌, ◌<◌, ◌≤◌, true, List, length, get_or, take, Some, None, inl, inr, sym, ◌∙◌, ap, arith, rules}
-use Rattle.std.specs.Prelude.{nat_lt, option_and_then, if◌then◌else◌, Option}
-use Rattle.std.specs.Fmt.{decimal}
-use Rattle.std.specs.Char.{is_ascii_digit, digit_value}
+use Rattle.ready_objects.proofs.Vocabulary.{List, None, Some, ap, arith, cases_Bool, cond-true, decimal, decimal-digits_value, decimal_digit, decimal_nonempty, digit_value, digits_decimal, digits_value, digits_value-decimal, first_decimal, get_or, if◌then◌else◌, inl, inr, is_ascii_digit, is_number, length, length-decimal-le, list_all, lt-ltb, nat_lt, nat_tests, number_below, number_of_word, option_and_then, rules, suc, sym, take, true, zero, ℕ, ◌*◌, ◌+◌, ◌-◌, ◌<◌, ◌^◌, ◌∙◌, ◌≡◌, ◌≤◌}
+use Rattle.std.specs.Prelude.{Option}
 use Rattle.std.specs.Int.{IsInRange}
-use Rattle.std.specs.List.{list_all}
-use Rattle.std.specs.Str.Parse.{digits_value}
-use Rattle.std.proofs.lemmas.Bool.{cond-true, cases_Bool, lt-ltb}
-use Rattle.std.proofs.lemmas.Bool.Decides.{nat_tests}
-use Rattle.std.proofs.lemmas.Fmt.{decimal-digits_value, decimal_digit, decimal_nonempty, first_decimal, length-decimal-le, digits_decimal, digits_value-decimal}
 use Rattle.std.proofs.lemmas.Int.Digits.{digits_value_more}
 use Rattle.std.proofs.lemmas.Str.Parse.{IsNumeralModel, numerals_by_value, digit_at, digits_value_short, digits_value-take-le}
-use Rattle.ready_objects.specs.Number.{is_number, number_of_word, number_below}
 use Rattle.ready_objects.proofs.Words.{lacks_space, lacks_space-digits}
 
 -- a word of digits is one in std's sense

@@ -1,11 +1,6 @@
 -- The queue's words, read.
-use Rattle.std.proofs.Common.{◌≡◌, ℕ, List, [], ◌∷◌, Option, Some, None, refl, inl, inr, sym, ap, ◌∙◌}
-use Rattle.std.specs.Prelude.{codes, option_map}
-use Rattle.std.specs.Str.{bytes_eq}
-use Rattle.std.proofs.lemmas.Bool.{cases_Bool}
+use Rattle.ready_objects.proofs.Vocabulary.{Deq, Enq, List, None, Option, Some, [], ap, bytes_eq, cases_Bool, codes, inl, inr, number_of_word, option_map, refl, sym, ℕ, ◌∙◌, ◌∷◌, ◌≡◌}
 use Rattle.ready_objects.specs.declared.queue.QueueInv.{QueueInv}
-use Rattle.ready_objects.specs.declared.queue.QueueInv.TheVariants.{Enq, Deq}
-use Rattle.ready_objects.specs.Number.{number_of_word}
 use Rattle.ready_objects.specs.Queue.{queue_words, queue_inv_of_words}
 use Rattle.ready_objects.proofs.Numbers.{decimal-number_of_word}
 use Rattle.ready_objects.proofs.Words.{named}

@@ -1,13 +1,7 @@
 -- The replies of the sticky register.
-use Rattle.std.proofs.Common.{◌≡◌, ℕ, List, [], ◌∷◌, ◌++◌, Option, Some, None, IfSome, refl, arith}
-use Rattle.std.specs.List.{All}
-use Rattle.std.proofs.lemmas.List.Elements.{All-cons}
-use Rattle.seq_object.specs.History.{Call, IsLegal}
-use Rattle.ready_objects.specs.declared.sticky.StickyInv.{StickyInv}
-use Rattle.ready_objects.specs.declared.sticky.StickyInv.TheVariants.{Stick, Read}
+use Rattle.ready_objects.proofs.Vocabulary.{All, All-cons, Call, IfSome, IsLegal, List, None, Option, Read, Some, Stick, StickyInv, [], arith, refl, stick_replies, stick_reply, sticky, sticky_answer, sticky_next, ℕ, ◌++◌, ◌∷◌, ◌≡◌}
 use Rattle.ready_objects.specs.declared.sticky.StickyResp.{StickyResp}
 use Rattle.ready_objects.specs.declared.sticky.StickyResp.TheVariants.{Settled}
-use Rattle.ready_objects.specs.Sticky.{sticky, sticky_next, sticky_answer, stick_reply, stick_replies}
 
 -- one more call, once a value is settled
 stick_reply-settled : (v : ℕ) (i : StickyInv) (o : Option StickyResp) (later : List StickyResp) → IfSome o (λ r. r ≡ sticky_answer (Some v) i)

@@ -1,12 +1,5 @@
 -- The sticky register's words, read.
-use Rattle.std.proofs.Common.{◌≡◌, ℕ, List, [], ◌∷◌, Option, Some, None, refl, inl, inr, sym, ap, ◌∙◌}
-use Rattle.std.specs.Prelude.{codes, option_map}
-use Rattle.std.specs.Str.{bytes_eq}
-use Rattle.std.proofs.lemmas.Bool.{cases_Bool}
-use Rattle.ready_objects.specs.declared.sticky.StickyInv.{StickyInv}
-use Rattle.ready_objects.specs.declared.sticky.StickyInv.TheVariants.{Stick, Read}
-use Rattle.ready_objects.specs.Number.{number_of_word}
-use Rattle.ready_objects.specs.Sticky.{sticky_words, sticky_inv_of_words}
+use Rattle.ready_objects.proofs.Vocabulary.{List, None, Option, Read, Some, Stick, StickyInv, [], ap, bytes_eq, cases_Bool, codes, inl, inr, number_of_word, option_map, refl, sticky_inv_of_words, sticky_words, sym, ℕ, ◌∙◌, ◌∷◌, ◌≡◌}
 use Rattle.ready_objects.proofs.Numbers.{decimal-number_of_word}
 use Rattle.ready_objects.proofs.Words.{named}
 

@@ -1,14 +1,7 @@
 -- Words without a space, and the text that they make.
-use Rattle.std.proofs.Common.{◌≡◌, ℕ, ◌==◌, Bool, true, false, not, ◌&&◌, List, [], ◌∷◌, refl, sym, ap, ◌∙◌, arith}
-use Rattle.std.specs.Char.{is_ascii_digit}
-use Rattle.std.specs.List.{All, list_all}
-use Rattle.std.proofs.lemmas.Bool.{and_parts, and_from, not-true}
-use Rattle.std.proofs.lemmas.Bool.Decides.{nat_tests}
+use Rattle.ready_objects.proofs.Vocabulary.{All, AllPass-from_list_all, Bool, List, [], and_from, and_parts, ap, arith, bytes_eq, false, is_ascii_digit, list_all, nat_tests, not, not-true, refl, sym, text_of_words, true, words_of_text, ℕ, ◌&&◌, ◌==◌, ◌∙◌, ◌∷◌, ◌≡◌}
 use Rattle.std.proofs.lemmas.List.Splits.{slice_split_none, slice_split_at}
-use Rattle.std.proofs.lemmas.List.Sums.{AllPass-from_list_all}
-use Rattle.std.specs.Str.{bytes_eq}
 use Rattle.std.proofs.lemmas.Slice.Eq.{bytes_eq-Decides}
-use Rattle.ready_objects.specs.Words.{text_of_words, words_of_text}
 
 -- no byte is a space
 abbrev pub lacks_space : List ℕ → Bool

@@ -1,11 +1,6 @@
 -- The world along a path.
-use Rattle.std.proofs.Common.{◌≡◌, ◌∙◌, ℕ, ◌+◌, ◌<◌, ◌≤◌, List, [], ◌∷◌, zero, suc, length, drop, get_or, refl, ap, sym, Option, None, Some, arith}
+use Rattle.run_graph.proofs.Vocabulary.{Global, List, None, Option, Plan, Sequential, Some, Vec, WorldOf, [], along, ap, arith, drop, get_or, length, moved, plan_of, refl, suc, sym, zero, ℕ, ◌+◌, ◌<◌, ◌∙◌, ◌∷◌, ◌≡◌, ◌≤◌}
 use Rattle.std.proofs.lemmas.List.{drop_more}
-use Rattle.uni_model.specs.Worlds.{WorldOf}
-use Rattle.std.specs.Prelude.{Vec}
-use Rattle.std.specs.declared.alloc.Global.{Global}
-use Rattle.seq_object.specs.Sequential.{Sequential}
-use Rattle.run_graph.specs.Schedule.{Plan, plan_of, moved, along}
 
 module _ {S I R : Type 0} (plan : Plan S I R) where
   -- where an event doesn't come, neither do those after it

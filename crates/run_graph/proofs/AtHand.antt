@@ -1,21 +1,8 @@
 -- Worlds at hand.
-use Rattle.std.proofs.Common.{◌≡◌, ◌∙◌, ℕ, zero, suc, ◌<◌, ◌≤◌, List, [], ◌∷◌, ◌++◌, length, get_or, refl, ap, sym, subst, ◌⊎◌, inl, inr, Option, None, Some, IfSome, arith, slice_get, option_map, length-append}
-use Rattle.std.proofs.lemmas.Bool.{cases_eq, cases_lt}
+use Rattle.run_graph.proofs.Vocabulary.{Anchor, AreAtHand, Global, IfSome, IsKept, IsTaken, IsTold, List, None, Option, Plan, Sequential, Some, Vec, Whole, WorldOf, [], ap, arith, cases_eq, cases_lt, get_or, inl, inr, length, length-append, list_at, moved, new_of, option_and_then, option_map_or, path_of, plan_of, refl, shown, shown_at, slice_get, slice_get_past, subst, suc, sym, without_counts, world_at, world_of, zero, ℕ, ◌++◌, ◌<◌, ◌∙◌, ◌∷◌, ◌≡◌, ◌≤◌, ◌⊎◌}
+use Rattle.std.proofs.Common.{option_map}
 use Rattle.std.proofs.lemmas.List.Elements.{All-head, All-nil, All-pop, All-push, All-tail}
-use Rattle.std.proofs.lemmas.Option.{slice_get_past}
-use Rattle.std.specs.Prelude.{Vec, option_and_then}
-use Rattle.std.specs.Option.{option_map_or}
 use Rattle.std.specs.List.{All}
-use Rattle.std.specs.declared.alloc.Global.{Global}
-use Rattle.seq_object.specs.Sequential.{Sequential}
-use Rattle.uni_model.specs.Places.{new_of}
-use Rattle.uni_model.specs.Places.Name.{Anchor}
-use Rattle.uni_model.specs.Worlds.{WorldOf}
-use Rattle.uni_core.specs.World.{Whole, world_of}
-use Rattle.uni_core.specs.Same.{without_counts}
-use Rattle.run_graph.specs.AtHand.{list_at, AreAtHand, IsKept, IsTaken, IsTold}
-use Rattle.run_graph.specs.Graph.{path_of, shown_at}
-use Rattle.run_graph.specs.Schedule.{Plan, moved, plan_of, shown, world_at}
 use Rattle.run_graph.proofs.Reached.{shown-next, shown_at-path, some-same}
 use Rattle.run_graph.proofs.Parts.{shown_at-found, slice_get-left}
 

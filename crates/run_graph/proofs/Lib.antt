@@ -1,3 +1,4 @@
+pub mod Vocabulary
 pub mod Along
 pub mod Parts
 pub mod Moves

@@ -1,15 +1,8 @@
 -- One event.
-use Rattle.std.proofs.Common.{◌≡◌, ◌∙◌, ℕ, ◌<◌, refl, sym, None, Some, true, arith, nat_lt}
-use Rattle.std.proofs.lemmas.Bool.Decides.{nat_tests}
-use Rattle.seq_object.specs.Sequential.{Sequential}
-use Rattle.uni_model.specs.Places.{new_of}
-use Rattle.uni_model.specs.Places.Name.{Anchor}
-use Rattle.uni_model.specs.Worlds.{WorldOf, Event, world_after, calls_in_era, IsAccepted}
-use Rattle.uni_model.specs.Worlds.Event.{Call}
+use Rattle.run_graph.proofs.Vocabulary.{Anchor, Call, Event, IsAccepted, None, Plan, Sequential, Some, WorldOf, arith, calls_in_era, moved, nat_lt, nat_tests, new_of, refl, sym, true, world_after, ℕ, ◌<◌, ◌∙◌, ◌≡◌}
 use Rattle.uni_model.specs.Growth.{EndsNoEra}
 use Rattle.uni_model.specs.Invariant.{Invariant}
 use Rattle.uni_model.proofs.Kept.{Grows-world_after}
-use Rattle.run_graph.specs.Schedule.{Plan, moved}
 
 -- the anchor keeps what is settled in it
 pub anchor_stays : {S I R : Type 0} (object : Sequential S I R) (w : WorldOf S I R) (e : Event I) → Invariant object w → IsAccepted w e → EndsNoEra e

@@ -1,19 +1,7 @@
 -- How a graph grows.
-use Rattle.std.proofs.Common.{◌≡◌, ◌∙◌, ℕ, suc, zero, ◌+◌, ◌*◌, ◌/◌, ◌%◌, ◌<◌, ◌≤◌, List, [], ◌∷◌, ◌++◌, length, get_or, refl, ap, sym, subst, ◌⊎◌, inl, inr, Option, None, Some, arith, slice_get, IsSome, length-append}
+use Rattle.run_graph.proofs.Vocabulary.{Global, IsEdge, IsMore, IsPart, IsSome, LeadsTo, List, None, Option, Plan, Some, Vec, WorldOf, [], ap, arith, cases_lt, div-lt_iff_lt-mul, div-mul-add, get_or, inl, inr, length, length-append, mod-mul-add, option_and_then, option_map, option_map_or, path_of, refl, shown, shown_at, slice_get, slice_get_read, slice_index_or, subst, suc, sym, without_counts, world_at, zero, ℕ, ◌%◌, ◌*◌, ◌++◌, ◌+◌, ◌/◌, ◌<◌, ◌∙◌, ◌∷◌, ◌≡◌, ◌≤◌, ◌⊎◌}
 use Rattle.std.proofs.Math.ListN.{get_or-append}
 use Rattle.std.proofs.Math.Seq.{get_or-append_seam}
-use Rattle.std.proofs.Math.Nat.{div-lt_iff_lt-mul}
-use Rattle.std.proofs.lemmas.Nat.{div-mul-add, mod-mul-add}
-use Rattle.std.proofs.lemmas.Option.{slice_get_read}
-use Rattle.std.proofs.lemmas.Bool.{cases_lt}
-use Rattle.std.specs.Prelude.{Vec, option_and_then, slice_index_or}
-use Rattle.std.specs.Option.{option_map_or}
-use Rattle.std.specs.declared.alloc.Global.{Global}
-use Rattle.uni_model.specs.Worlds.{WorldOf}
-use Rattle.run_graph.specs.Schedule.{Plan, shown, world_at}
-use Rattle.uni_core.specs.Same.{without_counts}
-use Rattle.std.specs.Prelude.{option_map}
-use Rattle.run_graph.specs.Graph.{path_of, shown_at, LeadsTo, IsEdge, IsPart, IsMore}
 
 pub slice_get-left : {X : Type 0} (xs ys : List X) (k : ℕ) → k < length xs → slice_get (xs ++ ys) k ≡ slice_get xs k
 slice_get-left [] ys k below = absurd (omega arith)

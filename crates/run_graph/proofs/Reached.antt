@@ -1,17 +1,7 @@
 -- Each world that a path leads to has its node.
-use Rattle.std.proofs.Common.{◌≡◌, ◌∙◌, ℕ, ◌+◌, ◌*◌, ◌/◌, ◌%◌, ◌<◌, List, [], ◌∷◌, ◌++◌, length, refl, ap, sym, subst, Bool, true, false, Option, None, Some, IsSome, arith, nat_lt, if◌then◌else◌, slice_get, slice_index_or}
-use Rattle.std.proofs.Math.Nat.{div-lt_iff_lt-mul}
-use Rattle.std.proofs.lemmas.Nat.{div-mul-add, mod-mul-add}
-use Rattle.std.proofs.lemmas.Bool.Decides.{nat_tests}
-use Rattle.std.specs.Prelude.{Vec, option_map, option_and_then}
-use Rattle.std.specs.Option.{option_map_or}
-use Rattle.std.specs.declared.alloc.Global.{Global}
-use Rattle.seq_object.specs.Sequential.{Sequential}
+use Rattle.run_graph.proofs.Vocabulary.{Bool, Global, HasEachWorld, IsGraph, IsSome, LeadsTo, List, None, Option, Plan, Sequential, Some, Vec, WorldOf, [], along, ap, arith, calls_in_era, div-lt_iff_lt-mul, div-mul-add, event_from, false, if◌then◌else◌, length, mod-mul-add, moved, nat_lt, nat_tests, opened_world, option_and_then, option_map, option_map_or, path_of, refl, shown, shown_at, slice_get, subst, sym, true, without_counts, world_after, world_after_step, world_at, ℕ, ◌%◌, ◌*◌, ◌++◌, ◌+◌, ◌/◌, ◌<◌, ◌∙◌, ◌∷◌, ◌≡◌}
+use Rattle.std.proofs.Common.{slice_index_or}
 use Rattle.uni_model.specs.Stages.{Pending}
-use Rattle.uni_model.specs.Worlds.{WorldOf, calls_in_era, opened_world, world_after, world_after_step}
-use Rattle.uni_core.specs.Same.{without_counts}
-use Rattle.run_graph.specs.Schedule.{Plan, along, event_from, moved, shown, world_at}
-use Rattle.run_graph.specs.Graph.{path_of, shown_at, LeadsTo, IsGraph, HasEachWorld}
 use Rattle.run_graph.proofs.Along.{along-none}
 
 pub some-same : {A : Type 0} (x y : A) → Some x ≡ Some y → x ≡ y

@@ -1,7 +1,5 @@
 -- The lines of a text, one by one.
-use Rattle.std.proofs.Common.{◌≡◌, ◌∙◌, ℕ, zero, suc, ◌-◌, ◌<◌, List, [], ◌∷◌, length, take, drop, refl, ap, arith}
-use Rattle.std.proofs.lemmas.List.{take_rest}
-use Rattle.run_layout.specs.Wrapping.{fitting_len, after_space, lines_of}
+use Rattle.run_layout.proofs.Vocabulary.{List, [], after_space, ap, arith, drop, fitting_len, length, lines_of, refl, suc, take, take_rest, zero, ℕ, ◌-◌, ◌<◌, ◌∙◌, ◌∷◌, ◌≡◌}
 
 -- an empty text has no lines
 pub lines_of-empty : (n most : ℕ) (text : List ℕ) → length text ≡ 0 → lines_of n most text ≡ []

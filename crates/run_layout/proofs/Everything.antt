@@ -1,17 +1,11 @@
 -- Where all events are chosen, all is drawn.
-use Rattle.std.proofs.Common.{◌≡◌, ◌∙◌, ℕ, ◌-◌, Bool, true, false, List, [], ◌∷◌, Option, None, Some, map, refl, ap, arith, if◌then◌else◌, nat_le, not, ◌||◌}
+use Rattle.run_layout.proofs.Vocabulary.{Bool, Called, Cell, End, EraMarks, List, None, Option, PlacedRemark, RunMarks, Some, [], all_events, ap, arith, bar_in, chosen, chosen_remarks, end_in, era_in, false, filter, if◌then◌else◌, is_bar_in, is_by, is_heading, is_in, links_outside, list_any, map, marks_are, nat_le, not, option_map_or, refl, true, ℕ, ◌-◌, ◌||◌, ◌∙◌, ◌∷◌, ◌≡◌}
 use Rattle.std.specs.Prelude.{option_and_then}
-use Rattle.std.specs.List.{filter, list_any}
-use Rattle.std.specs.Option.{option_map_or}
 use Rattle.std.proofs.lemmas.Bool.Decides.{nat_tests}
-use Rattle.uni_script.specs.declared.remarks.PlacedRemark.{PlacedRemark}
 use Rattle.run_replay.specs.declared.marks.StepMark.{StepMark}
 use Rattle.run_replay.specs.declared.marks.Dot.{Dot}
 use Rattle.run_replay.specs.declared.marks.EraLine.{EraLine}
-use Rattle.run_replay.specs.Marks.{End, Called, Cell, EraMarks, RunMarks}
 use Rattle.run_replay.proofs.Walked.{map-kept}
-use Rattle.run_replay.proofs.Replayed.{marks_are}
-use Rattle.run_layout.specs.Choice.{is_by, is_in, all_events, end_in, bar_in, is_bar_in, links_outside, era_in, chosen, is_heading, chosen_remarks}
 
 less_none : (n : ℕ) → n - 0 ≡ n
 less_none n = omega arith

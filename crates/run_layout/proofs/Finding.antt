@@ -1,7 +1,5 @@
 -- The first element of a list that passes a test, looked for from place to place.
-use Rattle.std.proofs.Common.{◌≡◌, ◌∙◌, ℕ, ◌+◌, ◌<◌, Bool, true, cond, List, length, get_or, drop, map, Option, Some, ap, sym}
-use Rattle.std.proofs.lemmas.List.{at_drop_more}
-use Rattle.std.specs.List.{find}
+use Rattle.run_layout.proofs.Vocabulary.{Bool, List, Option, Some, ap, at_drop_more, cond, drop, find, get_or, length, map, sym, true, ℕ, ◌+◌, ◌<◌, ◌∙◌, ◌≡◌}
 
 module _ {A B : Type 0} (f : A → B) (p : B → Bool) where
   -- what is found from a place on, where the element there is looked at

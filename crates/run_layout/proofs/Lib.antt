@@ -1,3 +1,4 @@
+pub mod Vocabulary
 pub mod Breaking
 pub mod Pushing
 pub mod Finding

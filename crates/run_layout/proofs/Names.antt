@@ -1,8 +1,5 @@
 -- The names of lanes, one after the other.
-use Rattle.std.proofs.Common.{◌≡◌, ℕ, suc, ◌+◌, [], ◌∷◌, ap}
-use Rattle.run_layout.specs.declared.marked.Mark.TheVariants.{Name}
-use Rattle.run_layout.specs.Marked.{at, names_from}
-use Rattle.run_layout.specs.Wording.{name_text}
+use Rattle.run_layout.proofs.Vocabulary.{Name, [], ap, at, name_text, names_from, suc, ℕ, ◌+◌, ◌∷◌, ◌≡◌}
 
 pub names_from-more : (event process n m : ℕ) → n ≡ suc m
     → names_from event process n ≡ at Name event process (name_text process) ∷ names_from event (process + 1) m

@@ -1,6 +1,5 @@
 -- Lists to which elements are added, one after the other.
-use Rattle.std.proofs.Common.{◌≡◌, ◌∙◌, List, [], ◌∷◌, ◌++◌, map, ap, sym, append_assoc}
-use Rattle.std.proofs.lemmas.List.{append-nil, map-append}
+use Rattle.run_layout.proofs.Vocabulary.{List, [], ap, append-nil, append_assoc, map, map-append, sym, ◌++◌, ◌∙◌, ◌∷◌, ◌≡◌}
 
 -- what is added stands first of what was to come
 pub added_first : {A : Type 0} (now after prefix rest whole : List A) → now ++ (prefix ++ rest) ≡ whole → after ≡ now ++ prefix → after ++ rest ≡ whole

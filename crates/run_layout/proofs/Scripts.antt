@@ -1,24 +1,18 @@
 -- What a picture shows of a script, by the record of its run.
-use Rattle.std.proofs.Common.{◌≡◌, ◌∙◌, ◌<◌, ◌≤◌, ℕ, List, length, map, Option, Result, Ok, Err, OnOk, IfOk, refl, sym, ap, subst}
+use Rattle.run_layout.proofs.Vocabulary.{Err, HasMoreEvents, HasTooManyEvents, IfOk, IsSubject, IsSubjectOf, List, Ok, OnOk, Option, PlacedRemark, Result, RunMarks, SpokenObject, ap, events_of_record, events_shown, length, map, marks_of_events, marks_of_own, marks_of_record, marks_of_session, marks_shown, refl, subst, sym, ℕ, ◌<◌, ◌∙◌, ◌≡◌, ◌≤◌}
 use Rattle.uni_script.specs.declared.grammar.Version.{Version}
 use Rattle.uni_script.specs.declared.script_run.ScriptRun.{ScriptRun}
 use Rattle.uni_script.specs.declared.script_run.ScriptRecord.{ScriptRecord}
 use Rattle.uni_script.specs.declared.script_run.ScriptRecord.TheVariants.{Queue, Directory, Book, Sticky}
 use Rattle.uni_model.specs.Worlds.{Event}
-use Rattle.uni_record.specs.Event.{events_shown}
 use Rattle.uni_record.specs.Recorded.{Recording}
-use Rattle.uni_script.specs.Objects.{SpokenObject}
 use Rattle.uni_script.specs.Meaning.{Session}
 use Rattle.uni_script.specs.ScriptRun.{session_of_record, IsScriptRun, HasRunWhole, IsOwnRunOf}
 use Rattle.uni_script.specs.declared.options.Options.{Options}
 use Rattle.uni_script.specs.declared.options.Echo.TheVariants.{Off}
 use Rattle.uni_script.specs.Scripts.{ScriptSession, own_scripts, own_scripts_of}
-use Rattle.uni_script.specs.declared.remarks.PlacedRemark.{PlacedRemark}
 use Rattle.uni_script.specs.Remarks.{remark_at}
-use Rattle.run_replay.specs.MarksShown.{marks_shown}
 use Rattle.run_layout.specs.declared.subject.Subject.{Subject}
-use Rattle.run_layout.specs.Subject.{marks_of_events, marks_of_record, events_of_record, marks_of_session, marks_of_own, IsSubject, IsSubjectOf, HasTooManyEvents, HasMoreEvents}
-use Rattle.run_replay.specs.Marks.{RunMarks}
 
 marks_of_session-record : (version : Version) (r : ScriptRecord) → marks_of_session (session_of_record version r) ≡ marks_of_record r
 marks_of_session-record version (Queue r) = refl

@@ -1,9 +1,6 @@
 -- Labels of what is told, one by one.
-use Rattle.std.proofs.Common.{◌≡◌, ◌∙◌, ℕ, ◌+◌, ◌<◌, List, [], ◌∷◌, length, drop, get_or, ap, sym}
-use Rattle.std.proofs.lemmas.List.{drop_more, drop_all}
+use Rattle.run_layout.proofs.Vocabulary.{List, PlacedRemark, [], ap, drop, drop_all, drop_more, get_or, label_after, labels_from, length, sym, times_after, ℕ, ◌+◌, ◌<◌, ◌∙◌, ◌∷◌, ◌≡◌}
 use Rattle.std.specs.Prelude.{◌≤◌}
-use Rattle.uni_script.specs.declared.remarks.PlacedRemark.{PlacedRemark}
-use Rattle.run_layout.specs.Refusals.{label_after, times_after, labels_from}
 
 -- the label of a remark, and those of the rest
 pub labels_more : (times next i : ℕ) (remarks : List PlacedRemark) (one : PlacedRemark) → i < length remarks → one ≡ get_or remarks i one → next ≡ times_after times one (drop (i + 1) remarks)

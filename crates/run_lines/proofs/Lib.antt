@@ -1,2 +1,3 @@
+pub mod Vocabulary
 pub mod Painting
 pub mod Pieces

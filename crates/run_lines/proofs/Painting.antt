@@ -1,10 +1,6 @@
 -- Rows, stroke by stroke.
-use Rattle.std.proofs.Common.{◌≡◌, ◌∙◌, ℕ, ◌+◌, ◌<◌, List, [], ◌∷◌, ◌++◌, length, map, take, get_or, ap, sym}
-use Rattle.std.specs.List.{fold}
-use Rattle.std.proofs.lemmas.List.{take_more, map-append}
-use Rattle.std.proofs.lemmas.Grind.{fold-append}
+use Rattle.run_lines.proofs.Vocabulary.{List, [], ap, fold, fold-append, get_or, length, letter_after, letter_at, map, map-append, stroke_shown, sym, take, take_more, ℕ, ◌++◌, ◌+◌, ◌<◌, ◌∙◌, ◌∷◌, ◌≡◌}
 use Rattle.run_lines.specs.declared.canvas.Stroke as code
-use Rattle.run_lines.specs.Canvas.{stroke_shown, letter_after, letter_at}
 
 -- a letter after one more stroke
 pub letter_at_more : (strokes : List code.Stroke) (row column i : ℕ) (stroke : code.Stroke) → i < length strokes → stroke ≡ get_or strokes i stroke

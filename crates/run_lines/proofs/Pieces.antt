@@ -1,12 +1,9 @@
 -- A text, piece by piece.
-use Rattle.std.proofs.Common.{◌≡◌, ◌∙◌, ℕ, List, ◌++◌, ap, map, subst, sym}
+use Rattle.run_lines.proofs.Vocabulary.{AreShown, HasText, List, Meaning, Places, above_text, ap, below_text, map, outline_of, stroke_shown, subst, sym, ℕ, ◌++◌, ◌∙◌, ◌≡◌}
 use Rattle.std.proofs.lemmas.Simd.{map-map}
-use Rattle.signs.specs.Signs.{AreShown, Meaning, Places}
 use Rattle.uni_script.specs.declared.remarks.PlacedRemark.{PlacedRemark}
 use Rattle.run_replay.specs.Marks.{RunMarks}
 use Rattle.run_lines.specs.declared.canvas.Stroke as code
-use Rattle.run_lines.specs.Canvas.{outline_of, stroke_shown}
-use Rattle.run_lines.specs.Sheet.{HasText, above_text, below_text}
 
 pub has_text : (columns : ℕ) (marks : RunMarks) (remarks : List PlacedRemark) (rows legend above with_rows below whole : List ℕ) → above ≡ above_text columns marks remarks → with_rows ≡ above ++ rows
     → below ≡ with_rows ++ below_text columns marks remarks → whole ≡ below ++ legend → HasText columns marks remarks rows whole

@@ -1,1 +1,2 @@
+pub mod Vocabulary
 pub mod Looking

@@ -1,11 +1,10 @@
 -- What is looked at of shapes.
-use Rattle.std.proofs.Common.{◌≡◌, ◌∙◌, ℕ, List, map, take, drop, sym, ap, subst}
+use Rattle.run_picture.proofs.Vocabulary.{AreShown, List, Meaning, Outline, Places, ap, drop, map, outline_of, subst, sym, take, ℕ, ◌∙◌, ◌≡◌}
 use Rattle.std.proofs.lemmas.List.{take-map, drop-map}
 use Rattle.std.proofs.lemmas.Simd.{map-map}
 use Rattle.svg_text.specs.declared.shape.Shape.{Shape}
 use Rattle.svg_text.specs.Figures.{Picture, figure}
 use Rattle.svg_text.specs.Svg.{svg_text}
-use Rattle.signs.specs.Signs.{AreShown, Meaning, Outline, Places, outline_of}
 use Rattle.uni_script.specs.declared.remarks.PlacedRemark.{PlacedRemark}
 use Rattle.run_replay.specs.Marks.{RunMarks}
 use Rattle.run_picture.specs.Drawn.{IsDrawingOf, IsSvgOf}

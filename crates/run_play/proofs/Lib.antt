@@ -1,3 +1,4 @@
+pub mod Vocabulary
 pub mod Telling
 pub mod Statuses
 pub mod Paging

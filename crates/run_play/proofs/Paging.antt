@@ -1,24 +1,11 @@
 -- From the run of a script to its page.
-use Rattle.std.proofs.Common.{◌≡◌, ◌≤◌, List, ℕ, Option, Result, Ok, Err, OnOk, IfOk, false, length, map, sym, subst, true}
-use Rattle.std.specs.Prelude.{Vec}
-use Rattle.std.specs.declared.alloc.Global.{Global}
-use Rattle.run_tell.specs.Json.{object_text}
-use Rattle.ready_objects.specs.Spoken.{Language}
-use Rattle.seq_object.specs.Sequential.{Sequential}
-use Rattle.uni_model.specs.Worlds.{Event}
+use Rattle.run_play.proofs.Vocabulary.{AreCallsOf, AreEdges, END, Err, Event, Global, IfOk, IsGraph, IsPageOf, IsPageOfSession, IsPlayed, IsScriptRun, Language, List, Ok, OnOk, Option, Result, START, Sequential, Vec, any_refused, false, graph_members, has_one_era, length, map, object_text, plan_of, session_of_record, subst, sym, text_between, true, ℕ, ◌≡◌, ◌≤◌}
 use Rattle.uni_script.specs.Objects.{SpokenObject, spoken}
 use Rattle.uni_script.specs.declared.grammar.Version.{Version}
 use Rattle.uni_script.specs.declared.script_run.ScriptRun.{ScriptRun}
 use Rattle.uni_script.specs.declared.script_run.ScriptRecord.{ScriptRecord}
 use Rattle.uni_script.specs.declared.options.Options.{Options}
 use Rattle.uni_script.specs.declared.options.Echo.TheVariants.{Off}
-use Rattle.uni_script.specs.ScriptRun.{session_of_record, IsScriptRun}
-use Rattle.run_graph.specs.Graph.{IsGraph}
-use Rattle.run_graph.specs.Schedule.{plan_of}
-use Rattle.run_play.specs.Edges.{AreEdges}
-use Rattle.run_play.specs.Plans.{has_one_era, AreCallsOf}
-use Rattle.run_play.specs.Play.{any_refused, graph_members, text_between, IsPageOf, IsPageOfSession, IsPlayed}
-use Rattle.run_play.specs.declared.viewer.TheConstants.{START, END}
 
 -- two facts of an answer that is Ok
 pub IfOk-two : {A E : Type 0} (r : Result A E) (P : Type 0) (Q S : A → Type 0) → OnOk r P → IfOk r Q → ((a : A) → P → Q a → S a) → IfOk r S

@@ -1,11 +1,10 @@
 -- The statuses with which the program ends.
-use Rattle.std.proofs.Common.{◌≡◌, ◌≢◌, ◌≤◌, ℕ, inl, inr, arith}
+use Rattle.run_play.proofs.Vocabulary.{Eras, Refused, Script, TooManyWorlds, arith, inl, inr, ℕ, ◌≡◌, ◌≢◌, ◌≤◌}
 use Rattle.uni_script.specs.Statuses.{status_of, IsStatusOf}
 use Rattle.uni_script.specs.declared.fault.BenchFault.{BenchFault}
 use Rattle.uni_script.specs.declared.fault.BenchFault.TheVariants.{NoHeader, BadHeader, TooLong, BadByte, BadLine, TooMany, Read, Write, Memory, Audit}
 use Rattle.run_play.specs.Fault.{IsStatusOfPlay}
 use Rattle.run_play.specs.declared.fault.PlayFault.{PlayFault}
-use Rattle.run_play.specs.declared.fault.PlayFault.TheVariants.{Script, Refused, Eras, TooManyWorlds}
 
 -- no fault ends with 0
 least_status : (f : BenchFault) → 2 ≤ status_of f

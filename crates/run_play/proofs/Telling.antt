@@ -1,27 +1,14 @@
 -- What is told of an event, by any world that is the same.
-use Rattle.std.proofs.Common.{◌≡◌, ◌∙◌, ℕ, ◌/◌, ◌%◌, ◌<◌, List, [], ◌∷◌, ◌++◌, length, refl, ap, sym, subst, Option, None, Some, arith, false, is_some, option_map, slice_index_or, IsSome, Result, Ok, Err, OnOk}
+use Rattle.run_play.proofs.Vocabulary.{Call, Err, Event, Global, IsGraph, IsSome, Language, LeadsTo, List, None, Ok, OnOk, Option, Plan, Reshape, Result, Sequential, Some, Step, Steps, Trim, Vec, WorldOf, [], ap, arith, codes, edge_text, event_of, false, frame_at, frame_of, frame_shown, frame_text, is_some, length, memory_with, moved, option_and_then, option_map, option_map_or, path_of, refl, response_of_step, shown, shown_at, slice_index_or, step_text, stepped, subst, sym, world_after_step, world_at, ℕ, ◌%◌, ◌++◌, ◌/◌, ◌<◌, ◌∙◌, ◌∷◌, ◌≡◌}
 use Rattle.std.proofs.Math.Nat.{div-lt_iff_lt-mul}
-use Rattle.std.specs.Prelude.{codes, option_and_then, Vec}
-use Rattle.std.specs.Option.{option_map_or}
-use Rattle.std.specs.declared.alloc.Global.{Global}
-use Rattle.seq_object.specs.Sequential.{Sequential}
-use Rattle.ready_objects.specs.Spoken.{Language}
-use Rattle.uni_model.specs.Places.{memory_with}
 use Rattle.uni_model.specs.Stages.{Pending}
 use Rattle.uni_model.specs.Transition.{place_of}
-use Rattle.uni_model.specs.Worlds.{WorldOf, Event, response_of_step, world_after_step}
-use Rattle.uni_model.specs.Worlds.Event.{Call, Step, Trim, Reshape}
 use Rattle.uni_core.specs.Readers.{kind_of}
 use Rattle.uni_core.specs.Same.{without_counts}
 use Rattle.run_replay.specs.Held.{alone, held}
 use Rattle.run_replay.specs.Proposal.{proposal_of}
-use Rattle.run_replay.specs.Frames.{Steps, frame_of, stepped}
-use Rattle.run_graph.specs.Graph.{path_of, shown_at, IsGraph, LeadsTo}
-use Rattle.run_graph.specs.Schedule.{Plan, event_of, moved, shown, world_at}
 use Rattle.run_graph.proofs.Reached.{shown-next, shown_at-path, some-same}
-use Rattle.run_replay.specs.ScenesShown.{frame_shown}
 use Rattle.run_replay.specs.declared.frame.Frame.{Frame as FrameOfCode}
-use Rattle.run_play.specs.Edges.{edge_text, frame_at, frame_text, step_text}
 
 module _ {S I R : Type 0} (object : Sequential S I R) (l : Language I R) (text : S → List ℕ) (to : ℕ) where
   stepped-memory : (w : WorldOf S I R) (p : ℕ) (c : Option Pending) → (world_after_step object w p c).memory ≡ (world_after_step object (without_counts w) p c).memory

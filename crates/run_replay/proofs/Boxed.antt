@@ -1,30 +1,12 @@
 -- The boxes of a run are its joined log, each with the object's state after it.
-use Rattle.std.proofs.Common.{◌≡◌, ◌∙◌, ℕ, zero, suc, ◌+◌, ◌<◌, ◌≤◌, length, drop, get_or, refl, sym, ap, List, [], ◌∷◌, ◌++◌, Option, Some, None, map, slice_get, option_map, option_and_then, arith}
-use Rattle.std.specs.Option.{option_map_or}
-use Rattle.std.specs.List.{flat_map}
-use Rattle.std.proofs.lemmas.List.{append-nil, drop_more, map-append}
+use Rattle.run_replay.proofs.Vocabulary.{Anchor, BoxesAreTheLog, BoxesHaveTheEntries, Call, Cell, Entry, EraMarks, Event, Grows-world_after, Invariant, Invariant-world_after, Invoked, IsQuiescent, IsSound, Language, List, Name, None, Of, Option, Reshape, Some, SpokenObject, Step, Trim, WorldOf, [], after_of, ap, append-nil, arith, box_of, boxes_after, boxes_from, cells_from, chain, drop, drop_more, entries_from, entry_shown, era_calls, eras_in, flat_map, get_or, inv_of, invocations_of, length, log, log_of_run, map, map-append, new_of, opened_world, option_map_or, refl, response_in, seq_of, slice_get, state_settled_at, stateless, suc, sym, world_after, world_after_era, zero, ℕ, ◌++◌, ◌+◌, ◌<◌, ◌∙◌, ◌∷◌, ◌≡◌, ◌≤◌}
+use Rattle.std.proofs.Common.{option_map, option_and_then}
 use Rattle.seq_object.specs.History.{state_after}
-use Rattle.uni_model.specs.Places.{Name, seq_of, after_of, new_of, inv_of}
-use Rattle.uni_model.specs.Places.Name.{Anchor, Of}
-use Rattle.uni_model.specs.AtomicObject.{Invoked}
-use Rattle.uni_model.specs.Chain.{Entry, cells_from, entries_from, response_in}
-use Rattle.uni_model.specs.Counting.{era_calls}
-use Rattle.uni_model.specs.Worlds.{WorldOf, Event, chain, opened_world, world_after, world_after_era, IsQuiescent}
-use Rattle.uni_model.specs.Worlds.Event.{Call, Step, Trim, Reshape}
-use Rattle.uni_model.specs.History.{log, log_of_run, invocations_of}
-use Rattle.uni_model.specs.Invariant.{Invariant, IsSound}
 use Rattle.uni_model.specs.Growth.{EndsNoEra}
 use Rattle.uni_model.proofs.Logged.{unsettled_last}
 use Rattle.uni_model.proofs.Joined.{IsRun, IsRun-opened_world, map-calls}
-use Rattle.uni_model.proofs.Kept.{Invariant-world_after, Grows-world_after}
 use Rattle.uni_model.proofs.Ended.{world_after_era-quiet}
-use Rattle.ready_objects.specs.Spoken.{Language}
 use Rattle.uni_log.specs.declared.entry.Entry.{Entry as Stored}
-use Rattle.uni_log.specs.Entry.{entry_shown}
-use Rattle.uni_log.specs.Log.{state_settled_at}
-use Rattle.uni_script.specs.Objects.{SpokenObject}
-use Rattle.run_replay.specs.Marks.{Cell, EraMarks, box_of, boxes_from, eras_in}
-use Rattle.run_replay.specs.MarkLaws.{boxes_after, stateless, BoxesAreTheLog, BoxesHaveTheEntries}
 
 -- the boxes of stored entries from a place on, one more
 pub boxes_more : {S I R : Type 0} (l : Language I R) (text : S → List ℕ) (w : WorldOf S I R) (i : ℕ) (xs : List (Stored I R)) (x : Stored I R) → i < length xs → x ≡ get_or xs i x

@@ -1,14 +1,7 @@
 -- The dots of a step, by the entries that the log has more.
-use Rattle.std.proofs.Common.{◌≡◌, ◌∙◌, ℕ, sym, ap, List, map, drop}
-use Rattle.std.proofs.lemmas.List.{drop-map}
+use Rattle.run_replay.proofs.Vocabulary.{Dot, Invoked, List, WorldOf, ap, calls_of, dots_of, drop, drop-map, entry_shown, log, map, sym, ℕ, ◌∙◌, ◌≡◌}
 use Rattle.uni_model.specs.Chain.{Entry as Logged}
-use Rattle.uni_model.specs.AtomicObject.{Invoked}
-use Rattle.uni_model.specs.Worlds.{WorldOf}
-use Rattle.uni_model.specs.History.{calls_of, log}
 use Rattle.uni_log.specs.declared.entry.Entry.{Entry}
-use Rattle.uni_log.specs.Entry.{entry_shown}
-use Rattle.run_replay.specs.declared.marks.Dot.{Dot}
-use Rattle.run_replay.specs.Marks.{dots_of}
 use Rattle.run_replay.proofs.Walked.{map-map}
 
 -- the dot of an entry of the code

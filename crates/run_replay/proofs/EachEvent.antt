@@ -1,9 +1,5 @@
 -- What holds of the scenes of each run.
-use Rattle.std.proofs.Common.{ℕ, zero, suc, refl, Bool, List, [], ◌∷◌}
-use Rattle.seq_object.specs.Sequential.{Sequential}
-use Rattle.ready_objects.specs.Spoken.{Language}
-use Rattle.uni_model.specs.Worlds.{WorldOf, Event, last_cell, world_after}
-use Rattle.uni_model.proofs.Kept.{last_cell_threaded}
+use Rattle.run_replay.proofs.Vocabulary.{Bool, Event, Language, List, Sequential, WorldOf, [], last_cell, last_cell_threaded, refl, suc, world_after, zero, ℕ, ◌∷◌}
 use Rattle.run_replay.specs.SceneLaws.{TellsEachEvent, ChangesOnePlace, CallChangesOnePlace, EndLeavesAnchor}
 
 module _ {S I R : Type 0} (object : Sequential S I R) where

@@ -1,12 +1,7 @@
 -- Bars that end, and those that don't.
-use Rattle.std.proofs.Common.{◌≡◌, ◌∙◌, ℕ, ◌==◌, refl, ap, Option, None, Some, Bool, true, false, if◌then◌else◌, List, map}
-use Rattle.std.specs.Prelude.{is_some, option_map}
-use Rattle.std.specs.Option.{option_or, option_map_or}
+use Rattle.run_replay.proofs.Vocabulary.{Bool, Called, End, List, None, Option, Some, ap, bar_ended, bar_shown, end_shown, false, if◌then◌else◌, is_some, map, option_map, option_map_or, option_or, refl, true, ℕ, ◌==◌, ◌∙◌, ◌≡◌}
 use Rattle.run_replay.specs.declared.marks.Bar.{Bar}
 use Rattle.run_replay.specs.declared.marks.BarEnd.{BarEnd}
-use Rattle.run_replay.specs.Marks.{End, Called}
-use Rattle.run_replay.specs.MarksShown.{bar_shown, end_shown}
-use Rattle.run_replay.specs.Marking.{bar_ended}
 use Rattle.run_replay.proofs.Walked.{map-map, map-same}
 
 pub option_or-none : {A : Type 0} (o : Option A) → option_or o None ≡ o

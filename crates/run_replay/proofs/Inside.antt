@@ -1,20 +1,6 @@
 -- Each dot lies in a bar of its call.
-use Rattle.std.proofs.Common.{◌≡◌, ◌≢◌, ◌∙◌, ℕ, ◌+◌, ◌<◌, ◌≤◌, ◌==◌, ◌⊎◌, inl, inr, refl, sym, ap, subst, List, [], ◌∷◌, Option, None, Some, IfSome, Contains, Bool, true, false, if◌then◌else◌, length, arith}
-use Rattle.std.specs.Prelude.{option_map}
-use Rattle.std.specs.Option.{option_or}
-use Rattle.std.specs.List.{AllByRecursion}
-use Rattle.std.proofs.lemmas.Bool.{ne_eqb}
+use Rattle.run_replay.proofs.Vocabulary.{AllByRecursion, AreAccepted, Bool, Call, CallId, Called, Contains, Dot, DotsLieInBars, End, EndsAreEvents, Event, IfSome, Invariant, Invariant-opened_world, Invariant-world_after, Invoked, IsAccepted, LiesIn, List, None, Option, Reshape, Some, SpokenObject, Step, Trim, WorldOf, [], along, ap, arith, bar_begun, bars_in, dots_by, dots_of, end_by, end_in, end_of_step, false, if◌then◌else◌, inl, inr, length, ne_eqb, opened_world, option_map, option_or, refl, response_of_step, subst, sym, true, world_after, ℕ, ◌+◌, ◌<◌, ◌==◌, ◌∙◌, ◌∷◌, ◌≡◌, ◌≢◌, ◌≤◌, ◌⊎◌}
 use Rattle.std.proofs.lemmas.List.Elements.{All-from_recursion, Contains-append_right}
-use Rattle.seq_object.specs.declared.call_id.CallId.{CallId}
-use Rattle.uni_model.specs.AtomicObject.{Invoked}
-use Rattle.uni_model.specs.Worlds.{WorldOf, Event, opened_world, world_after, response_of_step, IsAccepted, AreAccepted}
-use Rattle.uni_model.specs.Worlds.Event.{Call, Step, Trim, Reshape}
-use Rattle.uni_model.specs.Invariant.{Invariant}
-use Rattle.uni_model.proofs.Kept.{Invariant-opened_world, Invariant-world_after}
-use Rattle.uni_script.specs.Objects.{SpokenObject}
-use Rattle.run_replay.specs.declared.marks.Dot.{Dot}
-use Rattle.run_replay.specs.Marks.{End, Called, dots_of, dots_by, along, end_of_step, end_by, end_in, bar_begun, bars_in}
-use Rattle.run_replay.specs.MarkLaws.{LiesIn, DotsLieInBars, EndsAreEvents}
 use Rattle.run_replay.proofs.Lists.{all_append, all_imply, contains_first, IfSome-either, IfSome-imply}
 use Rattle.run_replay.proofs.Ends.{either_way}
 use Rattle.run_replay.proofs.Replayed.{end_of_step-none}

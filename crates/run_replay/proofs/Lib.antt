@@ -1,3 +1,4 @@
+pub mod Vocabulary
 pub mod Proposing
 pub mod Staying
 pub mod Telling

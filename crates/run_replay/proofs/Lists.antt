@@ -1,7 +1,5 @@
 -- What holds of each element of a list, or of what an option has.
-use Rattle.std.proofs.Common.{◌≡◌, ◌∙◌, ◌<◌, refl, ap, List, [], ◌∷◌, ◌++◌, Option, None, Some, IfSome, Contains, map, length, arith}
-use Rattle.std.specs.Option.{option_or}
-use Rattle.std.specs.List.{AllByRecursion, flat_map}
+use Rattle.run_replay.proofs.Vocabulary.{AllByRecursion, Contains, IfSome, List, None, Option, Some, [], ap, arith, flat_map, length, map, option_or, refl, ◌++◌, ◌<◌, ◌∙◌, ◌∷◌, ◌≡◌}
 
 pub all_append : {X : Type 0} (P : X → Type 0) (xs ys : List X) → AllByRecursion P xs → AllByRecursion P ys → AllByRecursion P (xs ++ ys)
 all_append P [] ys first rest = rest

@@ -1,19 +1,6 @@
 -- The dots and the boxes of a run are its joined log.
-use Rattle.std.proofs.Common.{◌≡◌, ◌∙◌, ℕ, ◌+◌, refl, sym, ap, List, [], ◌∷◌, ◌++◌, map, append_assoc}
-use Rattle.std.proofs.lemmas.List.{append-nil, map-append}
-use Rattle.seq_object.specs.Sequential.{Sequential}
-use Rattle.seq_object.specs.declared.call_id.CallId.{CallId}
-use Rattle.uni_model.specs.Chain.{Entry}
-use Rattle.uni_model.specs.Worlds.{WorldOf, Event, world_after, opened_world}
-use Rattle.uni_model.specs.Worlds.Event.{Call, Step, Trim, Reshape}
-use Rattle.uni_model.specs.AtomicObject.{Atomic, Act, AcceptsAll, Invoked}
-use Rattle.uni_model.specs.AtomicObject.Act.{Invoke, Linearize, Respond}
-use Rattle.uni_model.specs.History.{log_of_run, acts_of, history_of}
+use Rattle.run_replay.proofs.Vocabulary.{AcceptsAll, Act, Atomic, Call, CallId, Dot, DotsAreTheLog, Entry, Event, Invoke, Invoked, Linearize, List, Reshape, Respond, Sequential, SpokenObject, Step, Trim, WorldOf, [], acts_of, along, ap, append-nil, append_assoc, dots_by, history_of, linearized_in, log_of_run, map, map-append, opened_world, refl, sym, world_after, ℕ, ◌++◌, ◌+◌, ◌∙◌, ◌∷◌, ◌≡◌}
 use Rattle.uni_model.proofs.Linearized.{IsLinearizable-holds}
-use Rattle.uni_script.specs.Objects.{SpokenObject}
-use Rattle.run_replay.specs.declared.marks.Dot.{Dot}
-use Rattle.run_replay.specs.Marks.{linearized_in, dots_by, along}
-use Rattle.run_replay.specs.MarkLaws.{DotsAreTheLog}
 use Rattle.run_replay.proofs.Walked.{map-map}
 
 -- the name of a call

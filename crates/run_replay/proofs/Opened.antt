@@ -1,25 +1,6 @@
 -- Calls that are pending: which of them take effect, and which go on to be pending.
-use Rattle.std.proofs.Common.{◌≡◌, ◌≢◌, ◌∙◌, ℕ, ◌+◌, ◌-◌, ◌⊎◌, inl, inr, refl, sym, ap, subst, List, [], ◌∷◌, ◌++◌, Option, None, Some, IsSome, map, true, false, arith}
-use Rattle.std.specs.Prelude.{option_and_then}
-use Rattle.std.specs.Option.{option_map_or}
-use Rattle.std.specs.List.{AllByRecursion}
-use Rattle.seq_object.specs.Sequential.{Sequential}
-use Rattle.uni_model.specs.Places.{Memory, Name, Content, seq_of, new_of}
-use Rattle.uni_model.specs.Places.Name.{Of}
-use Rattle.uni_model.specs.Stages.{Stage, Pending}
-use Rattle.uni_model.specs.Stages.Stage.{Announce, ScanHead, ScanSeq, WriteScan, Test, ReadAnnounce, ReadHelpSeq, DecideAfter, DecideNew, WriteBefore, WriteSeq, WriteHead, Finish}
-use Rattle.uni_model.specs.Transition.{place_of, stage_after, response_after}
-use Rattle.uni_model.specs.Chain.{invoked_at}
-use Rattle.uni_model.specs.Worlds.{WorldOf, anchor_memory, last_cell, world_after, world_after_step, world_after_era, response_of_step, IsAccepted}
-use Rattle.uni_model.specs.Effects.{call_after}
-use Rattle.uni_model.specs.Worlds.Event.{Call, Step}
-use Rattle.uni_model.specs.AtomicObject.{Atomic, Act, AcceptsAll, Invoked}
-use Rattle.uni_model.specs.AtomicObject.Act.{Linearize}
-use Rattle.uni_model.specs.History.{Shows, open_at, calls_of, acts_of}
-use Rattle.uni_model.specs.Invariant.{Invariant, AreCalls}
+use Rattle.run_replay.proofs.Vocabulary.{AcceptsAll, Act, AllByRecursion, Announce, AreCalls, Atomic, Call, Content, DecideAfter, DecideNew, Finish, Invariant, Invoked, IsAccepted, IsSome, Linearize, List, Memory, Name, None, Of, Option, Pending, ReadAnnounce, ReadHelpSeq, ScanHead, ScanSeq, Sequential, Shows, Some, Stage, Step, Test, WorldOf, WriteBefore, WriteHead, WriteScan, WriteSeq, [], acts_of, anchor_memory, ap, arith, call_after, calls_of, false, inl, inr, invoked_at, last_cell, linearized_in, map, new_of, open_at, option_and_then, option_map_or, place_of, refl, response_after, response_of_step, seq_of, set_at-cases, stage_after, subst, sym, true, world_after, world_after_era, world_after_step, ℕ, ◌++◌, ◌+◌, ◌-◌, ◌∙◌, ◌∷◌, ◌≡◌, ◌≢◌, ◌⊎◌}
 use Rattle.uni_model.proofs.LawProofs.{accepts}
-use Rattle.uni_model.proofs.Written.{set_at-cases}
-use Rattle.run_replay.specs.Marks.{linearized_in}
 use Rattle.run_replay.proofs.Replayed.{linearized_by_step}
 
 -- an atomic object has this call open

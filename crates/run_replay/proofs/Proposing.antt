@@ -1,23 +1,6 @@
 -- What a step proposes, by the call whose cell it proposes and by what its place holds afterwards; and what the cell of a call asks for.
-use Rattle.std.proofs.Common.{◌≡◌, ◌∙◌, ℕ, refl, sym, ap, List, Option, None, Some, arith}
-use Rattle.std.specs.Prelude.{option_map, option_and_then}
-use Rattle.std.specs.Option.{option_or}
-use Rattle.seq_object.specs.Sequential.{Sequential}
-use Rattle.ready_objects.specs.Spoken.{Language}
-use Rattle.uni_model.specs.Places.{Name, Memory, memory_with, inv_of, after_of, new_of}
-use Rattle.uni_model.specs.Places.Name.{Of}
-use Rattle.uni_model.specs.Places.Place.{InvOf, NewOf}
+use Rattle.run_replay.proofs.Vocabulary.{Announce, DecideAfter, DecideNew, Finish, InvOf, Invariant, Language, List, Memory, Name, NewOf, None, Of, Option, Pending, ReadAnnounce, ReadHelpSeq, ScanHead, ScanSeq, Sequential, Some, Stage, Step, Test, WorldOf, WriteBefore, WriteHead, WriteScan, WriteSeq, after_of, ap, arith, call_of_name, content_after, held, inv_of, kind_of, memory_with, name_eq_same, new_of, option_and_then, option_map, option_or, place_of, proposal_of, proposal_told, proposed_at, refl, sym, value_after, world_after, world_after_step, ℕ, ◌∙◌, ◌≡◌}
 use Rattle.uni_model.specs.Places.Content.{Invocation, Settled}
-use Rattle.uni_model.specs.Stages.{Stage, Pending}
-use Rattle.uni_model.specs.Stages.Stage.{Announce, ScanHead, ScanSeq, WriteScan, Test, ReadAnnounce, ReadHelpSeq, DecideAfter, DecideNew, WriteBefore, WriteSeq, WriteHead, Finish}
-use Rattle.uni_model.specs.Transition.{place_of, content_after, value_after}
-use Rattle.uni_model.specs.Worlds.{WorldOf, world_after, world_after_step}
-use Rattle.uni_model.specs.Worlds.Event.{Step}
-use Rattle.uni_model.specs.Invariant.{Invariant}
-use Rattle.uni_model.proofs.Written.{name_eq_same}
-use Rattle.uni_core.specs.Readers.{call_of_name, kind_of, proposed_at}
-use Rattle.run_replay.specs.Held.{held}
-use Rattle.run_replay.specs.Proposal.{proposal_of, proposal_told}
 
 module _ {S I R : Type 0} where
   -- the cell of a call that comes next isn't made yet

@@ -1,31 +1,13 @@
 -- The marks of an event that is replayed.
-use Rattle.std.proofs.Common.{◌≡◌, ◌≢◌, ◌∙◌, ◌-◌, ℕ, refl, sym, ap, List, [], ◌∷◌, ◌++◌, Option, None, Some, map, drop, length}
-use Rattle.std.specs.Prelude.{option_map, Bool}
-use Rattle.std.specs.Option.{option_map_or}
-use Rattle.std.proofs.lemmas.List.{append-nil, length-map}
-use Rattle.seq_object.specs.Sequential.{Sequential}
-use Rattle.uni_model.specs.Places.{Name, Memory}
-use Rattle.uni_model.specs.Stages.{Pending}
+use Rattle.run_replay.proofs.Vocabulary.{Act, Called, End, EraMarks, Invoked, Linearize, List, Memory, Name, None, Option, Pending, Progress, Respond, RunMarks, Sequential, Some, SpokenObject, Step, WorldOf, [], acts_of, ap, append-nil, bar_ended, calls_of, dots_by, dots_of, drop, end_of_step, entry_shown, kind_of, length, length-map, linearized_in, log, map, name_in, option_map, option_map_or, place_named, place_of, progress_of, refl, response_after, response_of_step, responses_of, steps_by, sym, world_after, world_after_step, ℕ, ◌++◌, ◌-◌, ◌∙◌, ◌∷◌, ◌≡◌, ◌≢◌}
+use Rattle.std.specs.Prelude.{Bool}
 use Rattle.uni_model.specs.Chain.{Entry as Logged, invoked_at}
-use Rattle.uni_model.specs.Worlds.{WorldOf, world_after, world_after_step, response_of_step}
-use Rattle.uni_model.specs.Transition.{place_of, response_after}
-use Rattle.uni_model.specs.Worlds.Event.{Step}
-use Rattle.uni_model.specs.AtomicObject.{Act, Invoked}
-use Rattle.uni_model.specs.AtomicObject.Act.{Linearize, Respond}
-use Rattle.uni_model.specs.History.{log, calls_of, acts_of, responses_of}
-use Rattle.uni_core.specs.Readers.{kind_of, place_named}
-use Rattle.uni_core.specs.World.{name_in, progress_of}
-use Rattle.uni_core.specs.declared.fault.Progress.{Progress}
 use Rattle.uni_core.specs.declared.fault.Progress.TheVariants.{Done}
 use Rattle.uni_core.specs.declared.stage.StepKind.{StepKind}
 use Rattle.uni_core.specs.declared.stage.Place.{Place as PlaceById}
 use Rattle.uni_log.specs.declared.entry.Entry.{Entry}
-use Rattle.uni_log.specs.Entry.{entry_shown}
-use Rattle.uni_script.specs.Objects.{SpokenObject}
 use Rattle.run_replay.specs.declared.marks.StepMark.{StepMark}
 use Rattle.run_replay.specs.Changes.{has_changed, standing_at, changes_place}
-use Rattle.run_replay.specs.Marks.{End, Called, EraMarks, RunMarks, steps_by, linearized_in, dots_by, dots_of, end_of_step}
-use Rattle.run_replay.specs.Marking.{bar_ended}
 
 pub era_is : (a b : EraMarks) → a.from ≡ b.from → a.last ≡ b.last → a.processes ≡ b.processes → a.anchor ≡ b.anchor → a.cells ≡ b.cells → a ≡ b
 era_is a b f l p n c =

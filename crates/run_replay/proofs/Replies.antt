@@ -1,35 +1,11 @@
 -- The replies of the bars are the responses of the history.
-use Rattle.std.proofs.Common.{◌≡◌, ◌≢◌, ◌∙◌, ℕ, ◌+◌, ◌-◌, ◌<◌, ◌≤◌, ◌==◌, inl, inr, refl, sym, ap, subst, List, [], ◌∷◌, ◌++◌, Option, None, Some, IfSome, IsSome, Bool, true, false, map, option_to_list, if◌then◌else◌, arith, eq-eqb, eqb-true}
-use Rattle.std.specs.Prelude.{option_map, option_and_then}
-use Rattle.std.specs.Option.{option_map_or, option_or}
-use Rattle.std.specs.List.{AllByRecursion, flat_map}
-use Rattle.std.proofs.lemmas.Bool.{ne_eqb}
-use Rattle.std.proofs.lemmas.List.{append-nil, map-append}
-use Rattle.std.proofs.lemmas.List.Concat.{flat_map-append}
-use Rattle.seq_object.specs.declared.call_id.CallId.{CallId}
-use Rattle.uni_model.specs.Places.{seq_of, new_of}
-use Rattle.uni_model.specs.AtomicObject.{set_at}
-use Rattle.uni_model.specs.Places.Name.{Of}
-use Rattle.uni_model.specs.Stages.{Pending}
-use Rattle.uni_model.specs.Stages.Stage.{Announce}
-use Rattle.uni_model.specs.Transition.{place_of, stage_after, response_after}
-use Rattle.uni_model.specs.Worlds.{WorldOf, Event, anchor_memory, last_cell, opened_world, world_after, world_after_step, world_after_era, response_of_step, AreAccepted}
-use Rattle.uni_model.specs.Effects.{call_after}
-use Rattle.uni_model.specs.Worlds.Event.{Call, Step, Trim, Reshape}
+use Rattle.run_replay.proofs.Vocabulary.{AllByRecursion, Announce, AreAccepted, BarsHaveTheReplies, Bool, Call, CallId, Called, Completed, CountsSteps, End, Event, IfSome, IsSome, List, None, Of, Option, Pending, Reply, Reshape, RunMarks, Some, SpokenObject, Step, Trim, WorldOf, [], anchor_memory, ap, append-nil, arith, bar_begun, bar_ended, bars_in, call_after, completed_by, completed_in, current_of, end_in, eq-eqb, eqb-true, false, flat_map, flat_map-append, if◌then◌else◌, inl, inr, last_cell, map, map-append, marks_with, ne_eqb, new_of, number_cases, opened_world, option_and_then, option_map, option_map_or, option_or, option_to_list, place_of, refl, replies_in_order, reply_at, reply_text, response_after, response_of_step, seq_of, set_at, set_at-cases, stage_after, subst, sym, true, world_after, world_after_era, world_after_step, ℕ, ◌++◌, ◌+◌, ◌-◌, ◌<◌, ◌==◌, ◌∙◌, ◌∷◌, ◌≡◌, ◌≢◌, ◌≤◌}
 use Rattle.uni_model.specs.Helping.{HelpingInvariant}
-use Rattle.uni_model.specs.Counting.{CountsSteps}
 use Rattle.uni_model.proofs.Bounded.{HelpingInvariant-opened_world, HelpingInvariant-world_after}
 use Rattle.uni_model.proofs.Counted.{CountsSteps-opened_world, CountsSteps-world_after}
-use Rattle.uni_model.proofs.Written.{number_cases, set_at-cases}
 use Rattle.uni_model.proofs.Simulation.{set_at_same}
-use Rattle.uni_core.specs.World.{current_of}
-use Rattle.uni_record.specs.Event.{Completed, completed_by, completed_in}
 use Rattle.uni_record.proofs.Promised.{returns_are_responses}
-use Rattle.uni_script.specs.Objects.{SpokenObject}
 use Rattle.uni_script.proofs.Helped.{pending-world_after_step}
-use Rattle.run_replay.specs.Marks.{End, Called, RunMarks, end_in, bar_begun, bars_in}
-use Rattle.run_replay.specs.Marking.{bar_ended, marks_with}
-use Rattle.run_replay.specs.MarkLaws.{Reply, reply_at, replies_in_order, reply_text, BarsHaveTheReplies}
 use Rattle.run_replay.proofs.Walked.{map-map}
 use Rattle.run_replay.proofs.Replayed.{end_of_step-none, end_of_step-some}
 use Rattle.run_replay.proofs.Opened.{last_or_silent}

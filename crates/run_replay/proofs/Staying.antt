@@ -1,11 +1,7 @@
 -- The cells of a world stay in a step of a process.
-use Rattle.std.proofs.Common.{◌≡◌, ◌∙◌, ◌↔◌, ◌⊎◌, inl, inr, ℕ, ◌<◌, Option, None, Some, IsSome, refl, sym, ap, subst}
-use Rattle.seq_object.specs.Sequential.{Sequential}
+use Rattle.run_replay.proofs.Vocabulary.{IsSome, None, Option, Pending, Sequential, Some, Step, WorldOf, ap, calls_in_era, inl, inr, refl, subst, sym, world_after, world_after_step, ℕ, ◌<◌, ◌↔◌, ◌∙◌, ◌≡◌, ◌⊎◌}
 use Rattle.cell_arena.specs.CellRecord.{index_of}
 use Rattle.cell_arena.specs.Arena.{Arena, processes_of, made_of, cell_of}
-use Rattle.uni_model.specs.Stages.{Pending}
-use Rattle.uni_model.specs.Worlds.{WorldOf, calls_in_era, world_after, world_after_step}
-use Rattle.uni_model.specs.Worlds.Event.{Step}
 
 module _ {S I R : Type 0} where
   -- each cell of an arena is the anchor or one that a process has made, and each that a process has made is there

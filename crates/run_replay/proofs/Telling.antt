@@ -1,28 +1,10 @@
 -- The frame of an event, put together from what was read.
-use Rattle.std.proofs.Common.{◌≡◌, ◌∙◌, Bool, false, ℕ, ◌-◌, refl, sym, ap, List, [], ◌∷◌, ◌++◌, Option, None, Some, append_assoc, codes}
-use Rattle.std.specs.Prelude.{option_map, option_and_then}
-use Rattle.std.specs.Option.{option_map_or}
-use Rattle.seq_object.specs.Sequential.{Sequential}
-use Rattle.seq_object.specs.declared.call_id.CallId.{CallId}
-use Rattle.ready_objects.specs.Spoken.{Language}
+use Rattle.run_replay.proofs.Vocabulary.{Begun, Bool, CallId, Field, Frame, Held, Invariant, Language, List, None, Of, Option, Pending, Progress, Sequential, Some, Step, Stepped, Steps, WorldOf, [], alone, answered, ap, append_assoc, begun, call_of_name, change_of, codes, current_of, event_shown, events_shown, false, field_name, frame_of, held, kind_of, memory_asked, name_in, option_and_then, option_map, option_map_or, place_named, place_of, progress_of, proposal_told, proposed_at, refl, response_of_step, scene_of, scenes_from, stepped, sym, world_after, world_after_step, ℕ, ◌++◌, ◌-◌, ◌∙◌, ◌∷◌, ◌≡◌}
 use Rattle.ready_objects.specs.Words.{text_of_words}
-use Rattle.uni_model.specs.Places.Name.{Of}
-use Rattle.uni_model.specs.Stages.{Pending}
-use Rattle.uni_model.specs.Transition.{place_of}
-use Rattle.uni_model.specs.Worlds.{WorldOf, world_after, world_after_step, response_of_step}
-use Rattle.uni_model.specs.Worlds.Event.{Step}
-use Rattle.uni_model.specs.Invariant.{Invariant}
-use Rattle.uni_core.specs.Readers.{call_of_name, kind_of, place_named, proposed_at}
-use Rattle.uni_core.specs.World.{current_of, name_in, progress_of}
-use Rattle.uni_core.specs.declared.fault.Progress.{Progress}
 use Rattle.uni_core.specs.declared.stage.Place.{Place as PlaceById}
 use Rattle.uni_record.specs.declared.event.Event.{Event as Stored}
-use Rattle.uni_record.specs.Event.{event_shown, events_shown}
 use Rattle.std.specs.Str.{bytes_eq}
-use Rattle.run_replay.specs.Held.{Field, Held, alone, change_of, field_name, held}
-use Rattle.run_replay.specs.Frames.{answered, Begun, Stepped, Frame, Steps, begun, stepped, frame_of}
-use Rattle.run_replay.specs.Scenes.{Scene, memory_asked, scene_of, scenes_from}
-use Rattle.run_replay.specs.Proposal.{proposal_told}
+use Rattle.run_replay.specs.Scenes.{Scene}
 use Rattle.run_replay.proofs.Proposing.{unmade, asked, proposal_is, proposed_in}
 
 steps_are : (a b : Stepped) → a.call ≡ b.call → a.kind ≡ b.kind → a.before ≡ b.before → a.after ≡ b.after → a.proposed ≡ b.proposed → a.next ≡ b.next → a.steps ≡ b.steps → a.turns ≡ b.turns → a.reply ≡ b.reply → a ≡ b

@@ -1,7 +1,6 @@
 -- Lists that a loop goes along: what it has made so far, and what the rest gives.
-use Rattle.std.proofs.Common.{◌≡◌, ◌∙◌, ℕ, zero, suc, ◌+◌, ◌<◌, ◌≤◌, refl, sym, ap, List, [], ◌∷◌, ◌++◌, map, length, get_or, take, drop, arith, append_assoc, append-nil}
-use Rattle.std.specs.Prelude.{slice_set}
-use Rattle.std.proofs.lemmas.List.{at_drop_more, at_drop_all, take_more_set, take_all, drop_all, map-append}
+use Rattle.run_replay.proofs.Vocabulary.{List, [], ap, append_assoc, arith, at_drop_all, at_drop_more, drop, drop_all, get_or, length, map, map-append, refl, slice_set, suc, sym, take, take_all, take_more_set, zero, ℕ, ◌++◌, ◌+◌, ◌<◌, ◌∙◌, ◌∷◌, ◌≡◌, ◌≤◌}
+use Rattle.std.proofs.Common.{append-nil}
 
 module _ {X Y : Type 0} (f : X → Y) where
   -- one element more is taken

@@ -1,14 +1,6 @@
 -- The marks so far, with those of the events that are left.
-use Rattle.std.proofs.Common.{◌≡◌, ◌∙◌, ℕ, ◌+◌, refl, ap, List, [], ◌∷◌, ◌++◌, None, Some, map, append_assoc}
-use Rattle.std.specs.Option.{option_or}
-use Rattle.std.proofs.lemmas.List.{append-nil, map-append}
-use Rattle.uni_model.specs.Worlds.{WorldOf, Event, world_after}
-use Rattle.uni_model.specs.Worlds.Event.{Call, Step, Trim, Reshape}
+use Rattle.run_replay.proofs.Vocabulary.{Call, Called, Event, List, None, Reshape, RunMarks, Some, SpokenObject, Step, Trim, WorldOf, [], along, ap, append-nil, append_assoc, bar_begun, bars_in, dots_by, end_in, end_of_step, era_of, eras_in, event_shown, events_shown, from_with, lines_by, map, map-append, marks_with, option_or, refl, steps_by, world_after, ℕ, ◌++◌, ◌+◌, ◌∙◌, ◌∷◌, ◌≡◌}
 use Rattle.uni_record.specs.declared.event.Event.{Event as Stored}
-use Rattle.uni_record.specs.Event.{event_shown, events_shown}
-use Rattle.uni_script.specs.Objects.{SpokenObject}
-use Rattle.run_replay.specs.Marks.{Called, RunMarks, steps_by, dots_by, lines_by, along, end_in, end_of_step, bar_begun, bars_in, era_of, eras_in}
-use Rattle.run_replay.specs.Marking.{from_with, marks_with}
 use Rattle.run_replay.proofs.Walked.{map-kept}
 use Rattle.run_replay.proofs.Ends.{with_end, option_or-none, ends_later}
 use Rattle.run_replay.proofs.Replayed.{marks_are}

@@ -1,9 +1,7 @@
 -- What `escaped` makes.
 use Rattle.std.specs.Prelude.{◌≡◌, ◌≢◌, ℕ, List, [], ◌∷◌, ◌++◌}
-use Rattle.std.proofs.Common.{inl, inr, sym, subst, arith}
+use Rattle.run_tell.proofs.Vocabulary.{AllByRecursion, IsPlain, arith, escaped, escaped_byte, inl, inr, subst, sym}
 use Rattle.std.proofs.lemmas.Bool.{cases_eq, ne_eqb}
-use Rattle.std.specs.List.{AllByRecursion}
-use Rattle.run_tell.specs.Page.{escaped, escaped_byte, IsPlain}
 
 plain : (b : ℕ) → b ≢ 60 → b ≢ 38 → IsPlain b
 plain b no_element no_name = record { no_element = no_element; no_name = no_name }

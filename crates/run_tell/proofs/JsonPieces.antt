@@ -1,9 +1,5 @@
 -- Texts with commas between them, piece by piece.
-use Rattle.std.proofs.Common.{◌≡◌, ◌∙◌, ◌<◌, ℕ, List, [], ◌∷◌, ◌++◌, length, map, ap, sym, arith, append_assoc}
-use Rattle.std.specs.List.{flat_map}
-use Rattle.std.proofs.lemmas.List.{map-append}
-use Rattle.std.proofs.lemmas.List.Concat.{flat_map-append}
-use Rattle.run_tell.specs.Json.{Member, after_comma, member_text, separated}
+use Rattle.run_tell.proofs.Vocabulary.{List, Member, [], after_comma, ap, append_assoc, arith, flat_map, flat_map-append, length, map, map-append, member_text, separated, sym, ℕ, ◌++◌, ◌<◌, ◌∙◌, ◌∷◌, ◌≡◌}
 
 separated_more : (a b : List (List ℕ)) → 0 < length a → separated (a ++ b) ≡ separated a ++ flat_map after_comma b
 separated_more [] b some = absurd (omega arith)

@@ -1,3 +1,4 @@
+pub mod Vocabulary
 pub mod JsonPieces
 pub mod TellingPieces
 pub mod Tellings

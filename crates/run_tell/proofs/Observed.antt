@@ -1,7 +1,5 @@
 -- What is observed of a run, by its frames.
-use Rattle.std.proofs.Common.{◌≡◌, ◌∙◌, ℕ, ◌+◌, ◌-◌, List, [], ◌∷◌, ◌++◌, take, drop, slice_get, arith, false, refl, subst, sym, ap, append-nil, Option, Some, None, option_map, option_and_then}
-use Rattle.std.proofs.lemmas.List.Concat.{flat_map-append}
-use Rattle.std.specs.List.{flat_map}
+use Rattle.run_tell.proofs.Vocabulary.{IsLinearizableRun, IsTold, List, None, Option, PlacedRemark, Scene, Some, SpokenObject, Steps, [], ap, append-nil, arith, drop, event_text, false, flat_map, flat_map-append, line_text, option_and_then, option_map, refl, scene_of, scenes_from, slice_get, spoken_of, state_text_of, stepped, subst, sym, take, told_before, told_from, told_text, trace_of_events, ℕ, ◌++◌, ◌+◌, ◌-◌, ◌∙◌, ◌∷◌, ◌≡◌}
 use Rattle.std.specs.Option.{option_map_or}
 use Rattle.seq_object.specs.Sequential.{Sequential}
 use Rattle.ready_objects.specs.Spoken.{Language}
@@ -16,15 +14,7 @@ use Rattle.uni_model.specs.Worlds.Event.{Call, Step, Trim, Reshape}
 use Rattle.uni_model.specs.History.{responses_of}
 use Rattle.uni_model.specs.Linearizable.{observed_at, observed_in}
 use Rattle.uni_model.proofs.Kept.{Invariant-opened_world, Invariant-world_after}
-use Rattle.uni_script.specs.declared.remarks.PlacedRemark.{PlacedRemark}
-use Rattle.uni_script.specs.Objects.{SpokenObject, spoken_of}
 use Rattle.uni_script.specs.Schedules.{word_of_object}
-use Rattle.run_replay.specs.Frames.{Steps, stepped}
-use Rattle.run_replay.specs.Scenes.{Scene, scene_of, scenes_from}
-use Rattle.run_tell.specs.Order.{event_text, told_before, told_from, told_text}
-use Rattle.run_layout.specs.Subject.{state_text_of}
-use Rattle.run_tell.specs.Told.{IsLinearizableRun, IsTold, trace_of_events}
-use Rattle.run_tell.specs.TraceLines.{line_text}
 use Rattle.run_tell.specs.History.{IsHistory}
 use Rattle.run_tell.specs.HistoryLines.{act_line, history_text, history_wording, opening_members, replied_line}
 

@@ -1,15 +1,11 @@
 -- The run of a script, told, by its record.
-use Rattle.std.proofs.Common.{◌≡◌, ◌∙◌, ◌≤◌, ℕ, List, length, Option, Result, Ok, Err, OnOk, IfOk, refl, sym, ap, subst}
+use Rattle.run_tell.proofs.Vocabulary.{Err, IfOk, IsLinearizableSession, IsScriptRun, IsToldBy, List, Ok, OnOk, Option, PlacedRemark, Result, ap, events_of_record, length, refl, session_of_record, subst, sym, ℕ, ◌∙◌, ◌≡◌, ◌≤◌}
 use Rattle.uni_script.specs.declared.grammar.Version.{Version}
 use Rattle.uni_script.specs.declared.options.Echo.TheVariants.{Off}
 use Rattle.uni_script.specs.declared.script_run.ScriptRun.{ScriptRun}
 use Rattle.uni_script.specs.declared.script_run.ScriptRecord.{ScriptRecord}
 use Rattle.uni_script.specs.declared.script_run.ScriptRecord.TheVariants.{Queue, Directory, Book, Sticky}
-use Rattle.uni_script.specs.ScriptRun.{session_of_record, IsScriptRun}
 use Rattle.uni_script.specs.Scripts.{ScriptSession}
-use Rattle.run_layout.specs.Subject.{events_of_record}
-use Rattle.uni_script.specs.declared.remarks.PlacedRemark.{PlacedRemark}
-use Rattle.run_tell.specs.Told.{IsLinearizableSession, IsToldBy}
 
 events-record : (version : Version) (r : ScriptRecord) → length (session_of_record version r).session.events ≡ events_of_record r
 events-record version (Queue r) = refl

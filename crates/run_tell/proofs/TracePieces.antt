@@ -1,14 +1,6 @@
 -- Lists and texts, piece by piece.
-use Rattle.std.proofs.Common.{◌≡◌, ◌∙◌, ℕ, Option, ◌+◌, ◌<◌, List, [], ◌∷◌, ◌++◌, length, map, take, get_or, ap, sym, append_assoc, length-append, arith}
-use Rattle.std.proofs.lemmas.List.{take_more, map-append}
-use Rattle.run_replay.specs.Frames.{Frame, Stepped, Begins, Steps, Ends}
-use Rattle.run_replay.specs.Scenes.{Scene}
-use Rattle.std.proofs.lemmas.List.Concat.{flat_map-append}
-use Rattle.std.specs.List.{flat_map}
-use Rattle.run_tell.specs.Json.{after_comma, member_text, object_text, separated}
+use Rattle.run_tell.proofs.Vocabulary.{Begins, Ends, Frame, List, Option, Scene, Stepped, Steps, [], after_comma, ap, append_assoc, arith, flat_map, flat_map-append, frame_members, get_or, length, length-append, map, map-append, member_text, memory_members, object_text, scene_line, separated, step_call, step_members, step_place, step_start, sym, take, take_more, ℕ, ◌++◌, ◌+◌, ◌<◌, ◌∙◌, ◌∷◌, ◌≡◌}
 use Rattle.run_tell.proofs.JsonPieces.{members_more}
-use Rattle.run_tell.specs.TraceLines.{scene_line}
-use Rattle.run_tell.specs.TraceMembers.{frame_members, memory_members, step_call, step_members, step_place, step_start}
 
 -- one more element, as it is seen
 pub map_more : {A B D C : Type 0} (f : A → C) (g : D → C) (s : B → D) (old new : List A) (xs : List B) (i : ℕ) (x : B) (y : A) → i < length xs → x ≡ get_or xs i x

@@ -1,9 +1,6 @@
 -- A word before the words of a state, and of a reply.
-use Rattle.std.proofs.Common.{◌≡◌, ◌∙◌, ℕ, ◌+◌, ◌<◌, ◌≤◌, List, [], ◌∷◌, ◌++◌, length, take, drop, slice_set, refl, sym, ap, append-nil, arith}
+use Rattle.small_objects.proofs.Vocabulary.{IsReached, List, Meaning, [], ap, append-nil, arith, drop, drop_all, length, refl, slice_set, state_after, sym, take, take_all, ℕ, ◌++◌, ◌+◌, ◌<◌, ◌∙◌, ◌∷◌, ◌≡◌, ◌≤◌}
 use borrow.Rule.Slice.PartMut.{put_mid}
-use Rattle.std.proofs.lemmas.List.{drop_all, take_all}
-use Rattle.seq_object.specs.History.{state_after}
-use Rattle.uni_small.specs.Image.{IsReached, Meaning}
 use Rattle.small_objects.specs.Placed.{placed}
 
 -- what is written behind the first word, which is written too

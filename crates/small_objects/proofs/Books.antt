@@ -1,15 +1,7 @@
 -- The balances of a book on words.
-use Rattle.std.proofs.Common.{◌≡◌, ◌∙◌, ℕ, ◌<◌, ◌≤◌, inl, inr, refl, subst, sym, List, length, map, slice_index, arith}
-use Rattle.std.proofs.lemmas.List.{get_or_past}
+use Rattle.small_objects.proofs.Vocabulary.{All, IsStateOf, List, arith, book, book_start, call_in, get_or_past, inl, inr, kept_by_calls, length, length-book_next, lt_cases, map, refl, slice_index, state_after, subst, sum, sum_most, sym, ℕ, ◌<◌, ◌∙◌, ◌≡◌, ◌≤◌}
 use Rattle.std.proofs.lemmas.List.Elements.{All-get_or}
-use Rattle.std.specs.List.{All, sum}
-use Rattle.seq_object.specs.History.{state_after}
-use Rattle.uni_model.proofs.Written.{lt_cases}
-use Rattle.uni_small.proofs.Lists.{sum_most}
-use Rattle.ready_objects.specs.Book.{book, book_start}
 use Rattle.ready_objects.proofs.BookSums.{state_after-book_start-limit}
-use Rattle.small_objects.specs.Book.{call_in, length-book_next}
-use Rattle.small_objects.specs.Encoding.{IsStateOf, kept_by_calls}
 
 pub record IsBook (balances : List ℕ) : Type 0 where
   pub sixteen : length balances ≡ 16

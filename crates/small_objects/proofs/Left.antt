@@ -1,8 +1,5 @@
 -- How many calls of each list were made, and of all.
-use Rattle.std.proofs.Common.{Vec, Global, vec_len, ◌≡◌, ◌∙◌, ℕ, zero, suc, ◌+◌, ◌<◌, ◌≤◌, List, [], ◌∷◌, length, map, slice_get, slice_index, Option, Some, None, option_and_then, refl, sym, ap, subst, arith}
-use Rattle.std.specs.List.{sum, sum_by}
-use Rattle.std.proofs.lemmas.List.Sums.{sum_by-cons}
-use Rattle.small_objects.specs.Replay.{next_of}
+use Rattle.small_objects.proofs.Vocabulary.{Global, List, None, Option, Some, Vec, [], ap, arith, length, map, next_of, option_and_then, refl, slice_get, slice_index, subst, suc, sum, sum_by, sum_by-cons, sym, vec_len, zero, ℕ, ◌+◌, ◌<◌, ◌∙◌, ◌∷◌, ◌≡◌, ◌≤◌}
 
 get_below : {A : Type 0} (xs : List A) (i : ℕ) (x : A) → slice_get xs i ≡ Some x → i < length xs
 get_below [] i x e = absurd (let f : None ≡ Some x = e in cc)

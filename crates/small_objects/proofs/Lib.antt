@@ -1,3 +1,4 @@
+pub mod Vocabulary
 pub mod Behind
 pub mod Books
 pub mod Left

@@ -1,16 +1,10 @@
 -- Pairs in a row of words: what the steps of a map on the words do to the pairs.
-use Rattle.std.proofs.Common.{◌≡◌, ◌≢◌, ◌∙◌, ℕ, zero, suc, ◌+◌, ◌-◌, ◌*◌, ◌<◌, ◌≤◌, inl, inr, refl, sym, ap, subst, List, [], ◌∷◌, ◌++◌, length, length-append, slice_index, slice_set, arith, nat_eq, nat_lt, Option, None, Some, is_some, take, drop}
-use Rattle.std.specs.List.{remove}
+use Rattle.small_objects.proofs.Vocabulary.{Absent, Fits, Full, IsStateOf, List, None, Option, Some, Value, [], ap, arith, drop, get_or-remove_above, inl, inr, is_some, length, length-append, length-padded, length-remove, lt_cases, nat_eq, nat_lt, number_cases, padded, refl, remove, slice_index, slice_set, subst, suc, sym, take, zero, ℕ, ◌*◌, ◌++◌, ◌+◌, ◌-◌, ◌<◌, ◌∙◌, ◌∷◌, ◌≡◌, ◌≢◌, ◌≤◌}
 use Rattle.std.specs.Map.{remove_entry, set_value}
 use Rattle.std.proofs.lemmas.Map.{length-set_value}
-use Rattle.std.proofs.lemmas.List.Edits.{get_or-remove_above, length-remove}
-use Rattle.uni_model.proofs.Written.{number_cases, lt_cases}
-use Rattle.small_objects.specs.Encoding.{Fits, IsStateOf}
 use Rattle.small_objects.specs.Map.{before, bounded_map, call_in, flat, insert_answer, map, map_next, map_words, paired, pairs_in, value_of}
-use Rattle.small_objects.specs.Padded.{length-padded, padded}
 use Rattle.small_objects.specs.declared.map.MapCall.{MapCall}
 use Rattle.small_objects.specs.declared.map.MapCall.TheVariants.{Get, Insert, Remove}
-use Rattle.small_objects.specs.declared.map.MapReply.TheVariants.{Absent, Full, Value}
 use Rattle.small_objects.proofs.Reached.{reached_is}
 use Rattle.small_objects.proofs.Rows.{IsTakenOut, index-padded, pushed, reached_few, taken_out}
 

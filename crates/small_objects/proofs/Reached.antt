@@ -1,11 +1,5 @@
 -- An object on the words of its states does what the plain one does.
-use Rattle.std.proofs.Common.{◌≡◌, ◌∙◌, ℕ, refl, sym, ap, List, [], ◌∷◌, ◌++◌, map}
-use Rattle.std.proofs.lemmas.List.{map-append}
-use Rattle.seq_object.specs.Sequential.{Sequential}
-use Rattle.seq_object.specs.History.{state_after}
-use Rattle.uni_model.proofs.Appended.{state_after-append}
-use Rattle.uni_small.specs.Image.{IsReached}
-use Rattle.small_objects.specs.Encoding.{IsStateOf, encoded, Fits, in_words}
+use Rattle.small_objects.proofs.Vocabulary.{Fits, IsReached, IsStateOf, List, Sequential, [], ap, encoded, in_words, map, map-append, refl, state_after, state_after-append, sym, ℕ, ◌++◌, ◌∙◌, ◌∷◌, ◌≡◌}
 
 module _ {S I R : Type 0} (plain : Sequential S I R) (call_in : List ℕ → I) where
   -- one more call leads to such a state again

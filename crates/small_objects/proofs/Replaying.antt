@@ -1,17 +1,7 @@
 -- A replay that has come so far: the first so many calls of each list are made.
-use Rattle.std.proofs.Common.{◌≡◌, ◌≢◌, ◌∙◌, ◌⊎◌, ℕ, zero, suc, ◌+◌, ◌<◌, List, [], ◌∷◌, ◌++◌, length, take, replicate, slice_get, slice_index, slice_set, Option, IsSome, Some, None, inl, inr, refl, sym, ap, subst, length-append, length-set, append-nil, arith}
-use Rattle.std.specs.List.{sum, sum_by}
-use Rattle.std.proofs.lemmas.List.{length-replicate, get_or-set_same, get_or-set_other, map-append, take_all}
-use Rattle.std.proofs.lemmas.List.Sums.{sum_by-set}
+use Rattle.small_objects.proofs.Vocabulary.{AreAnswered, ArePlaced, InPlace, IsBegun, IsFirstDifference, IsReached, IsReplayed, IsSome, List, Made, None, NoneTellsPlace, Option, Sequential, Some, [], ap, append-nil, arith, asked_in, calls_by, get_or-set_other, get_or-set_same, inl, inr, length, length-append, length-replicate, length-set, map-append, next_of, number_cases, refl, replicate, slice_get, slice_get-append_cases, slice_index, slice_set, state_after, state_after-append, subst, suc, sum, sum_by, sum_by-set, sym, take, take_all, zero, ℕ, ◌++◌, ◌+◌, ◌<◌, ◌∙◌, ◌∷◌, ◌≡◌, ◌≢◌, ◌⊎◌}
 use Rattle.std.proofs.lemmas.List.Folds.{sum_by-replicate}
-use Rattle.seq_object.specs.Sequential.{Sequential}
-use Rattle.seq_object.specs.History.{state_after}
 use Rattle.seq_object.specs.declared.call_id.CallId.{CallId}
-use Rattle.uni_model.proofs.Appended.{slice_get-append_cases, state_after-append}
-use Rattle.uni_model.proofs.Written.{number_cases}
-use Rattle.uni_small.specs.Image.{IsReached}
-use Rattle.small_objects.specs.Replay.{ArePlaced, AreAnswered, IsBegun, IsFirstDifference, IsReplayed, Made, NoneTellsPlace, asked_in, calls_by, next_of}
-use Rattle.small_objects.specs.declared.placed.InPlace.{InPlace}
 use Rattle.small_objects.proofs.Left.{Fits, all_made, next_below, next_in, next_room, some_left}
 
 calls_by-append : {C R : Type 0} → (p : ℕ) (xs ys : List (Made C R)) → calls_by p (xs ++ ys) ≡ calls_by p xs ++ calls_by p ys

@@ -1,15 +1,5 @@
 -- Values in a row of words: what the steps on the words do to the values.
-use Rattle.std.proofs.Common.{◌≡◌, ◌≢◌, ◌∙◌, ℕ, zero, suc, ◌+◌, ◌-◌, ◌<◌, ◌≤◌, inl, inr, refl, sym, ap, subst, List, [], ◌∷◌, ◌++◌, length, length-append, length-set, map, take, drop, replicate, slice_index, slice_set, arith, nat_lt, if◌then◌else◌}
-use Rattle.std.specs.List.{remove}
-use Rattle.std.proofs.lemmas.List.Edits.{get_or-remove_above, get_or-remove_below, length-remove}
-use Rattle.seq_object.specs.Sequential.{Sequential}
-use Rattle.seq_object.specs.History.{state_after}
-use Rattle.uni_model.proofs.Written.{number_cases, lt_cases}
-use Rattle.uni_small.proofs.Lists.{same_list}
-use Rattle.small_objects.specs.Encoding.{IsStateOf, encoded, Fits, first_word}
-use Rattle.small_objects.specs.Padded.{padded, row_of, values_in, length-padded}
-use Rattle.small_objects.specs.Queue.{bounded_queue, queue_next, queue}
-use Rattle.small_objects.specs.Stack.{bounded_stack, stack_next, stack}
+use Rattle.small_objects.proofs.Vocabulary.{Fits, IsStateOf, List, Sequential, [], ap, arith, bounded_queue, bounded_stack, drop, encoded, first_word, get_or-remove_above, get_or-remove_below, if◌then◌else◌, inl, inr, length, length-append, length-padded, length-remove, length-set, lt_cases, map, nat_lt, number_cases, padded, queue, queue_next, refl, remove, replicate, row_of, same_list, slice_index, slice_set, stack, stack_next, state_after, subst, suc, sym, take, values_in, zero, ℕ, ◌++◌, ◌+◌, ◌-◌, ◌<◌, ◌∙◌, ◌∷◌, ◌≡◌, ◌≢◌, ◌≤◌}
 use Rattle.small_objects.proofs.Reached.{reached_is}
 
 -- a row of zeros has no values

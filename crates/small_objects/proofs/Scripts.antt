@@ -1,15 +1,10 @@
 -- The queue of scripts on words: what its steps do to its values.
-use Rattle.std.proofs.Common.{◌≡◌, ◌∙◌, ℕ, zero, suc, ◌+◌, ◌-◌, ◌<◌, ◌≤◌, inl, inr, refl, sym, ap, subst, List, [], ◌∷◌, ◌++◌, drop, length, length-append, map, slice_index, slice_set, arith, nat_lt}
-use Rattle.seq_object.specs.History.{state_after}
-use Rattle.uni_model.proofs.Written.{number_cases, lt_cases}
+use Rattle.small_objects.proofs.Vocabulary.{Added, Empty, Fits, IsStateOf, List, None, Option, Some, Taken, [], ap, arith, drop, inl, inr, kept_by_calls, length, length-append, lt_cases, map, nat_lt, number_cases, padded, refl, row_of, slice_index, slice_set, state_after, subst, suc, sym, values_in, zero, ℕ, ◌++◌, ◌+◌, ◌-◌, ◌<◌, ◌∙◌, ◌∷◌, ◌≡◌, ◌≤◌}
 use Rattle.ready_objects.specs.Queue.{queue}
 use Rattle.ready_objects.specs.declared.queue.QueueInv.{QueueInv}
 use Rattle.ready_objects.specs.declared.queue.QueueInv.TheVariants.{Deq, Enq}
-use Rattle.ready_objects.specs.declared.queue.QueueResp.TheVariants.{Added, Empty, Full, Taken}
-use Rattle.std.proofs.Common.{Option, None, Some}
+use Rattle.ready_objects.specs.declared.queue.QueueResp.TheVariants.{Full}
 use Rattle.small_objects.specs.Amount.{IsAmount, amount_in, amount_in-IsAmount}
-use Rattle.small_objects.specs.Encoding.{Fits, IsStateOf, kept_by_calls}
-use Rattle.small_objects.specs.Padded.{padded, row_of, values_in}
 use Rattle.small_objects.specs.ScriptQueue.{call_in, on_words, put_of, queue_of, reply_to, reply_words, spelled, values_after}
 use Rattle.small_objects.proofs.Reached.{after_in, follows_plain, reached_is}
 use Rattle.small_objects.proofs.Rows.{HasValues, IsTakenOut, count_is, index_beyond, out_row, put_row, row_fits, word_is}

@@ -1,11 +1,6 @@
 -- What `escaped` makes.
-use Rattle.std.specs.Prelude.{◌≡◌, ◌≢◌, ℕ, ◌==◌, if◌then◌else◌, None, true, false, List, [], ◌∷◌, ◌++◌, refl}
-use Rattle.std.proofs.Common.{◌∙◌, ◌+◌, ◌<◌, ◌/◌, ◌%◌, inl, inr, suc, zero, ap, sym, subst, arith}
-use Rattle.std.proofs.lemmas.Bool.{cases_eq, eqb-false, ne_eqb, lt-ltb}
-use Rattle.std.specs.List.{AllByRecursion}
-use Rattle.std.specs.Fmt.{decimal, digits, digits_onto, digit_glyph}
-use Rattle.svg_text.specs.Svg.{escaped_byte, escaped}
-use Rattle.svg_text.specs.Xml.{read_on, unescaped, IsNoMarkup}
+use Rattle.svg_text.proofs.Vocabulary.{AllByRecursion, IsNoMarkup, List, None, [], ap, arith, cases_eq, decimal, digit_glyph, digits, digits_onto, eqb-false, escaped, escaped_byte, false, if◌then◌else◌, inl, inr, lt-ltb, ne_eqb, read_on, refl, subst, suc, sym, true, unescaped, zero, ℕ, ◌%◌, ◌+◌, ◌/◌, ◌<◌, ◌==◌, ◌∙◌, ◌∷◌, ◌≢◌}
+use Rattle.std.specs.Prelude.{◌≡◌, ◌++◌}
 
 -- what holds of each byte that has a name, and of each that has none
 abbrev Cases : (ℕ → Type 0) → Type 0

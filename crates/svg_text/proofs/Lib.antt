@@ -1,3 +1,4 @@
+pub mod Vocabulary
 pub mod Escapes
 pub mod Outcomes
 pub mod Pieces

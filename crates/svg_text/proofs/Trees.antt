@@ -1,19 +1,13 @@
 -- The text of a picture is that of its tree.
-use Rattle.std.specs.Prelude.{◌≡◌, ℕ, true, List, [], ◌∷◌, ◌++◌, codes, refl}
-use Rattle.std.proofs.Common.{◌∙◌, ap, ap₂, sym, append_assoc, append-nil}
-use Rattle.std.proofs.lemmas.Bool.{and_from}
+use Rattle.svg_text.proofs.Vocabulary.{Dot, Element, End, Figure, Line, List, Picture, Rect, Text, Tip, Titled, View, Words, [], anchor_name, and_from, ap, append-nil, append_assoc, ap₂, are_well_named, attribute, attribute_text, attributes_of, attributes_text, code_of, codes, content_text, decimal, escaped, escaped_byte, figure_line, figure_node, figure_text, figures_text, fill, flat_map, is_well_named, node_text, nodes, nodes_text, number, paint_attributes, paper_node, paper_text, point, refl, size_text, strip_node, strip_text, stroke, svg_attributes, svg_node, svg_text, sym, title_text, titled, titled_content, true, view_box, ℕ, ◌∙◌, ◌∷◌}
+use Rattle.std.specs.Prelude.{◌≡◌, ◌++◌}
 use Rattle.std.proofs.lemmas.List.Concat.{flat_map-append}
-use Rattle.std.specs.List.{flat_map}
-use Rattle.std.specs.Fmt.{decimal}
 use Rattle.svg_text.specs.declared.paint.Colour.{Colour}
 use Rattle.svg_text.specs.declared.paint.Colour.TheVariants.{Orange, SkyBlue, Green, Yellow, Blue, Vermilion, Purple}
 use Rattle.svg_text.specs.declared.paint.Paint.{Paint}
 use Rattle.svg_text.specs.declared.paint.Paint.TheVariants.{Paper, Frame, Ink, Title, DarkLetter, LightLetter, Faint, Edge, Broken, Thick, Cross, Mark, Pale}
 use Rattle.svg_text.specs.declared.shape.Anchor.{Anchor}
 use Rattle.svg_text.specs.declared.shape.Anchor.TheVariants as anchors
-use Rattle.svg_text.specs.Figures.{Figure, Rect, Titled, Line, Dot, Tip, Text, View, Picture}
-use Rattle.svg_text.specs.Svg.{escaped_byte, escaped, attribute_text, attributes_of, code_of, anchor_name, view_box, point, figure_text, figures_text, size_text, title_text, paper_text, strip_text, svg_text, content_text, titled_content}
-use Rattle.svg_text.specs.Xml.{Element, Words, End, attributes_text, node_text, nodes_text, is_well_named, are_well_named, nodes, attribute, number, fill, stroke, paint_attributes, figure_node, figure_line, svg_attributes, titled, paper_node, strip_node, svg_node}
 use Rattle.svg_text.proofs.Escapes.{escaped_decimal}
 
 -- a number is written as it stands

@@ -1,24 +1,6 @@
 -- What a call that is begun leaves.
-use Rattle.std.proofs.Common.{◌≡◌, ◌≢◌, ◌∙◌, ℕ, ◌+◌, ◌-◌, ◌<◌, ◌≤◌, refl, sym, ap, subst, Option, Some, None, option_map, not, is_some, IsSome, arith, Bool, true, false, length, slice_get, get_or}
-use Rattle.std.proofs.lemmas.Option.{slice_get_read}
-use Rattle.seq_object.specs.Sequential.{Sequential}
-use Rattle.cell_arena.specs.CellRecord.{ChangesOnly, index_of}
-use Rattle.cell_arena.specs.Arena.{processes_of, made_of}
-use Rattle.uni_model.specs.Places.{memory_with}
-use Rattle.uni_model.specs.Places.Name.{Of}
-use Rattle.uni_model.specs.Places.Place.{InvOf}
-use Rattle.uni_model.specs.Places.Content.{Invocation}
-use Rattle.uni_model.specs.Worlds.{world_after_call, calls_in_era}
-use Rattle.uni_model.specs.Worlds.Event.{Call}
-use Rattle.uni_model.proofs.Simulation.{call_accepted}
-use Rattle.uni_core.specs.declared.local.Local.{Local}
-use Rattle.uni_core.specs.SharedEntries.{SharedEntries, first_of, named, memory_of}
-use Rattle.uni_core.specs.declared.stage.Pending.{Pending}
-use Rattle.uni_core.specs.Stage.{pending_of}
+use Rattle.uni_core.proofs.Vocabulary.{Bool, Call, CallId, ChangesOnly, InvOf, Invocation, IsSome, IsWorld, Local, None, Of, Option, Pending, Sequential, SharedEntries, Some, TakesEffect, Whole, ap, arith, call_accepted, call_at, calls_in_era, current_of, false, first_of, get_or, index_of, is_some, length, made_of, memory_of, memory_with, name_from-index_of, named, not, option_map, pending_of, processes_of, refl, slice_get, slice_get_read, subst, sym, true, world_after_call, world_of, ℕ, ◌+◌, ◌-◌, ◌<◌, ◌∙◌, ◌≡◌, ◌≢◌, ◌≤◌}
 use Rattle.uni_model.specs.Stages.{Pending as PendingAt}
-use Rattle.seq_object.specs.declared.call_id.CallId.{CallId}
-use Rattle.uni_core.specs.World.{Whole, world_of, call_at, current_of, IsWorld, TakesEffect}
-use Rattle.uni_model.proofs.Indices.{name_from-index_of}
 use Rattle.uni_core.proofs.Shown.{begun_whole, world_of-begun, IsWorld-begun}
 
 -- a process that there is, by the count of processes as it was read

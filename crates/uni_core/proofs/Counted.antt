@@ -1,7 +1,6 @@
 -- The bounds of a process's latest call, pending or returned.
-use Rattle.std.proofs.Common.{◌≡◌, ℕ, ◌+◌, ◌*◌, ◌<◌, ◌≤◌, Option, Some, None, IsSome, arith}
+use Rattle.uni_core.proofs.Vocabulary.{IsSome, IsWithinBound, None, Option, Some, arith, ℕ, ◌*◌, ◌+◌, ◌<◌, ◌≡◌, ◌≤◌}
 use Rattle.uni_model.specs.Stages.{Pending}
-use Rattle.uni_model.specs.Bound.{IsWithinBound}
 
 module _ (n : ℕ) where
   pub bound_pending : (o : Option Pending) (begun among steps turns : ℕ) → IsWithinBound n o begun among steps turns → IsSome o → (among ≡ n) × (turns ≤ n + 1) × (steps < 10 * n + 12)

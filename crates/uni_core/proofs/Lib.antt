@@ -1,3 +1,4 @@
+pub mod Vocabulary
 pub mod Named
 pub mod Written
 pub mod SharedPlaces

@@ -1,25 +1,6 @@
 -- When two worlds are the same.
-use Rattle.std.proofs.Common.{◌≡◌, ◌∙◌, ℕ, zero, suc, ◌+◌, ◌-◌, ◌<◌, ◌≤◌, refl, sym, ap, subst, Option, Some, None, Bool, true, false, is_some, arith}
-use Rattle.seq_object.specs.Sequential.{Sequential}
-use Rattle.std.proofs.lemmas.Option.{slice_get_read, slice_get_past}
-use Rattle.std.proofs.lemmas.Bool.{cases_lt}
-use Rattle.std.proofs.Common.{◌⊎◌, inl, inr, length, get_or, List, option_map, if◌then◌else◌, slice_get, ◌&&◌, nat_lt}
+use Rattle.uni_core.proofs.Vocabulary.{AfterOf, Anchor, Announced, BeforeOf, Bool, CellRecord, Content, HeadOf, InvOf, Invariant, Invocation, IsAfter, Link, List, Local, Name, NewOf, None, Number, Of, Option, Outline, Place, SeqOf, Sequential, Settled, Some, Standing, Whole, WorldOf, after_of, ap, arith, call_at, cases_lt, cell_named, cell_of, false, first_of, get_or, if◌then◌else◌, index_of, inl, inr, inv_of, invocation_in, is_some, length, link_in, memory_at, memory_of, name_from, nat_lt, new_of, option_map, option_map_or, outline, pending_of, processes_of, refl, settled_in, slice_get, slice_get_past, slice_get_read, standing_of, subst, suc, sym, true, without_counts, world_of, zero, ℕ, ◌&&◌, ◌+◌, ◌-◌, ◌<◌, ◌∙◌, ◌≡◌, ◌≤◌, ◌⊎◌}
 use Rattle.std.specs.Prelude.{option_and_then, slice_index_or}
-use Rattle.std.specs.Option.{option_map_or}
-use Rattle.cell_arena.specs.CellRecord.{CellRecord, index_of}
-use Rattle.cell_arena.specs.Arena.{processes_of, cell_of}
-use Rattle.uni_model.specs.Places.{Name, Place, Content, inv_of, after_of, new_of, invocation_in, link_in, settled_in}
-use Rattle.uni_model.specs.Places.Place.{Announced, HeadOf, InvOf, SeqOf, AfterOf, NewOf, BeforeOf}
-use Rattle.uni_model.specs.Places.Content.{Invocation, Number, Link, Settled}
-use Rattle.uni_model.specs.Indices.{name_from}
-use Rattle.uni_core.specs.declared.local.Local.{Local}
-use Rattle.uni_core.specs.SharedEntries.{first_of, memory_of, memory_at, cell_named}
-use Rattle.uni_core.specs.Stage.{pending_of}
-use Rattle.uni_core.specs.World.{Whole, world_of, call_at}
-use Rattle.uni_core.specs.Same.{without_counts, Outline, outline, Standing, standing_of}
-use Rattle.uni_model.specs.Places.Name.{Anchor, Of}
-use Rattle.uni_model.specs.Worlds.{WorldOf}
-use Rattle.uni_model.specs.Invariant.{Invariant, IsAfter}
 
 none_both : {A : Type 0} (o o' : Option A) → o ≡ None → is_some o ≡ is_some o' → o ≡ o'
 none_both None None e f = refl

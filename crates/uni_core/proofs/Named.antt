@@ -1,13 +1,5 @@
 -- The cells of names, by their indices.
-use Rattle.std.proofs.Common.{◌≡◌, ◌≢◌, ◌∙◌, ℕ, zero, suc, ◌+◌, ◌-◌, ◌/◌, ◌%◌, ◌<◌, ◌≤◌, ◌⊎◌, inl, inr, refl, sym, ap, Option, arith}
-use Rattle.std.proofs.lemmas.Nat.{mod_below}
-use Rattle.cell_arena.specs.CellRecord.{CellRecord, index_of, ChangesOnly}
-use Rattle.uni_model.specs.Places.{Name}
-use Rattle.uni_model.specs.Places.Name.{Anchor, Of}
-use Rattle.uni_model.proofs.Written.{number_cases, lt_cases}
-use Rattle.uni_model.proofs.Indices.{index_of-name, name_from-index_of, same_index_from}
-use Rattle.uni_model.specs.Indices.{name_from}
-use Rattle.uni_core.specs.SharedEntries.{cell_named}
+use Rattle.uni_core.proofs.Vocabulary.{Anchor, CellRecord, ChangesOnly, Name, Of, Option, ap, arith, cell_named, index_of, index_of-name, inl, inr, lt_cases, mod_below, name_from, name_from-index_of, number_cases, refl, same_index_from, suc, sym, zero, ℕ, ◌%◌, ◌+◌, ◌-◌, ◌/◌, ◌<◌, ◌∙◌, ◌≡◌, ◌≢◌, ◌≤◌, ◌⊎◌}
 
 module _ {S I R : Type 0} (n : ℕ) (first : ℕ → ℕ) (positive : 1 ≤ n) (cell : ℕ → Option (CellRecord S I R)) where
   pub cell_named-name_from : (i : ℕ) → cell_named n first cell (name_from n first i) ≡ cell i

@@ -1,26 +1,10 @@
 -- What is told of a process's next step: that its cells are there, and whether it changes its place.
-use Rattle.std.proofs.lemmas.Nat.{mod_below}
-use Rattle.std.proofs.Common.{◌≡◌, ◌≢◌, ◌∙◌, ◌↔◌, ℕ, ◌<◌, inl, inr, refl, sym, ap, subst, Option, Some, None, option_map, IfSome, IsTrue, arith, Bool}
-use Rattle.seq_object.specs.Sequential.{Sequential}
-use Rattle.cell_arena.specs.Arena.{processes_of}
-use Rattle.uni_model.specs.Places.{Name, Place, inv_of}
-use Rattle.uni_model.specs.Places.Name.{Anchor, Of}
-use Rattle.uni_model.specs.Places.Place.{Announced, HeadOf, InvOf, SeqOf, AfterOf, NewOf, BeforeOf}
+use Rattle.uni_core.proofs.Vocabulary.{AfterOf, Anchor, Announce, Announced, BeforeOf, Bool, CanStep, ChangesAt, DecideAfter, DecideNew, Finish, Has, HeadOf, IfSome, InvOf, IsThere, IsTrue, IsWorld, Name, NewOf, None, Of, Option, Pending, Place, ReadAnnounce, ReadHelpSeq, ScanHead, ScanSeq, SeqOf, Sequential, SharedEntries, Some, Stage, Step, Test, Whole, WriteBefore, WriteHead, WriteScan, WriteSeq, ap, arith, effect_at, inl, inr, inv_of, memory_of, mod_below, named, option_map, pending_of, place_of, processes_of, refl, stage_of, subst, sym, world_after, world_of, ℕ, ◌<◌, ◌↔◌, ◌∙◌, ◌≡◌, ◌≢◌}
 use Rattle.uni_model.specs.Stages.{Stage as at, Pending as PendingAt}
-use Rattle.uni_model.specs.Transition.{place_of}
-use Rattle.uni_model.specs.Worlds.{world_after}
-use Rattle.uni_model.specs.Worlds.Event.{Step}
-use Rattle.uni_model.specs.Invariant.{Has}
 use Rattle.uni_model.proofs.SamePlace.{place_eq_same}
-use Rattle.uni_core.specs.declared.stage.Stage.{Stage}
-use Rattle.uni_core.specs.declared.stage.Stage.TheVariants.{Announce, ScanHead, ScanSeq, WriteScan, Test, ReadAnnounce, ReadHelpSeq, DecideAfter, DecideNew, WriteBefore, WriteSeq, WriteHead, Finish}
 use Rattle.uni_core.specs.declared.stage.Place.{Place as PlaceById}
 use Rattle.uni_core.specs.declared.stage.Place.TheVariants as by_id
-use Rattle.uni_core.specs.declared.stage.Pending.{Pending}
-use Rattle.uni_core.specs.SharedEntries.{SharedEntries, named, memory_of}
-use Rattle.uni_core.specs.Stage.{stage_of, pending_of, effect_at, CanStep, ChangesAt, IsThere}
 use Rattle.uni_core.specs.Readers.{place_named, proposed_at, ChangesItsPlace, IsPlaceIn}
-use Rattle.uni_core.specs.World.{Whole, world_of, IsWorld}
 use Rattle.uni_core.proofs.Begin.{inside_view}
 use Rattle.uni_core.proofs.Steppable.{CanStep-pending, there_inv}
 

@@ -1,12 +1,6 @@
 -- The counts of a process that has begun no call stay 0.
-use Rattle.std.proofs.Common.{◌≡◌, ℕ, ◌+◌, ◌≤◌, inl, inr, refl, ap, Option, Some, None, arith}
-use Rattle.std.specs.Option.{option_map_or}
-use Rattle.seq_object.specs.Sequential.{Sequential}
-use Rattle.uni_model.specs.Places.{seq_of}
+use Rattle.uni_core.proofs.Vocabulary.{CountsNone, None, Option, Sequential, Some, WorldOf, anchor_memory, ap, arith, inl, inr, last_cell, number_cases, opened_world, option_map_or, refl, seq_of, world_after_call, world_after_era, world_after_step, ℕ, ◌+◌, ◌≡◌, ◌≤◌}
 use Rattle.uni_model.specs.Stages.{Pending}
-use Rattle.uni_model.specs.Worlds.{WorldOf, anchor_memory, last_cell, opened_world, world_after_call, world_after_step, world_after_era}
-use Rattle.uni_model.proofs.Written.{number_cases}
-use Rattle.uni_core.specs.World.{CountsNone}
 
 pub CountsNone-opened_world : {S : Type 0} (I R : Type 0) (n : ℕ) (s : S) (number : ℕ) → CountsNone {S = S} {I = I} {R = R} (opened_world n s number)
 CountsNone-opened_world I R n s number p e = (refl, refl, refl)

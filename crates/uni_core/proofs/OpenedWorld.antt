@@ -1,21 +1,5 @@
 -- The world that is shown when no process has called yet.
-use Rattle.std.proofs.Common.{◌≡◌, ◌∙◌, ℕ, zero, suc, ◌+◌, ◌*◌, ◌<◌, ◌≤◌, ◌^◌, refl, sym, ap, subst, List, Option, Some, None, arith, length, slice_get, replicate, slice_index_or}
-use Rattle.std.specs.Option.{option_map_or}
-use Rattle.std.proofs.lemmas.List.{length-replicate}
-use Rattle.seq_object.specs.Sequential.{Sequential}
-use Rattle.cell_arena.specs.Arena.{processes_of, made_of}
-use Rattle.uni_model.specs.Places.{Memory, seq_of}
-use Rattle.uni_model.specs.Places.Name.{Anchor}
-use Rattle.uni_model.specs.Worlds.{WorldOf, anchor_memory, opened_world}
-use Rattle.uni_model.specs.Helping.{HelpingInvariant}
-use Rattle.uni_model.specs.Counting.{CountsSteps}
-use Rattle.uni_model.proofs.Counted.{CountsSteps-opened_world}
-use Rattle.uni_model.proofs.Bounded.{HelpingInvariant-opened_world}
-use Rattle.uni_core.specs.declared.local.Local.{Local}
-use Rattle.uni_model.specs.Indices.{name_from}
-use Rattle.uni_core.specs.Local.{new_local}
-use Rattle.uni_core.specs.SharedEntries.{SharedEntries, first_of, memory_of}
-use Rattle.uni_core.specs.World.{Whole, call_at, world_at, world_of, CountsNone, IsWorld}
+use Rattle.uni_core.proofs.Vocabulary.{Anchor, CountsNone, CountsSteps, CountsSteps-opened_world, HelpingInvariant, HelpingInvariant-opened_world, IsWorld, List, Local, Memory, None, Option, Sequential, SharedEntries, Some, Whole, WorldOf, anchor_memory, ap, arith, call_at, first_of, length, length-replicate, made_of, memory_of, name_from, new_local, opened_world, option_map_or, processes_of, refl, replicate, seq_of, slice_get, slice_index_or, subst, suc, sym, world_at, world_of, zero, ℕ, ◌*◌, ◌+◌, ◌<◌, ◌^◌, ◌∙◌, ◌≡◌, ◌≤◌}
 use Rattle.uni_core.proofs.NoCalls.{CountsNone-opened_world}
 
 -- a function of what a process keeps says of copies what it says where there is none, if it says so of what is copied

@@ -1,17 +1,5 @@
 -- What the readers of a world answer.
-use Rattle.std.proofs.Common.{◌≡◌, ◌∙◌, ℕ, ◌+◌, ◌-◌, ◌^◌, ◌<◌, ◌≤◌, length, sym, ap, subst, Option, Some, None, option_map, IfSome, arith}
-use Rattle.seq_object.specs.Sequential.{Sequential}
-use Rattle.cell_arena.specs.CellRecord.{index_of}
-use Rattle.cell_arena.specs.Arena.{processes_of}
-use Rattle.uni_model.specs.Places.{Name, head_of, seq_of, after_of, inv_of, before_of}
-use Rattle.uni_model.specs.Places.Name.{Anchor, Of}
-use Rattle.uni_model.specs.Worlds.{chain}
-use Rattle.uni_model.specs.Invariant.{Has}
-use Rattle.uni_model.proofs.OneLists.{length-chain}
-use Rattle.uni_core.specs.SharedEntries.{first_of, named, memory_of}
-use Rattle.uni_core.specs.Stage.{IsThere}
-use Rattle.uni_core.specs.World.{Whole, world_of, IsWorld}
-use Rattle.uni_model.proofs.Indices.{name_from-index_of}
+use Rattle.uni_core.proofs.Vocabulary.{Anchor, Has, IfSome, IsThere, IsWorld, Name, None, Of, Option, Sequential, Some, Whole, after_of, ap, arith, before_of, chain, first_of, head_of, index_of, inv_of, length, length-chain, memory_of, name_from-index_of, named, option_map, processes_of, seq_of, subst, sym, world_of, ℕ, ◌+◌, ◌-◌, ◌<◌, ◌^◌, ◌∙◌, ◌≡◌, ◌≤◌}
 use Rattle.uni_core.proofs.Begin.{inside_view}
 use Rattle.uni_core.proofs.Steppable.{last_small, there_seq, there_inv}
 

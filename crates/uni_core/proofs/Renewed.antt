@@ -1,29 +1,6 @@
 -- The world that is shown after the end of an era.
-use Rattle.std.proofs.Common.{◌≡◌, ◌∙◌, ℕ, zero, suc, ◌+◌, ◌*◌, ◌<◌, ◌≤◌, ◌^◌, refl, sym, ap, subst, List, [], ◌∷◌, Option, Some, None, option_map, IsSome, IsSomeAnd, IfSome, arith, length, slice_get, slice_index_or}
-use Rattle.std.specs.Option.{option_map_or}
-use Rattle.seq_object.specs.Sequential.{Sequential}
-use Rattle.cell_arena.specs.CellRecord.{CellRecord}
-use Rattle.cell_arena.specs.Arena.{processes_of, made_of, cell_of}
-use Rattle.uni_model.specs.Places.{Name, Memory, seq_of, new_of}
-use Rattle.uni_model.specs.Places.Name.{Anchor}
-use Rattle.uni_model.specs.Worlds.{anchor_memory, last_cell, calls_in_era, world_after_era, IsQuiescent}
-use Rattle.uni_model.specs.Counting.{era_calls}
-use Rattle.uni_model.specs.Worlds.Event.{Reshape}
-use Rattle.uni_model.specs.Invariant.{Has}
-use Rattle.uni_model.specs.Helping.{HelpingInvariant}
-use Rattle.uni_model.specs.Counting.{CountsSteps}
-use Rattle.uni_model.proofs.Kept.{idle_when_quiescent, last_cell_threaded}
-use Rattle.uni_model.proofs.Simulation.{enough}
-use Rattle.uni_model.proofs.OneLists.{number-last_of}
+use Rattle.uni_core.proofs.Vocabulary.{Anchor, CellRecord, CountsNone, CountsSteps, CountsSteps-world_after, Has, HelpingInvariant, HelpingInvariant-world_after, IfSome, IsQuiescent, IsRenewed, IsSome, IsSomeAnd, IsWorld, List, Local, Memory, Name, None, Option, Pending, Reshape, Sequential, SharedEntries, Some, Whole, [], anchor_memory, ap, arith, call_at, calls_in_era, cell_of, enough, era_calls, first_of, idle_when_quiescent, last_cell, last_cell_threaded, length, made_of, memory_of, named, new_local, new_of, number-last_of, option_map, option_map_or, pending_of, processes_of, refl, seq_of, slice_get, slice_index_or, subst, suc, sym, world_after_era, world_of, zero, ℕ, ◌*◌, ◌+◌, ◌<◌, ◌^◌, ◌∙◌, ◌∷◌, ◌≡◌, ◌≤◌}
 use Rattle.uni_model.proofs.AllLinked.{calls_numbered}
-use Rattle.uni_model.proofs.Bounded.{HelpingInvariant-world_after}
-use Rattle.uni_model.proofs.Counted.{CountsSteps-world_after}
-use Rattle.uni_core.specs.declared.local.Local.{Local}
-use Rattle.uni_core.specs.declared.stage.Pending.{Pending}
-use Rattle.uni_core.specs.Stage.{pending_of}
-use Rattle.uni_core.specs.Local.{new_local}
-use Rattle.uni_core.specs.SharedEntries.{SharedEntries, first_of, named, memory_of, IsRenewed}
-use Rattle.uni_core.specs.World.{Whole, call_at, world_of, CountsNone, IsWorld}
 use Rattle.uni_core.proofs.NoCalls.{CountsNone-world_after_era}
 use Rattle.uni_core.proofs.Named.{cell_named-name_from}
 

@@ -1,17 +1,10 @@
 -- What a command does, and the run of a list of them.
-use Rattle.std.proofs.Common.{◌≡◌, ◌∙◌, ℕ, ◌+◌, ◌-◌, ◌<◌, ◌≤◌, refl, sym, ap, subst, List, [], ◌∷◌, ◌++◌, append_assoc, Option, Some, None, option_map, IsSome, suc, get_or, take, length, Ok, Err, arith}
-use Rattle.std.proofs.lemmas.List.{append-nil}
+use Rattle.uni_core.proofs.Vocabulary.{AcceptsAll-append, Act, AreAccepted, CallId, CanGo, Done, Err, Event, Follows, Going, IsSome, IsStepRefused, List, MayNeedMemory, None, Ok, Option, Sequential, Some, Whole, WorldOf, [], ap, append-nil, append_assoc, arith, current_of, get_or, length, option_map, option_map_or, progress_of, refl, subst, suc, sym, take, world_after, world_after_all, world_of, ℕ, ◌++◌, ◌+◌, ◌-◌, ◌<◌, ◌∙◌, ◌∷◌, ◌≡◌, ◌≤◌}
 use Rattle.std.proofs.Math.Seq.{take-suc, take-length}
-use Rattle.std.specs.Option.{option_map_or}
 use Rattle.std.specs.Result.{IsErrOf}
-use Rattle.seq_object.specs.Sequential.{Sequential}
-use Rattle.seq_object.specs.declared.call_id.CallId.{CallId}
 use Rattle.uni_model.specs.Stages.{Pending}
-use Rattle.uni_model.specs.Worlds.{WorldOf, Event, AreAccepted, world_after, world_after_all}
 use Rattle.uni_model.specs.Growth.{EndNoEra}
-use Rattle.uni_model.specs.AtomicObject.{Act}
 use Rattle.uni_model.specs.History.{acts_of, history_of}
-use Rattle.uni_model.proofs.LawProofs.{AcceptsAll-append}
 use Rattle.uni_core.specs.declared.command.Command.{Command}
 use Rattle.uni_core.specs.declared.command.Command.TheVariants.{Call, Step}
 use Rattle.uni_core.specs.declared.command.Refusal.{Refusal}
@@ -19,9 +12,6 @@ use Rattle.uni_core.specs.declared.command.Outcome.{Outcome}
 use Rattle.uni_core.specs.declared.command.Outcome.TheVariants.{Called, Went, Returned, Refused}
 use Rattle.uni_core.specs.declared.fault.StepFault.{StepFault}
 use Rattle.uni_core.specs.declared.fault.StepFault.TheVariants as step
-use Rattle.uni_core.specs.declared.fault.Progress.TheVariants.{Going, Done}
-use Rattle.uni_core.specs.World.{Whole, world_of, current_of, progress_of, Follows, MayNeedMemory}
-use Rattle.uni_core.specs.Refusals.{CanGo, IsStepRefused}
 use Rattle.uni_core.proofs.Begin.{none_isn't_some}
 use Rattle.uni_core.specs.Run.{IsOutcome, after_command, event_of, events_of, AreOutcomes, TakesCommand}
 

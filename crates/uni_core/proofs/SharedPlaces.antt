@@ -1,16 +1,5 @@
 -- The shared places after each call of the arena and of the entries.
-use Rattle.std.proofs.Common.{◌≡◌, ◌∙◌, ℕ, ◌<◌, ◌≤◌, refl, sym, ap, subst, List, Option, Some, None, option_map, IsSome, arith, true, false, length, slice_get, slice_set, unwrap_or, replicate, zero, suc, inl, inr, ◌+◌, ◌-◌, IfSome}
-use Rattle.std.specs.Option.{option_map_or, option_or}
-use Rattle.cell_arena.specs.CellRecord.{CellRecord, index_of, ChangesOnly, with_seq, with_before, with_after, with_new, fresh, settled, anchor_with, anchor_for, HasOnlyAnchor}
-use Rattle.cell_arena.specs.Arena.{Arena, processes_of, made_of, cell_of}
-use Rattle.uni_model.specs.Places.{Name, Place, Content, memory_with, after_of, new_of}
-use Rattle.uni_model.specs.Places.Name.{Anchor, Of}
-use Rattle.uni_model.specs.Places.Place.{Announced, HeadOf, InvOf, SeqOf, AfterOf, NewOf, BeforeOf}
-use Rattle.uni_model.specs.Places.Content.{CellName, Invocation, Number, Link, Settled}
-use Rattle.uni_model.specs.Worlds.{anchor_memory}
-use Rattle.uni_model.proofs.Written.{number_cases, lt_cases}
-use Rattle.uni_model.specs.Indices.{name_from}
-use Rattle.uni_core.specs.SharedEntries.{SharedEntries, first_of, named, cell_named, memory_at, memory_of, IsRenewed}
+use Rattle.uni_core.proofs.Vocabulary.{AfterOf, Anchor, Announced, Arena, BeforeOf, CellName, CellRecord, ChangesOnly, Content, HasOnlyAnchor, HeadOf, IfSome, InvOf, Invocation, IsRenewed, IsSome, Link, List, Name, NewOf, None, Number, Of, Option, Place, SeqOf, Settled, SharedEntries, Some, after_of, anchor_for, anchor_memory, anchor_with, ap, arith, cell_named, cell_of, false, first_of, fresh, index_of, inl, inr, length, lt_cases, made_of, memory_at, memory_of, memory_with, name_from, named, new_of, number_cases, option_map, option_map_or, option_or, processes_of, refl, replicate, settled, slice_get, slice_set, subst, suc, sym, true, unwrap_or, with_after, with_before, with_new, with_seq, zero, ℕ, ◌+◌, ◌-◌, ◌<◌, ◌∙◌, ◌≡◌, ◌≤◌}
 use Rattle.uni_core.proofs.Named.{cell_named-name_from}
 use Rattle.uni_core.proofs.Written.{memory_at-with_seq, memory_at-with_before, memory_at-with_after, memory_at-with_new, memory_at-made, memory_at-announce, memory_at-head}
 

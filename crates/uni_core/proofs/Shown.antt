@@ -1,37 +1,9 @@
 -- The world that is shown, after a process's own data changed.
-use Rattle.std.proofs.Common.{◌≡◌, ◌∙◌, ℕ, ◌+◌, ◌-◌, ◌*◌, ◌<◌, ◌≤◌, ◌^◌, inl, inr, refl, sym, ap, subst, List, Option, Some, None, option_map, arith, length, slice_get, slice_set, slice_index_or}
-use Rattle.std.specs.Option.{option_map_or}
+use Rattle.uni_core.proofs.Vocabulary.{Anchor, Call, ChangesOnly, CountsNone, CountsSteps, CountsSteps-world_after, Grows, HelpingInvariant, HelpingInvariant-world_after, InvOf, Invariant, Invariant-world_after_step, Invocation, IsAccepted, IsWorld, List, Local, Memory, None, Of, Option, Pending, Sequential, SharedEntries, Some, Stage, Step, Takes, Whole, WorldOf, ap, arith, call_at, first_of, inl, inr, length, made_of, memory_of, memory_with, name_from, named, number_cases, option_map, option_map_or, pending_of, place_of, processes_of, refl, seq_of, set_at, slice_get, slice_get-set_other, slice_get-set_same, slice_index_or, slice_set, stage_of, subst, sym, turn_of, world_after, world_after_call, world_after_step, world_at, world_of, ℕ, ◌*◌, ◌+◌, ◌-◌, ◌<◌, ◌^◌, ◌∙◌, ◌≡◌, ◌≤◌}
 use Rattle.std.proofs.Math.ListN.{length-set}
-use Rattle.seq_object.specs.Sequential.{Sequential}
-use Rattle.cell_arena.proofs.Lists.{slice_get-set_same, slice_get-set_other}
-use Rattle.cell_arena.specs.Arena.{processes_of, made_of}
-use Rattle.cell_arena.specs.CellRecord.{ChangesOnly}
-use Rattle.uni_model.specs.Places.{Memory, memory_with, seq_of}
-use Rattle.uni_model.specs.AtomicObject.{set_at}
-use Rattle.uni_model.specs.Places.Name.{Anchor, Of}
-use Rattle.uni_model.specs.Places.Place.{InvOf}
-use Rattle.uni_model.specs.Places.Content.{Invocation}
 use Rattle.uni_model.specs.Stages.{Stage as at, Pending as PendingAt}
-use Rattle.uni_model.specs.Transition.{place_of, turn_of}
-use Rattle.uni_model.specs.Worlds.{WorldOf, world_after_call, world_after_step, world_after, IsAccepted}
 use Rattle.uni_model.specs.Effects.{call_after}
-use Rattle.uni_model.specs.Worlds.Event.{Call, Step}
-use Rattle.uni_model.specs.Settled.{Grows}
-use Rattle.uni_model.specs.Invariant.{Invariant}
-use Rattle.uni_model.specs.Helping.{HelpingInvariant}
-use Rattle.uni_model.specs.Counting.{CountsSteps}
-use Rattle.uni_model.proofs.Written.{number_cases}
-use Rattle.uni_model.proofs.Kept.{Invariant-world_after_step}
-use Rattle.uni_model.proofs.Counted.{CountsSteps-world_after}
-use Rattle.uni_model.proofs.Bounded.{HelpingInvariant-world_after}
-use Rattle.uni_core.specs.declared.local.Local.{Local}
-use Rattle.uni_core.specs.declared.stage.Stage.{Stage}
 use Rattle.uni_core.specs.declared.stage.Stage.TheVariants as stages
-use Rattle.uni_core.specs.declared.stage.Pending.{Pending}
-use Rattle.uni_model.specs.Indices.{name_from}
-use Rattle.uni_core.specs.SharedEntries.{SharedEntries, first_of, named, memory_of}
-use Rattle.uni_core.specs.Stage.{stage_of, pending_of, Takes}
-use Rattle.uni_core.specs.World.{Whole, call_at, world_at, world_of, CountsNone, IsWorld}
 use Rattle.uni_core.proofs.NoCalls.{CountsNone-world_after_call, CountsNone-world_after_step}
 
 -- what is read of a process's own data, after that of one process changed

@@ -1,26 +1,8 @@
 -- Where a call is pending, its next step can be taken, and its last step finds a response.
-use Rattle.std.proofs.Common.{◌≡◌, ◌∙◌, ℕ, ◌+◌, ◌*◌, ◌<◌, ◌≤◌, ◌^◌, ◌%◌, ◌⊎◌, inl, inr, refl, sym, ap, subst, Option, Some, None, option_map, IsSome, arith, Bool, true, false, cond, nat_eq, nat_lt}
-use Rattle.std.specs.Option.{option_map_or}
-use Rattle.seq_object.specs.Sequential.{Sequential}
-use Rattle.cell_arena.specs.CellRecord.{CellRecord}
-use Rattle.cell_arena.specs.Arena.{processes_of, cell_of}
-use Rattle.uni_model.specs.Places.{Name, Content, number_in, seq_of, inv_of, after_of}
-use Rattle.uni_model.specs.Places.Name.{Anchor, Of}
+use Rattle.uni_core.proofs.Vocabulary.{Anchor, Announce, AtHead, Bool, CanStep, CellRecord, Content, DecideAfter, DecideNew, Finish, Has, IsCellOf, IsSome, IsThere, IsWorld, Name, None, Of, Option, ReadAnnounce, ReadHelpSeq, ScanHead, ScanSeq, Sequential, SharedEntries, Some, Stage, Stands, Test, Whole, WriteBefore, WriteHead, WriteScan, WriteSeq, after_of, ap, arith, calls_in_era, cell_of, cond, effect_at, enough, era_calls, false, first_of, inl, inr, inv_of, memory_of, named, nat_eq, nat_lt, number_in, option_map, option_map_or, place_of, processes_of, refl, response_in, seq_of, stage_after, stage_of, subst, sum_below-bound, sym, true, turn_of, turns_to, world_of, ℕ, ◌%◌, ◌*◌, ◌+◌, ◌<◌, ◌^◌, ◌∙◌, ◌≡◌, ◌≤◌, ◌⊎◌}
 use Rattle.uni_model.specs.Stages.{Stage as at}
-use Rattle.uni_model.specs.Chain.{response_in}
-use Rattle.uni_model.specs.Worlds.{calls_in_era}
-use Rattle.uni_model.specs.Counting.{era_calls}
-use Rattle.uni_model.specs.Invariant.{Has, AtHead, IsCellOf, Stands}
 use Rattle.uni_model.proofs.Steps.{linked_call, head_number}
 use Rattle.uni_model.proofs.Values.{response-settled}
-use Rattle.uni_model.proofs.Simulation.{enough}
-use Rattle.uni_model.proofs.Ranges.{sum_below-bound}
-use Rattle.uni_core.specs.declared.stage.Stage.{Stage}
-use Rattle.uni_core.specs.declared.stage.Stage.TheVariants.{Announce, ScanHead, ScanSeq, WriteScan, Test, ReadAnnounce, ReadHelpSeq, DecideAfter, DecideNew, WriteBefore, WriteSeq, WriteHead, Finish}
-use Rattle.uni_core.specs.SharedEntries.{SharedEntries, first_of, named, memory_of}
-use Rattle.uni_core.specs.Stage.{stage_of, CanStep, IsThere, effect_at, turns_to}
-use Rattle.uni_model.specs.Transition.{place_of, turn_of, stage_after}
-use Rattle.uni_core.specs.World.{Whole, world_of, IsWorld}
 use Rattle.uni_core.proofs.Named.{cell_named-name_from}
 
 Has-IsSome : {A : Type 0} (o : Option A) → Has o → IsSome o

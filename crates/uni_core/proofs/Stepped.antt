@@ -1,29 +1,9 @@
 -- What a step leaves.
-use Rattle.std.proofs.Common.{◌≡◌, ◌∙◌, ℕ, ◌+◌, ◌*◌, ◌^◌, ◌<◌, ◌≤◌, refl, sym, ap, subst, Option, Some, None, option_map, IsSome, arith, length, slice_get, slice_set, get_or, Result, Ok, Err, OnErr}
-use Rattle.cell_arena.proofs.Lists.{slice_get-set_same}
-use Rattle.seq_object.specs.Sequential.{Sequential}
-use Rattle.cell_arena.specs.Arena.{processes_of}
+use Rattle.uni_core.proofs.Vocabulary.{Announce, CanGo, CanStep, DecideAfter, DecideNew, Done, Err, Finish, Going, IsBounded, IsBounded-held, IsSome, IsWithinBound, IsWorld, Local, MayBeRefused, MayNeedMemory, MayNeedMemoryAt, Name, None, Ok, OnErr, Option, Pending, ReadAnnounce, ReadHelpSeq, Result, ScanHead, ScanSeq, SeesSettled, Sequential, SharedEntries, Some, Stage, Step, Takes, TakesEffect, Test, Whole, WriteBefore, WriteHead, WriteScan, WriteSeq, ap, arith, get_or, length, memory_of, named, option_map, pending_of, place_of, processes_of, progress_of, refl, response_of_step, response_told, slice_get, slice_get-set_same, slice_set, stage_of, stage_told, step_accepted, subst, sym, turn_of, turns_to, world_after, world_of, ℕ, ◌*◌, ◌+◌, ◌<◌, ◌^◌, ◌∙◌, ◌≡◌, ◌≤◌}
 use Rattle.uni_model.specs.Stages.{Pending as PendingAt}
-use Rattle.uni_model.specs.Transition.{place_of, turn_of}
-use Rattle.uni_model.specs.Worlds.{world_after, response_of_step}
-use Rattle.uni_model.specs.Worlds.Event.{Step}
-use Rattle.uni_model.specs.Bound.{IsBounded, IsWithinBound}
-use Rattle.uni_model.specs.Settled.{SeesSettled}
 use Rattle.uni_model.proofs.Seen.{SeesSettled-held}
-use Rattle.uni_model.proofs.Simulation.{step_accepted}
-use Rattle.uni_model.proofs.Bounded.{IsBounded-held}
-use Rattle.uni_core.specs.declared.local.Local.{Local}
-use Rattle.uni_core.specs.declared.stage.Stage.{Stage}
-use Rattle.uni_core.specs.declared.stage.Stage.TheVariants.{Announce, ScanHead, ScanSeq, WriteScan, Test, ReadAnnounce, ReadHelpSeq, DecideAfter, DecideNew, WriteBefore, WriteSeq, WriteHead, Finish}
-use Rattle.uni_core.specs.declared.stage.Pending.{Pending}
 use Rattle.uni_core.specs.declared.transition.After.{After}
 use Rattle.uni_core.specs.declared.transition.After.TheVariants.{At, Ended}
-use Rattle.uni_core.specs.declared.fault.Progress.TheVariants.{Going, Done}
-use Rattle.uni_model.specs.Places.{Name}
-use Rattle.uni_core.specs.SharedEntries.{SharedEntries, named, memory_of}
-use Rattle.uni_core.specs.Stage.{stage_of, stage_told, response_told, pending_of, Takes, CanStep, MayBeRefused, turns_to}
-use Rattle.uni_core.specs.World.{Whole, world_of, IsWorld, TakesEffect, MayNeedMemory, MayNeedMemoryAt, progress_of}
-use Rattle.uni_core.specs.Refusals.{CanGo}
 use Rattle.uni_core.proofs.Begin.{inside_count, local_here}
 use Rattle.uni_core.proofs.Shown.{stepped_whole, stepped_local, world_of-world_after_step, IsWorld-world_after_step}
 use Rattle.uni_core.proofs.Steppable.{CanStep-pending, turns_to-effect}

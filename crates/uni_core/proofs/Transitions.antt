@@ -1,21 +1,7 @@
 -- Single steps over the shared places.
-use Rattle.std.proofs.Common.{◌≡◌, ◌∙◌, ℕ, refl, sym, ap, subst, Option, Some, None, is_some, IsSome, arith, true, false, ◌<◌, ◌≤◌, ◌⊎◌, inl, inr, ◌%◌, ◌==◌, if◌then◌else◌, unwrap_or}
-use Rattle.std.specs.Option.{option_copied, option_or}
+use Rattle.uni_core.proofs.Vocabulary.{AfterOf, CellName, Content, HasShapeOf, HeadOf, IsSome, Link, Name, NewOf, None, Option, Sequential, Settled, SharedEntries, Some, Stage, Takes, after_of, announce_of, ap, arith, effect_at, false, head_of, if◌then◌else◌, inl, inr, is_some, lt_cases, memory_of, memory_with, named, new_of, option_copied, option_or, place_of, processes_of, refl, response_after, response_in, seq_of, stage_after_scan, stage_of, subst, sym, true, unwrap_or, value_after, written_same, ℕ, ◌%◌, ◌<◌, ◌==◌, ◌∙◌, ◌≡◌, ◌≤◌, ◌⊎◌}
 use Rattle.std.specs.Borrow.{Bor}
-use Rattle.seq_object.specs.Sequential.{Sequential}
-use Rattle.uni_model.specs.Places.{Name, Content, memory_with, new_of, announce_of, head_of, seq_of, after_of}
-use Rattle.uni_model.specs.Places.Place.{NewOf}
-use Rattle.uni_model.specs.Places.Content.{Settled}
-use Rattle.uni_model.specs.Places.Place.{HeadOf, AfterOf}
-use Rattle.uni_model.specs.Places.Content.{CellName, Link}
 use Rattle.uni_model.specs.Stages.{Stage as at}
-use Rattle.uni_model.specs.Chain.{response_in}
-use Rattle.uni_model.specs.Transition.{value_after, place_of, response_after, stage_after_scan}
-use Rattle.cell_arena.specs.Arena.{processes_of}
-use Rattle.uni_model.proofs.Written.{written_same, lt_cases}
-use Rattle.uni_core.specs.SharedEntries.{SharedEntries, named, memory_of, HasShapeOf}
-use Rattle.uni_core.specs.Stage.{Takes, effect_at, stage_of}
-use Rattle.uni_core.specs.declared.stage.Stage.{Stage}
 
 module _ {S I R : Type 0} (a : SharedEntries S I R) (d : Name) where
   -- what is settled stays, whatever is proposed

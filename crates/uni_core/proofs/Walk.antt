@@ -1,19 +1,6 @@
 -- The walk along the list to its last cell.
-use Rattle.std.proofs.Common.{◌≡◌, ◌∙◌, ℕ, zero, suc, ◌+◌, ◌*◌, ◌<◌, ◌≤◌, refl, sym, ap, Option, Some, None, option_map, IsSome, [], ◌∷◌, arith}
-use Rattle.std.specs.Option.{option_map_or}
-use Rattle.seq_object.specs.Sequential.{Sequential}
-use Rattle.cell_arena.specs.Arena.{processes_of, cell_of}
-use Rattle.uni_model.specs.Places.{Name, after_of}
-use Rattle.uni_model.specs.Places.Name.{Anchor}
-use Rattle.uni_model.specs.Chain.{cells_from, last_of}
-use Rattle.uni_model.specs.Worlds.{WorldOf, calls_in_era, last_cell}
-use Rattle.uni_model.specs.Counting.{era_calls}
-use Rattle.uni_model.specs.Invariant.{Invariant}
-use Rattle.uni_model.proofs.Simulation.{enough}
+use Rattle.uni_core.proofs.Vocabulary.{Anchor, Invariant, IsSome, Name, None, Option, Sequential, Some, Whole, WorldOf, [], after_of, ap, arith, calls_in_era, cell_of, cells_from, enough, era_calls, last_cell, last_of, memory_of, named, option_map, option_map_or, processes_of, refl, suc, sum_below-bound, sym, world_of, zero, ℕ, ◌*◌, ◌+◌, ◌<◌, ◌∙◌, ◌∷◌, ◌≡◌, ◌≤◌}
 use Rattle.uni_model.proofs.Chains.{cells_from-enough}
-use Rattle.uni_model.proofs.Ranges.{sum_below-bound}
-use Rattle.uni_core.specs.SharedEntries.{named, memory_of}
-use Rattle.uni_core.specs.World.{Whole, world_of}
 
 -- from a cell the last one is found within so many steps
 abbrev pub LeadsToLast : {S I R : Type 0} → (w : WorldOf S I R) → (x : Name) → (rest : ℕ) → Type 0

@@ -1,17 +1,6 @@
 -- A field that is written in the arena is a place that is written.
-use Rattle.std.proofs.Common.{◌≡◌, ◌∙◌, ℕ, ◌<◌, ◌≤◌, inl, inr, refl, sym, ap, List, Option, Some, None, option_map, IsSome, cond, Bool, true, false, nat_eq, length, slice_get, slice_set, ◌+◌}
-use Rattle.std.specs.Option.{option_map_or}
-use Rattle.cell_arena.specs.CellRecord.{CellRecord, index_of, ChangesOnly, with_seq, with_before, with_after, with_new, fresh, settled}
-use Rattle.uni_model.specs.Places.{Name, Place, Content, name_eq, memory_with}
-use Rattle.uni_model.specs.Places.Name.{Of}
-use Rattle.uni_model.specs.Places.Place.{Announced, HeadOf, InvOf, SeqOf, AfterOf, NewOf, BeforeOf}
-use Rattle.uni_model.specs.Places.Content.{CellName, Invocation, Number, Link, Settled}
-use Rattle.uni_model.proofs.Written.{name_cases, number_cases}
-use Rattle.uni_model.specs.Indices.{name_from}
-use Rattle.uni_core.specs.SharedEntries.{cell_named, entry_name, memory_at}
-use Rattle.uni_model.proofs.Indices.{name_from-index_of}
+use Rattle.uni_core.proofs.Vocabulary.{AfterOf, Announced, BeforeOf, Bool, CellName, CellRecord, ChangesOnly, Content, HeadOf, InvOf, Invocation, IsSome, Link, List, Name, NewOf, None, Number, Of, Option, Place, SeqOf, Settled, Some, ap, cell_named, cond, entry_name, false, fresh, index_of, inl, inr, length, memory_at, memory_with, name_cases, name_eq, name_from, name_from-index_of, nat_eq, number_cases, option_map, option_map_or, refl, settled, slice_get, slice_get-set_other, slice_get-set_same, slice_set, sym, true, with_after, with_before, with_new, with_seq, ℕ, ◌+◌, ◌<◌, ◌∙◌, ◌≡◌, ◌≤◌}
 use Rattle.uni_core.proofs.Named.{cell_named-name_from, changed_named}
-use Rattle.cell_arena.proofs.Lists.{slice_get-set_same, slice_get-set_other}
 
 -- one field of one cell changes, by f; the cell is there
 module _ {S I R : Type 0} (n : ℕ) (first : ℕ → ℕ) (positive : 1 ≤ n) (cell cell' : ℕ → Option (CellRecord S I R)) (announce heads : List ℕ)

@@ -1,12 +1,5 @@
 -- A cursor along the list stands at a cell by its place.
-use Rattle.std.proofs.Common.{◌≡◌, ◌∙◌, ℕ, zero, suc, ◌+◌, ◌<◌, ◌^◌, length, refl, sym, ap, subst, List, [], ◌∷◌, ◌++◌, Option, Some, None, drop, take, slice_get, arith}
-use Rattle.seq_object.specs.Sequential.{Sequential}
-use Rattle.uni_model.specs.Places.{Name, seq_of, after_of}
-use Rattle.uni_model.specs.Places.Name.{Anchor}
-use Rattle.uni_model.specs.Chain.{Entry, invoked_at, response_in}
-use Rattle.uni_model.specs.Worlds.{WorldOf, chain}
-use Rattle.uni_model.specs.History.{log}
-use Rattle.uni_model.specs.Invariant.{Has, Invariant}
+use Rattle.uni_log.proofs.Vocabulary.{Anchor, Entry, Has, Invariant, List, Name, None, Option, Sequential, Some, WorldOf, [], after_of, ap, arith, chain, drop, invoked_at, length, log, refl, response_in, seq_of, slice_get, subst, suc, sym, take, zero, ℕ, ◌++◌, ◌+◌, ◌<◌, ◌^◌, ◌∙◌, ◌∷◌, ◌≡◌}
 use Rattle.uni_model.proofs.Growing.{slice_get-log}
 use Rattle.uni_log.proofs.Walk.{IsAlong, IsAlong-anchor, along-low, along-call, along-end, along-next}
 

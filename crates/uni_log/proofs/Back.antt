@@ -1,15 +1,5 @@
 -- The walk back from a cell.
-use Rattle.std.proofs.Common.{◌≡◌, ◌∙◌, ℕ, zero, suc, ◌+◌, ◌<◌, ◌≤◌, refl, ap, subst, List, [], ◌∷◌, ◌++◌, Option, Some, None, slice_get, reverse, length, length-append, take, arith}
-use Rattle.std.specs.Option.{option_map_or}
-use Rattle.std.proofs.lemmas.List.{reverse-append}
-use Rattle.seq_object.specs.Sequential.{Sequential}
-use Rattle.uni_model.specs.Places.{Name, Memory, seq_of, after_of, before_of}
-use Rattle.uni_model.specs.Places.Name.{Anchor, Of}
-use Rattle.uni_model.specs.Chain.{cells_from}
-use Rattle.uni_model.specs.Worlds.{WorldOf, chain}
-use Rattle.uni_model.specs.Counting.{era_calls}
-use Rattle.uni_model.specs.Invariant.{Invariant}
-use Rattle.uni_model.proofs.Simulation.{enough}
+use Rattle.uni_log.proofs.Vocabulary.{Anchor, Invariant, List, Memory, Name, None, Of, Option, Sequential, Some, WorldOf, [], after_of, ap, arith, before_of, cells_from, chain, enough, era_calls, length, length-append, option_map_or, refl, reverse, reverse-append, seq_of, slice_get, subst, suc, take, zero, ℕ, ◌++◌, ◌+◌, ◌<◌, ◌∙◌, ◌∷◌, ◌≡◌, ◌≤◌}
 
 -- fewer of the cells after x are the first of them
 cells_from-take : {S I R : Type 0} (m : Memory S I R) (a b : ℕ) (x : Name) → a ≤ b → cells_from a m x ≡ take a (cells_from b m x)

@@ -1,16 +1,6 @@
 -- The log is a legal history of the object.
-use Rattle.std.proofs.Common.{◌≡◌, ◌∙◌, refl, sym, ap, subst, List, [], ◌∷◌, Some, None, map}
-use Rattle.seq_object.specs.Sequential.{Sequential}
-use Rattle.seq_object.specs.History.{IsLegal}
-use Rattle.uni_model.specs.Places.{new_of}
-use Rattle.uni_model.specs.Places.Name.{Anchor}
-use Rattle.uni_model.specs.Worlds.{WorldOf}
-use Rattle.uni_model.specs.Counting.{era_calls}
-use Rattle.uni_model.specs.Invariant.{Invariant}
-use Rattle.uni_model.specs.History.{log, logged_call}
-use Rattle.uni_model.proofs.Logged.{legal_from}
+use Rattle.uni_log.proofs.Vocabulary.{Anchor, Invariant, IsLegal, List, None, Sequential, Some, WorldOf, [], ap, call_shown, entry_shown, era_calls, legal_from, log, logged_call, map, new_of, refl, subst, sym, ◌∙◌, ◌∷◌, ◌≡◌}
 use Rattle.uni_log.specs.declared.entry.Entry.{Entry as Shown}
-use Rattle.uni_log.specs.Entry.{entry_shown, call_shown}
 
 -- the entries of the code are a legal history from the anchor's state
 pub legal_log : {S I R : Type 0} (object : Sequential S I R) (w : WorldOf S I R) → Invariant object w → (entries : List (Shown I R)) → map entry_shown entries ≡ log w

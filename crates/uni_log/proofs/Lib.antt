@@ -1,3 +1,4 @@
+pub mod Vocabulary
 pub mod Walk
 pub mod Replies
 pub mod Legal

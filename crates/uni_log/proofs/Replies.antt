@@ -1,18 +1,7 @@
 -- Which entries have their responses.
-use Rattle.std.proofs.Common.{◌≡◌, ◌∙◌, ℕ, ◌+◌, ◌<◌, sym, ap, subst, List, Option, Some, None, IsSome, length, map, slice_get, option_map}
-use Rattle.std.specs.Option.{IsSomeAnd}
+use Rattle.uni_log.proofs.Vocabulary.{Anchor, Entry, Invariant, IsSome, IsSomeAnd, List, None, Option, Sequential, Some, WorldOf, ap, entry_shown, era_calls, length, length-map, log, map, option_map, settled_from, slice_get, subst, sym, ℕ, ◌+◌, ◌<◌, ◌∙◌, ◌≡◌}
 use Rattle.std.proofs.lemmas.Option.{slice_get-map}
-use Rattle.std.proofs.lemmas.List.{length-map}
-use Rattle.seq_object.specs.Sequential.{Sequential}
-use Rattle.uni_model.specs.Places.Name.{Anchor}
-use Rattle.uni_model.specs.Chain.{Entry}
-use Rattle.uni_model.specs.Worlds.{WorldOf}
-use Rattle.uni_model.specs.Counting.{era_calls}
-use Rattle.uni_model.specs.History.{log}
-use Rattle.uni_model.specs.Invariant.{Invariant}
-use Rattle.uni_model.proofs.Logged.{settled_from}
 use Rattle.uni_log.specs.declared.entry.Entry.{Entry as Shown}
-use Rattle.uni_log.specs.Entry.{entry_shown}
 
 -- each entry of the code but the last has its reply
 pub settled_but_last : {S I R : Type 0} (object : Sequential S I R) (w : WorldOf S I R) → Invariant object w → (entries : List (Shown I R))

@@ -1,17 +1,6 @@
 -- The state that is settled at a place of the list.
-use Rattle.std.proofs.Common.{◌≡◌, ◌∙◌, ℕ, suc, ◌+◌, refl, sym, ap, List, [], ◌∷◌, Option, Some, None, map, option_map, option_and_then, Bor, IfSome, slice_get, take, ◌-◌, ◌<◌, arith}
-use Rattle.std.specs.Option.{option_copied}
-use Rattle.seq_object.specs.Sequential.{Sequential}
-use Rattle.seq_object.specs.History.{state_after}
-use Rattle.uni_model.specs.Places.{Name, new_of}
-use Rattle.uni_model.specs.Places.Name.{Anchor}
+use Rattle.uni_log.proofs.Vocabulary.{Anchor, Bor, IfSome, Invariant, List, Name, None, Option, Sequential, Some, WorldOf, [], ap, arith, calls_of-calls_at, chain, era_calls, invocations_of, map, new_of, option_and_then, option_copied, option_map, refl, slice_get, state_after, state_after-from, suc, sym, take, ℕ, ◌+◌, ◌-◌, ◌<◌, ◌∙◌, ◌∷◌, ◌≡◌}
 use Rattle.uni_model.specs.AtomicObject.{Invoked}
-use Rattle.uni_model.specs.Worlds.{WorldOf, chain}
-use Rattle.uni_model.specs.Counting.{era_calls}
-use Rattle.uni_model.specs.History.{invocations_of}
-use Rattle.uni_model.specs.Invariant.{Invariant}
-use Rattle.uni_model.proofs.Simulation.{calls_of-calls_at}
-use Rattle.uni_model.proofs.Logged.{state_after-from}
 use Rattle.uni_log.specs.Log.{state_settled_at}
 
 -- a state that is settled at a place of the list is the object's after so many invocations

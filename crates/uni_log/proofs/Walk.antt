@@ -1,14 +1,6 @@
 -- The walk along the chain, cell by cell.
-use Rattle.std.proofs.Common.{◌≡◌, ◌∙◌, ℕ, zero, suc, ◌+◌, ◌<◌, ◌≤◌, ◌^◌, length, refl, sym, ap, List, [], ◌∷◌, ◌++◌, append_assoc, Some, None, arith}
-use Rattle.seq_object.specs.Sequential.{Sequential}
-use Rattle.uni_model.specs.Places.{Name, seq_of, after_of, inv_of}
-use Rattle.uni_model.specs.Places.Name.{Anchor, Of}
-use Rattle.uni_model.specs.Chain.{cells_from, invoked_at}
-use Rattle.uni_model.specs.Worlds.{WorldOf, chain}
-use Rattle.uni_model.specs.Counting.{era_calls}
-use Rattle.uni_model.specs.Invariant.{Has, IsNumbered, Invariant}
+use Rattle.uni_log.proofs.Vocabulary.{Anchor, Has, Invariant, IsNumbered, List, Name, None, Of, Sequential, Some, WorldOf, [], after_of, ap, append_assoc, arith, cells_from, chain, enough, era_calls, inv_of, invoked_at, length, refl, seq_of, suc, sym, zero, ℕ, ◌++◌, ◌+◌, ◌<◌, ◌^◌, ◌∙◌, ◌∷◌, ◌≡◌, ◌≤◌}
 use Rattle.uni_model.proofs.Chains.{invoked_past_anchor}
-use Rattle.uni_model.proofs.Simulation.{enough}
 use Rattle.uni_model.proofs.OneLists.{length-chain}
 
 -- The walk stands at a cell of the chain, with its number, and these cells come after it.

@@ -1,22 +1,8 @@
 -- What the step of a process does for its own call, and what the process considers then.
-use Rattle.std.proofs.Common.{◌≡◌, ◌≢◌, ◌∙◌, ℕ, ◌+◌, ◌<◌, ◌≤◌, ◌%◌, inl, inr, refl, sym, ap, subst, Option, Some, None, arith}
-use Rattle.seq_object.specs.Sequential.{Sequential}
-use Rattle.uni_model.specs.Places.{Name, Memory, memory_with, announce_of, head_of, head_seq, seq_of}
-use Rattle.uni_model.specs.Places.Name.{Anchor, Of}
-use Rattle.uni_model.specs.Places.Place.{Announced, HeadOf, SeqOf}
-use Rattle.uni_model.specs.Places.Content.{CellName}
-use Rattle.uni_model.specs.Stages.{Stage, Pending}
-use Rattle.uni_model.specs.Stages.Stage.{Announce, ScanHead, ScanSeq, WriteScan, Test, ReadAnnounce, ReadHelpSeq, DecideAfter, DecideNew, WriteBefore, WriteSeq, WriteHead, Finish}
-use Rattle.uni_model.specs.Transition.{place_of, turn_of, next_in_scan, stage_after_scan}
-use Rattle.uni_model.specs.Effects.{effect_of}
-use Rattle.uni_model.specs.Worlds.{WorldOf}
-use Rattle.uni_model.specs.Settled.{Grows}
-use Rattle.uni_model.specs.Invariant.{AtHead, IsPast, Stands, IsSound}
-use Rattle.uni_model.specs.Counting.{HasTurns}
+use Rattle.uni_model.proofs.Vocabulary.{Anchor, Announce, Announced, Announces, AtHead, CellName, CountsOwnHead, DecideAfter, DecideNew, Finds, Finish, Grows, HasTurns, HeadOf, Helps, IsAhead, IsFairToAll, IsHelped, IsPast, IsSound, Memory, Name, None, Of, OfConsidered, Option, Pending, ReadAnnounce, ReadHelpSeq, ScanHead, ScanSeq, SeqOf, Sequential, Some, SomeHead, Stage, Stands, Test, WorldOf, WriteBefore, WriteHead, WriteScan, WriteSeq, announce_of, ap, arith, effect_of, head_of, head_seq, inl, inr, memory_with, next_in_scan, place_of, refl, seq_of, stage_after_scan, subst, sym, turn_of, ℕ, ◌%◌, ◌+◌, ◌<◌, ◌∙◌, ◌≡◌, ◌≢◌, ◌≤◌}
 use Rattle.uni_model.proofs.Written.{number_cases, lt_cases, head_of-memory_with, announce_of-memory_with, written_same}
 use Rattle.uni_model.proofs.Grows.{NumbersGrow, head_seq-at}
 use Rattle.uni_model.proofs.Numbered.{IsPast-threaded}
-use Rattle.uni_model.specs.Helping.{SomeHead, Finds, Announces, CountsOwnHead, IsAhead, OfConsidered, IsHelped, IsFairToAll, Helps}
 use Rattle.uni_model.proofs.Helped.{Announces-cases, IsPast-later, not_passed}
 use Rattle.uni_model.proofs.Turns.{turns-le}
 

@@ -1,10 +1,5 @@
 -- Where no call is pending each call of the era has a number.
-use Rattle.std.proofs.Common.{◌≡◌, ℕ, zero, suc, ◌+◌, ◌<◌, ◌≤◌, inl, inr, subst, arith}
-use Rattle.seq_object.specs.Sequential.{Sequential}
-use Rattle.uni_model.specs.Places.{Name}
-use Rattle.uni_model.specs.Places.Name.{Anchor, Of}
-use Rattle.uni_model.specs.Worlds.{WorldOf, calls_in_era, IsQuiescent}
-use Rattle.uni_model.specs.Invariant.{IsSound}
+use Rattle.uni_model.proofs.Vocabulary.{Anchor, IsQuiescent, IsSound, Name, Of, Sequential, WorldOf, arith, calls_in_era, inl, inr, subst, suc, zero, ℕ, ◌+◌, ◌<◌, ◌≡◌, ◌≤◌}
 use Rattle.uni_model.proofs.Kept.{idle_when_quiescent}
 
 module _ {S I R : Type 0} (object : Sequential S I R) (w : WorldOf S I R) (num : Name → ℕ) (last : ℕ) (sound : IsSound object w num last) (quiet : IsQuiescent w) where

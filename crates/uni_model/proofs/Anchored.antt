@@ -1,11 +1,5 @@
 -- A world of the anchor alone has the invariant.
-use Rattle.std.proofs.Common.{◌≡◌, ℕ, ◌<◌, ◌≤◌, inl, refl, Option, Some, None, arith}
-use Rattle.seq_object.specs.Sequential.{Sequential}
-use Rattle.uni_model.specs.Places.{Name, seq_of, after_of, new_of}
-use Rattle.uni_model.specs.Places.Name.{Anchor, Of}
-use Rattle.uni_model.specs.Stages.{Pending}
-use Rattle.uni_model.specs.Worlds.{anchor_memory}
-use Rattle.uni_model.specs.Invariant.{Has, IsNumbered, HasValues, LeadsBack, IsSound}
+use Rattle.uni_model.proofs.Vocabulary.{Anchor, Has, HasValues, IsNumbered, IsSound, LeadsBack, Name, None, Of, Option, Pending, Sequential, Some, after_of, anchor_memory, arith, inl, new_of, refl, seq_of, ℕ, ◌<◌, ◌≡◌, ◌≤◌}
 
 -- the number of the anchor, where it stands alone
 abbrev pub alone : ℕ → Name → ℕ

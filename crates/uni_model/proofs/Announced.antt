@@ -1,18 +1,5 @@
 -- A pending call has a floor exactly where it has been announced.
-use Rattle.std.proofs.Common.{◌≡◌, ◌≢◌, ◌∙◌, ℕ, ◌⊎◌, inl, inr, refl, sym, ap, subst, List, [], ◌∷◌, Option, Some, None, IsSome, Bool, true, false, cond}
-use Rattle.seq_object.specs.Sequential.{Sequential}
-use Rattle.std.specs.Option.{option_map_or}
-use Rattle.uni_model.specs.Places.{Name, name_eq, seq_of, new_of}
-use Rattle.uni_model.specs.Places.Name.{Of}
-use Rattle.uni_model.specs.Stages.{Stage, Pending}
-use Rattle.uni_model.specs.Stages.Stage.{Announce}
-use Rattle.uni_model.specs.Worlds.{WorldOf, Event, anchor_memory, last_cell, world_after_step, opened_world, world_after, world_after_all, world_after_era}
-use Rattle.uni_model.specs.Effects.{call_after}
-use Rattle.uni_model.specs.Worlds.Event.{Call, Step, Trim, Reshape}
-use Rattle.uni_model.specs.Frontier.{frontier, announces, announces_at, floor_of}
-use Rattle.uni_model.specs.Counting.{CountsSteps}
-use Rattle.uni_model.specs.Helping.{HelpingInvariant}
-use Rattle.uni_model.specs.Laws.{HasFloorOnceAnnounced}
+use Rattle.uni_model.proofs.Vocabulary.{Announce, Bool, Call, CountsSteps, Event, HasFloorOnceAnnounced, HelpingInvariant, IsSome, List, Name, None, Of, Option, Pending, Reshape, Sequential, Some, Stage, Step, Trim, WorldOf, [], anchor_memory, announces, announces_at, ap, call_after, cond, false, floor_of, frontier, inl, inr, last_cell, name_eq, new_of, opened_world, option_map_or, refl, seq_of, subst, sym, true, world_after, world_after_all, world_after_era, world_after_step, ℕ, ◌∙◌, ◌∷◌, ◌≡◌, ◌≢◌, ◌⊎◌}
 use Rattle.uni_model.proofs.Written.{name_eq_same, number_cases}
 use Rattle.uni_model.proofs.Counted.{CountsSteps-opened_world}
 use Rattle.uni_model.proofs.Bounded.{HelpingInvariant-opened_world, HelpingInvariant-world_after_all}

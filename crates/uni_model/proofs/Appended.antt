@@ -1,7 +1,6 @@
 -- Lists that are appended: their places, what the object makes of them, and legal histories.
-use Rattle.std.proofs.Common.{◌≡◌, ◌∙◌, ℕ, suc, ◌+◌, ◌<◌, ◌≤◌, ◌⊎◌, inl, inr, refl, ap, List, [], ◌∷◌, ◌++◌, map, length, slice_get, take, Some, arith, zero}
-use Rattle.seq_object.specs.Sequential.{Sequential}
-use Rattle.seq_object.specs.History.{Call, state_after, response_at, IsLegal}
+use Rattle.uni_model.proofs.Vocabulary.{IsLegal, List, Sequential, Some, [], ap, arith, inl, inr, length, map, refl, response_at, slice_get, state_after, suc, take, zero, ℕ, ◌++◌, ◌+◌, ◌<◌, ◌∙◌, ◌∷◌, ◌≡◌, ◌≤◌, ◌⊎◌}
+use Rattle.seq_object.specs.History.{Call}
 
 module _ {A : Type 0} where
   pub slice_get-append_left : (xs ys : List A) (j : ℕ) (x : A) → slice_get xs j ≡ Some x → slice_get (xs ++ ys) j ≡ Some x

@@ -1,18 +1,6 @@
 -- A call that is begun keeps the invariant.
-use Rattle.std.proofs.Common.{◌≡◌, ◌≢◌, ◌∙◌, ℕ, ◌+◌, ◌<◌, ◌≤◌, ◌⊎◌, inl, inr, refl, sym, ap, subst, Option, Some, None, arith, ◌-◌}
-use Rattle.std.proofs.lemmas.Bool.{cases_lt}
-use Rattle.seq_object.specs.Sequential.{Sequential}
-use Rattle.uni_model.specs.Places.{Name, Memory, memory_with, inv_of}
-use Rattle.uni_model.specs.AtomicObject.{set_at}
-use Rattle.uni_model.specs.Places.Name.{Anchor, Of}
-use Rattle.uni_model.specs.Places.Place.{InvOf}
-use Rattle.uni_model.specs.Places.Content.{Invocation}
-use Rattle.uni_model.specs.Stages.{Pending}
-use Rattle.uni_model.specs.Stages.Stage.{Announce}
-use Rattle.uni_model.specs.Worlds.{WorldOf, world_after_call, sum_below, calls_in_era}
-use Rattle.uni_model.specs.Invariant.{Has, Stands, IsSound, can_be_linked}
+use Rattle.uni_model.proofs.Vocabulary.{Anchor, Announce, Grows, Has, InvOf, Invocation, IsSound, Memory, Name, None, Of, Option, Pending, Sequential, Some, Stands, WorldOf, ap, arith, calls_in_era, can_be_linked, cases_lt, inl, inr, inv_of, memory_with, refl, set_at, subst, sum_below, sym, world_after_call, ℕ, ◌+◌, ◌-◌, ◌<◌, ◌∙◌, ◌≡◌, ◌≢◌, ◌≤◌, ◌⊎◌}
 use Rattle.uni_model.proofs.Written.{set_at-cases, number_cases, inv_of-memory_with}
-use Rattle.uni_model.specs.Settled.{Grows}
 use Rattle.uni_model.proofs.Grows.{Has-inv, Stands-grows}
 use Rattle.uni_model.proofs.Sums.{sum_below-le}
 

@@ -1,11 +1,5 @@
 -- An atomic object goes on behind the calls of ended eras: what it accepts, it accepts with those calls before it.
-use Rattle.std.proofs.Common.{◌≡◌, ◌∙◌, ℕ, ◌+◌, ◌<◌, ◌≤◌, inl, inr, sym, ap, subst, List, [], ◌∷◌, ◌++◌, map, length, Some, None, Contains, arith}
-use Rattle.std.proofs.lemmas.List.{append_assoc, map-append, length-map}
-use Rattle.std.proofs.lemmas.List.Elements.{Contains-append_cases}
-use Rattle.seq_object.specs.Sequential.{Sequential}
-use Rattle.seq_object.specs.History.{state_after, response_at}
-use Rattle.uni_model.specs.AtomicObject.{Atomic, Act, Accepts, AcceptsAll, set_at, Invoked}
-use Rattle.uni_model.specs.AtomicObject.Act.{Invoke, Linearize, Respond}
+use Rattle.uni_model.proofs.Vocabulary.{Accepts, AcceptsAll, Act, Atomic, Contains, Contains-append_cases, Invoke, Invoked, Linearize, List, None, Respond, Sequential, Some, [], ap, append_assoc, arith, inl, inr, length, length-map, map, map-append, response_at, set_at, state_after, subst, sym, ℕ, ◌++◌, ◌+◌, ◌<◌, ◌∙◌, ◌∷◌, ◌≡◌, ◌≤◌}
 use Rattle.uni_model.proofs.Written.{set_at-cases}
 use Rattle.uni_model.proofs.Appended.{slice_get-append_right, response_at-append}
 

@@ -1,14 +1,5 @@
 -- The run in which a call meets the bound, as one list of events, with the call's floor.
-use Rattle.std.proofs.Common.{◌≡◌, ◌∙◌, ℕ, zero, suc, ◌+◌, ◌*◌, ◌%◌, ◌≤◌, refl, sym, ap, subst, Bool, true, false, cond, List, [], ◌∷◌, ◌++◌, Option, Some, None, IsSome, arith}
-use Rattle.seq_object.specs.Sequential.{Sequential}
-use Rattle.uni_model.specs.Places.{Name, head_seq, seq_of}
-use Rattle.uni_model.specs.Places.Name.{Of}
-use Rattle.uni_model.specs.Stages.Stage.{Announce}
-use Rattle.uni_model.specs.Worlds.{WorldOf, Event, opened_world, world_after, world_after_all, IsAccepted, AreAccepted}
-use Rattle.uni_model.specs.Worlds.Event.{Call, Step, Trim, Reshape}
-use Rattle.uni_model.specs.Counting.{IsCounted}
-use Rattle.uni_model.specs.Frontier.{greatest_below, frontier, announces, floor_of}
-use Rattle.uni_model.specs.Tight.{MeetsBound, BoundIsMet}
+use Rattle.uni_model.proofs.Vocabulary.{Announce, AreAccepted, Bool, BoundIsMet, Call, Event, IsAccepted, IsCounted, IsSome, List, MeetsBound, Name, None, Of, Option, Reshape, Sequential, Some, Step, Trim, WorldOf, [], announces, ap, arith, cond, false, floor_of, frontier, greatest_below, head_seq, opened_world, refl, seq_of, subst, suc, sym, true, world_after, world_after_all, zero, ℕ, ◌%◌, ◌*◌, ◌++◌, ◌+◌, ◌∙◌, ◌∷◌, ◌≡◌, ◌≤◌}
 use Rattle.uni_model.proofs.Written.{name_eq_same}
 use Rattle.uni_model.proofs.LawProofs.{CountsSteps-reached}
 use Rattle.uni_model.proofs.Announced.{HasFloorOnceAnnounced-holds}

@@ -1,25 +1,11 @@
 -- Every event that is accepted goes on helping each pending call; so each call ends within n + 1 turns.
-use Rattle.std.proofs.Common.{◌≡◌, ℕ, ◌+◌, ◌*◌, ◌<◌, ◌≤◌, refl, sym, subst, List, [], ◌∷◌, Option, Some, None, arith, inl, inr}
-use Rattle.std.specs.Option.{option_map_or}
-use Rattle.seq_object.specs.Sequential.{Sequential}
-use Rattle.uni_model.specs.Places.{Name, Memory, memory_with, head_of, head_seq, seq_of, new_of}
-use Rattle.uni_model.specs.AtomicObject.{set_at}
-use Rattle.uni_model.specs.Stages.{Stage, Pending}
-use Rattle.uni_model.specs.Stages.Stage.{Announce, ScanHead, ScanSeq, WriteScan, Test, ReadAnnounce, ReadHelpSeq, DecideAfter, DecideNew, WriteBefore, WriteSeq, WriteHead, Finish}
-use Rattle.uni_model.specs.Transition.{place_of, turn_of}
-use Rattle.uni_model.specs.Effects.{effect_of}
-use Rattle.uni_model.specs.Worlds.{WorldOf, Event, world_after_call, world_after_step, opened_world, anchor_memory, world_after_era, last_cell, world_after, world_after_all, IsAccepted, AreAccepted, IsQuiescent}
-use Rattle.uni_model.specs.Worlds.Event.{Call, Step, Trim, Reshape}
-use Rattle.uni_model.specs.Invariant.{Stands}
-use Rattle.uni_model.specs.Bound.{IsWithinBound, IsBounded}
-use Rattle.uni_model.specs.Counting.{steps_at, IsCounted, CountsSteps}
+use Rattle.uni_model.proofs.Vocabulary.{Announce, AreAccepted, Call, CountsSteps, DecideAfter, DecideNew, Event, Finish, HelpingInvariant, Helps, IsAccepted, IsBounded, IsCounted, IsQuiescent, IsWithinBound, List, Memory, Name, None, Option, Pending, ReadAnnounce, ReadHelpSeq, Reshape, ScanHead, ScanSeq, Sequential, Some, Stage, Stands, Step, Test, Trim, WorldOf, WriteBefore, WriteHead, WriteScan, WriteSeq, [], anchor_memory, arith, effect_of, head_of, head_seq, inl, inr, last_cell, memory_with, new_of, opened_world, option_map_or, place_of, refl, seq_of, set_at, steps_at, subst, sym, turn_of, world_after, world_after_all, world_after_call, world_after_era, world_after_step, ℕ, ◌*◌, ◌+◌, ◌<◌, ◌∷◌, ◌≡◌, ◌≤◌}
 use Rattle.uni_model.proofs.Moves.{IsSound-moved}
 use Rattle.uni_model.proofs.Steps.{leads}
 use Rattle.uni_model.proofs.Anchored.{alone, IsSound-anchor_memory}
 use Rattle.uni_model.proofs.Begun.{IsSound-begun}
 use Rattle.uni_model.proofs.Kept.{idle_when_quiescent, last_cell_threaded}
 use Rattle.uni_model.proofs.Counted.{IsCounted-pending, CountsSteps-world_after}
-use Rattle.uni_model.specs.Helping.{Helps, HelpingInvariant}
 use Rattle.uni_model.proofs.Turns.{turns-le}
 use Rattle.uni_model.proofs.Advanced.{advances, head_rises}
 use Rattle.uni_model.proofs.HelpedStep.{Helps-moved}

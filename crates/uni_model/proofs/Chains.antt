@@ -1,17 +1,5 @@
 -- The chain as a list of cells and of calls.
-use Rattle.std.proofs.Common.{◌≡◌, ◌≢◌, ◌∙◌, ℕ, zero, suc, ◌+◌, ◌<◌, ◌≤◌, inl, inr, refl, sym, ap, List, [], ◌∷◌, ◌++◌, map, length, slice_get, Option, Some, None, option_map, arith}
-use Rattle.std.proofs.lemmas.Bool.{cases_lt}
-use Rattle.std.specs.Option.{option_map_or}
-use Rattle.std.specs.List.{AllByRecursion}
-use Rattle.seq_object.specs.Sequential.{Sequential}
-use Rattle.seq_object.specs.History.{response_at}
-use Rattle.uni_model.specs.Places.{Name, Memory, memory_with, seq_of, after_of, new_of, inv_of}
-use Rattle.uni_model.specs.Places.Name.{Anchor, Of}
-use Rattle.uni_model.specs.Places.Place.{AfterOf}
-use Rattle.uni_model.specs.Places.Content.{Link}
-use Rattle.uni_model.specs.Chain.{cells_from, invoked_at, Entry, entries_from, response_in}
-use Rattle.uni_model.specs.AtomicObject.{Invoked}
-use Rattle.uni_model.specs.Invariant.{Has, IsNumbered, HasValues}
+use Rattle.uni_model.proofs.Vocabulary.{AfterOf, AllByRecursion, Anchor, Entry, Has, HasValues, Invoked, IsNumbered, Link, List, Memory, Name, None, Of, Option, Sequential, Some, [], after_of, ap, arith, cases_lt, cells_from, entries_from, inl, inr, inv_of, invoked_at, length, map, memory_with, new_of, option_map, option_map_or, refl, response_at, response_in, seq_of, slice_get, suc, sym, zero, ℕ, ◌++◌, ◌+◌, ◌<◌, ◌∙◌, ◌∷◌, ◌≡◌, ◌≢◌, ◌≤◌}
 use Rattle.uni_model.proofs.Written.{after_of-memory_with}
 use Rattle.uni_model.proofs.Numbered.{end_number}
 

@@ -1,14 +1,6 @@
 -- What is linearizable with linearization points put in has a completion in the sense of Herlihy and Wing: each process's acts beside
 -- those of the sequential history, as the atomic object goes on.
-use Rattle.std.proofs.Common.{◌≡◌, ◌≢◌, ◌∙◌, ℕ, zero, suc, ◌+◌, ◌<◌, ◌⊎◌, inl, inr, refl, sym, ap, subst, Bool, true, false, cond, List, [], ◌∷◌, ◌++◌, map, length, slice_get, Some, None, Contains, filter, arith, nat_eq}
-use Rattle.std.specs.List.{AllByRecursion}
-use Rattle.std.proofs.lemmas.List.{append-nil}
-use Rattle.seq_object.specs.Sequential.{Sequential}
-use Rattle.seq_object.specs.History.{state_after, response_at}
-use Rattle.uni_model.specs.AtomicObject.{Atomic, Act, Accepts, AcceptsAll, Invoked, set_at}
-use Rattle.uni_model.specs.AtomicObject.Act.{Invoke, Linearize, Respond}
-use Rattle.uni_model.specs.Linearizable.{observed}
-use Rattle.uni_model.specs.HerlihyWing.{one_by_one, of_process, is_kept}
+use Rattle.uni_model.proofs.Vocabulary.{Accepts, AcceptsAll, Act, AllByRecursion, Atomic, Bool, Contains, Invoke, Invoked, Linearize, List, None, Respond, Sequential, Some, [], ap, append-nil, arith, cond, false, filter, inl, inr, is_kept, length, map, nat_eq, observed, of_process, one_by_one, refl, response_at, set_at, slice_get, state_after, subst, suc, sym, true, zero, ℕ, ◌++◌, ◌+◌, ◌<◌, ◌∙◌, ◌∷◌, ◌≡◌, ◌≢◌, ◌⊎◌}
 use Rattle.uni_model.proofs.Written.{number_cases, set_at-cases}
 use Rattle.uni_model.proofs.LawProofs.{set_at_elsewhere}
 use Rattle.uni_model.proofs.Appended.{slice_get-append_left, slice_get-append_right, slice_get-append_cases}

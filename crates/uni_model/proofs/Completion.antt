@@ -1,17 +1,7 @@
 -- What is linearizable with linearization points put in has a completion in the sense of Herlihy and Wing, and is well-formed.
-use Rattle.std.proofs.Common.{◌≡◌, ◌≢◌, ◌∙◌, ℕ, zero, suc, ◌+◌, ◌==◌, ◌<◌, inl, inr, refl, sym, ap, subst, Bool, true, false, cond, ◌&&◌, ◌||◌, List, [], ◌∷◌, ◌++◌, length, slice_get, Option, Some, None, Contains, filter, arith, nat_eq}
-use Rattle.std.specs.List.{AllByRecursion, list_any}
-use Rattle.std.proofs.lemmas.List.{append-nil, append_assoc}
-use Rattle.std.proofs.lemmas.List.Elements.{filter-append}
-use Rattle.seq_object.specs.Sequential.{Sequential}
-use Rattle.seq_object.specs.History.{response_at}
-use Rattle.uni_model.specs.AtomicObject.{Atomic, Act, Accepts, AcceptsAll, Invoked, at_start}
-use Rattle.uni_model.specs.AtomicObject.Act.{Invoke, Linearize, Respond}
-use Rattle.uni_model.specs.Linearizable.{observed, IsLinearizedAs}
-use Rattle.uni_model.specs.HerlihyWing.{one_by_one, is_by, of_process, is_kept, AreInTurn, IsWellFormed, IsResponse, Precedes, IsLinearizedByCompletion}
+use Rattle.uni_model.proofs.Vocabulary.{Accepts, AcceptsAll, Act, AllByRecursion, AreInTurn, Atomic, Bool, Contains, Invoke, Invoked, IsLinearizedAs, IsLinearizedByCompletion, IsResponse, IsWellFormed, Linearize, List, None, Option, Precedes, Respond, Sequential, Some, [], ap, append-nil, append_assoc, arith, at_start, cond, false, filter, filter-append, inl, inr, is_by, is_kept, length, list_any, nat_eq, observed, of_process, one_by_one, refl, response_at, slice_get, slice_get_within, subst, suc, sym, true, zero, ℕ, ◌&&◌, ◌++◌, ◌+◌, ◌<◌, ◌==◌, ◌||◌, ◌∙◌, ◌∷◌, ◌≡◌, ◌≢◌}
 use Rattle.uni_model.proofs.Written.{number_cases, set_at-cases}
 use Rattle.uni_model.proofs.LawProofs.{set_at_elsewhere}
-use Rattle.std.proofs.lemmas.Option.{slice_get_within}
 use Rattle.uni_model.proofs.Appended.{slice_get-append_cases, slice_get-append_left, slice_get-append_right}
 use Rattle.uni_model.proofs.Members.{member, place_of_member, split_at}
 use Rattle.uni_model.proofs.Completed.{points, Situation, invs, PointIsKept, front, back, leads_all}

@@ -1,16 +1,5 @@
 -- Own steps are counted by the stage and the turns.
-use Rattle.std.proofs.Common.{◌≡◌, ℕ, ◌+◌, ◌<◌, inl, inr, refl, sym, subst, List, [], ◌∷◌, Option, Some, None, arith, ◌∙◌, ap}
-use Rattle.std.specs.Option.{option_map_or}
-use Rattle.seq_object.specs.Sequential.{Sequential}
-use Rattle.uni_model.specs.Places.{Name, Content, Memory, number_in, seq_of, new_of}
-use Rattle.uni_model.specs.Stages.{Stage, Pending}
-use Rattle.uni_model.specs.Stages.Stage.{Announce, ScanHead, ScanSeq, WriteScan, Test, ReadAnnounce, ReadHelpSeq, DecideAfter, DecideNew, WriteBefore, WriteSeq, WriteHead, Finish}
-use Rattle.uni_model.specs.Transition.{place_of, next_in_scan, turn_of}
-use Rattle.uni_model.specs.Effects.{effect_of, call_after}
-use Rattle.uni_model.specs.Worlds.{world_after_era, IsQuiescent, WorldOf, Event, anchor_memory, last_cell, opened_world, world_after_step, world_after_call, world_after, world_after_all, IsAccepted, AreAccepted}
-use Rattle.uni_model.specs.Worlds.Event.{Call, Step, Trim, Reshape}
-use Rattle.uni_model.specs.Invariant.{Stands, Invariant}
-use Rattle.uni_model.specs.Counting.{steps_at, HasTurns, IsCounted, CountsSteps}
+use Rattle.uni_model.proofs.Vocabulary.{Announce, AreAccepted, Call, Content, CountsSteps, DecideAfter, DecideNew, Event, Finish, HasTurns, Invariant, IsAccepted, IsCounted, IsQuiescent, List, Memory, Name, None, Option, Pending, ReadAnnounce, ReadHelpSeq, Reshape, ScanHead, ScanSeq, Sequential, Some, Stage, Stands, Step, Test, Trim, WorldOf, WriteBefore, WriteHead, WriteScan, WriteSeq, [], anchor_memory, ap, arith, call_after, effect_of, inl, inr, last_cell, new_of, next_in_scan, number_in, opened_world, option_map_or, place_of, refl, seq_of, steps_at, subst, sym, turn_of, world_after, world_after_all, world_after_call, world_after_era, world_after_step, ℕ, ◌+◌, ◌<◌, ◌∙◌, ◌∷◌, ◌≡◌}
 use Rattle.uni_model.proofs.Written.{number_cases, lt_cases}
 use Rattle.uni_model.proofs.Kept.{idle_when_quiescent, Invariant-world_after}
 

@@ -1,18 +1,5 @@
 -- What the end of an era leaves: the state after its calls, and the last number.
-use Rattle.std.proofs.Common.{◌≡◌, ◌∙◌, ℕ, ◌+◌, ◌≤◌, refl, sym, ap, List, [], ◌∷◌, map, length, slice_get, take, Option, Some, None, arith}
-use Rattle.std.specs.Option.{option_map_or}
-use Rattle.std.specs.List.{AllByRecursion}
-use Rattle.std.proofs.lemmas.List.{take_all, length-map}
-use Rattle.seq_object.specs.Sequential.{Sequential}
-use Rattle.seq_object.specs.History.{state_after}
-use Rattle.uni_model.specs.Places.{Name, Memory, seq_of, new_of}
-use Rattle.uni_model.specs.Places.Name.{Anchor}
-use Rattle.uni_model.specs.Chain.{invoked_at, entries_from, last_of}
-use Rattle.uni_model.specs.AtomicObject.{Invoked}
-use Rattle.uni_model.specs.Worlds.{WorldOf, IsQuiescent, anchor_memory, chain, last_cell, world_after_era}
-use Rattle.uni_model.specs.Counting.{era_calls}
-use Rattle.uni_model.specs.History.{log, invocations_of}
-use Rattle.uni_model.specs.Invariant.{Has, IsSound}
+use Rattle.uni_model.proofs.Vocabulary.{AllByRecursion, Anchor, Has, Invoked, IsQuiescent, IsSound, List, Memory, Name, None, Option, Sequential, Some, WorldOf, [], anchor_memory, ap, arith, chain, entries_from, era_calls, invocations_of, invoked_at, last_cell, last_of, length, length-map, log, map, new_of, option_map_or, refl, seq_of, slice_get, state_after, sym, take, take_all, world_after_era, ℕ, ◌+◌, ◌∙◌, ◌∷◌, ◌≡◌, ◌≤◌}
 use Rattle.uni_model.proofs.Chains.{calls_at}
 use Rattle.uni_model.proofs.Simulation.{enough, calls_of-calls_at}
 use Rattle.uni_model.proofs.Logged.{state_after-from}

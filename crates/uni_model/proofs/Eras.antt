@@ -1,17 +1,5 @@
 -- An event ends no era, or it ends one: what the joined log is then, and what the anchor has.
-use Rattle.std.proofs.Common.{◌≡◌, ◌∙◌, ℕ, ◌+◌, ◌<◌, ◌≤◌, ◌⊎◌, inl, inr, refl, sym, ap, subst, List, ◌∷◌, ◌++◌, length, slice_get, Option, Some, None, option_map, option_and_then, arith, IsSome}
-use Rattle.seq_object.specs.Sequential.{Sequential}
-use Rattle.seq_object.specs.History.{state_after}
-use Rattle.uni_model.specs.Places.{Name, seq_of, inv_of, new_of}
-use Rattle.uni_model.specs.Places.Name.{Anchor, Of}
-use Rattle.uni_model.specs.Stages.{Pending}
-use Rattle.uni_model.specs.Chain.{Entry, response_in}
-use Rattle.uni_model.specs.Worlds.{WorldOf, Event, IsQuiescent, chain, world_after, world_after_step, world_after_era, IsAccepted}
-use Rattle.uni_model.specs.Counting.{era_calls}
-use Rattle.uni_model.specs.Worlds.Event.{Call, Step, Trim, Reshape}
-use Rattle.uni_model.specs.History.{log, invocations_of, log_of_run}
-use Rattle.uni_model.specs.Invariant.{IsSound, Invariant}
-use Rattle.uni_model.specs.Growth.{EndsNoEra}
+use Rattle.uni_model.proofs.Vocabulary.{Anchor, Call, EndsNoEra, Entry, Event, Invariant, IsAccepted, IsQuiescent, IsSome, IsSound, List, Name, None, Of, Option, Pending, Reshape, Sequential, Some, Step, Trim, WorldOf, ap, arith, chain, era_calls, inl, inr, inv_of, invocations_of, length, log, log_of_run, new_of, option_and_then, option_map, refl, response_in, seq_of, slice_get, state_after, subst, sym, world_after, world_after_era, world_after_step, ℕ, ◌++◌, ◌+◌, ◌<◌, ◌∙◌, ◌∷◌, ◌≡◌, ◌≤◌, ◌⊎◌}
 use Rattle.uni_model.proofs.Written.{set_at-cases}
 use Rattle.uni_model.proofs.Kept.{Grows-world_after, threaded_when_quiescent}
 use Rattle.uni_model.proofs.Chains.{number_at}

@@ -1,17 +1,5 @@
 -- A call that is begun keeps the floor of another one; the step that announces a call gives it its floor.
-use Rattle.std.proofs.Common.{◌≡◌, ◌∙◌, ℕ, zero, suc, max, ◌+◌, ◌<◌, ◌≤◌, inl, inr, ap, subst, Some, arith}
-use Rattle.std.proofs.lemmas.Bool.{cases_lt}
-use Rattle.std.proofs.Math.Nat.{le-max_left, le-max_right}
-use Rattle.seq_object.specs.Sequential.{Sequential}
-use Rattle.uni_model.specs.Places.{Name, head_seq}
-use Rattle.uni_model.specs.AtomicObject.{set_at}
-use Rattle.uni_model.specs.Places.Name.{Of}
-use Rattle.uni_model.specs.Stages.{Pending}
-use Rattle.uni_model.specs.Stages.Stage.{Announce}
-use Rattle.uni_model.specs.Worlds.{WorldOf, world_after_call}
-use Rattle.uni_model.specs.Frontier.{greatest_below, frontier}
-use Rattle.uni_model.specs.Invariant.{IsSound}
-use Rattle.uni_model.specs.Helping.{SomeHead, OfConsidered, IsFairToAll, Helps}
+use Rattle.uni_model.proofs.Vocabulary.{Announce, Helps, IsFairToAll, IsSound, Name, Of, OfConsidered, Pending, Sequential, Some, SomeHead, WorldOf, ap, arith, cases_lt, frontier, greatest_below, head_seq, inl, inr, le-max_left, le-max_right, max, set_at, subst, suc, world_after_call, zero, ℕ, ◌+◌, ◌<◌, ◌∙◌, ◌≡◌, ◌≤◌}
 use Rattle.uni_model.proofs.Floored.{IsBelowFloor, Waits, HasFloor, IsAnnounced}
 use Rattle.uni_model.proofs.Written.{number_cases}
 use Rattle.uni_model.proofs.Helped.{OfConsidered-map}

@@ -1,12 +1,5 @@
 -- What every world that is reached keeps of a call with a floor.
-use Rattle.std.proofs.Common.{◌≡◌, ◌≢◌, ℕ, ◌+◌, ◌<◌, ◌≤◌, ◌%◌, Some}
-use Rattle.seq_object.specs.Sequential.{Sequential}
-use Rattle.uni_model.specs.Places.{Name}
-use Rattle.uni_model.specs.Places.Name.{Anchor, Of}
-use Rattle.uni_model.specs.Stages.{Pending}
-use Rattle.uni_model.specs.Stages.Stage.{Announce}
-use Rattle.uni_model.specs.Worlds.{WorldOf}
-use Rattle.uni_model.specs.Helping.{OfConsidered, HelpingInvariant}
+use Rattle.uni_model.proofs.Vocabulary.{Anchor, Announce, HelpingInvariant, Name, Of, OfConsidered, Pending, Sequential, Some, WorldOf, ℕ, ◌%◌, ◌+◌, ◌<◌, ◌≡◌, ◌≢◌, ◌≤◌}
 
 -- A process may link y after the cell with the number s: as long as x isn't linked, and where it is p's turn to be helped and
 -- y is another cell than x, s isn't past the floor.

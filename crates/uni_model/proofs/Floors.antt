@@ -1,19 +1,5 @@
 -- Every event that is accepted keeps the floor of a call.
-use Rattle.std.proofs.Common.{◌≡◌, ◌≢◌, ℕ, ◌+◌, ◌⊎◌, inl, inr, refl, List, [], ◌∷◌, Option, Some, None, arith}
-use Rattle.std.specs.Option.{option_map_or}
-use Rattle.seq_object.specs.Sequential.{Sequential}
-use Rattle.uni_model.specs.Places.{memory_with, seq_of, new_of}
-use Rattle.uni_model.specs.AtomicObject.{set_at}
-use Rattle.uni_model.specs.Places.Name.{Of}
-use Rattle.uni_model.specs.Stages.{Pending}
-use Rattle.uni_model.specs.Stages.Stage.{Announce}
-use Rattle.uni_model.specs.Transition.{place_of, turn_of}
-use Rattle.uni_model.specs.Effects.{effect_of}
-use Rattle.uni_model.specs.Worlds.{WorldOf, Event, world_after_step, anchor_memory, world_after_era, last_cell, world_after, world_after_all, IsAccepted, AreAccepted, IsQuiescent}
-use Rattle.uni_model.specs.Worlds.Event.{Call, Step, Trim, Reshape}
-use Rattle.uni_model.specs.Frontier.{frontier}
-use Rattle.uni_model.specs.Counting.{CountsSteps}
-use Rattle.uni_model.specs.Helping.{HelpingInvariant}
+use Rattle.uni_model.proofs.Vocabulary.{Announce, AreAccepted, Call, CountsSteps, Event, HelpingInvariant, IsAccepted, IsQuiescent, List, None, Of, Option, Pending, Reshape, Sequential, Some, Step, Trim, WorldOf, [], anchor_memory, arith, effect_of, frontier, inl, inr, last_cell, memory_with, new_of, option_map_or, place_of, refl, seq_of, set_at, turn_of, world_after, world_after_all, world_after_era, world_after_step, ℕ, ◌+◌, ◌∷◌, ◌≡◌, ◌≢◌, ◌⊎◌}
 use Rattle.uni_model.proofs.Floored.{HasFloor, FloorInvariant}
 use Rattle.uni_model.proofs.Steps.{leads}
 use Rattle.uni_model.proofs.Kept.{idle_when_quiescent}

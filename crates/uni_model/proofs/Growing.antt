@@ -1,22 +1,5 @@
 -- The log only grows while no era ends.
-use Rattle.std.proofs.Common.{◌≡◌, ◌∙◌, ℕ, zero, suc, ◌+◌, ◌-◌, ◌<◌, ◌≤◌, ◌⊎◌, inl, inr, refl, sym, ap, subst, List, [], ◌∷◌, Option, Some, None, IsSome, length, slice_get, take, option_map, option_and_then, true, false, arith}
-use Rattle.std.specs.Option.{option_map_or}
-use Rattle.std.specs.List.{AllByRecursion}
-use Rattle.std.proofs.lemmas.Bool.{cases_lt}
-use Rattle.std.proofs.lemmas.Option.{slice_get_within, slice_get_cases}
-use Rattle.seq_object.specs.Sequential.{Sequential}
-use Rattle.uni_model.specs.Places.{Name, Memory, seq_of, after_of, inv_of, new_of}
-use Rattle.uni_model.specs.Places.Name.{Anchor, Of}
-use Rattle.uni_model.specs.Stages.{Pending}
-use Rattle.uni_model.specs.Chain.{cells_from, invoked_at, Entry, entries_from, response_in}
-use Rattle.uni_model.specs.AtomicObject.{Invoked}
-use Rattle.uni_model.specs.Worlds.{WorldOf, Event, chain, world_after, world_after_step, world_after_all, IsAccepted, AreAccepted, calls_in_era}
-use Rattle.uni_model.specs.Counting.{era_calls}
-use Rattle.uni_model.specs.Worlds.Event.{Call, Step, Trim, Reshape}
-use Rattle.uni_model.specs.History.{log}
-use Rattle.uni_model.specs.Settled.{Grows}
-use Rattle.uni_model.specs.Invariant.{Has, IsSound, Invariant}
-use Rattle.uni_model.specs.Growth.{GetsResponse, IsPrefixOf, EndsNoEra, EndNoEra}
+use Rattle.uni_model.proofs.Vocabulary.{AllByRecursion, Anchor, AreAccepted, Call, EndNoEra, EndsNoEra, Entry, Event, GetsResponse, Grows, Has, Invariant, Invoked, IsAccepted, IsPrefixOf, IsSome, IsSound, List, Memory, Name, None, Of, Option, Pending, Reshape, Sequential, Some, Step, Trim, WorldOf, [], after_of, ap, arith, calls_in_era, cases_lt, cells_from, chain, entries_from, era_calls, false, inl, inr, inv_of, invoked_at, length, log, new_of, option_and_then, option_map, option_map_or, refl, response_in, seq_of, slice_get, slice_get_cases, slice_get_within, subst, suc, sym, take, true, world_after, world_after_all, world_after_step, zero, ℕ, ◌+◌, ◌-◌, ◌<◌, ◌∙◌, ◌∷◌, ◌≡◌, ◌≤◌, ◌⊎◌}
 use Rattle.uni_model.proofs.Kept.{Invariant-world_after, Grows-world_after}
 use Rattle.uni_model.proofs.Sums.{sum_below-le}
 use Rattle.uni_model.proofs.Written.{set_at-cases}

@@ -1,11 +1,5 @@
 -- A memory that has grown: what was settled or written stays. What holds of a process that takes no step goes on to hold.
-use Rattle.std.proofs.Common.{◌≡◌, ◌∙◌, ℕ, ◌+◌, ◌<◌, ◌≤◌, ◌%◌, ◌⊎◌, inl, inr, sym, ap, subst, arith}
-use Rattle.uni_model.specs.Places.{Name, Memory, head_of, head_seq, inv_of, seq_of, new_of}
-use Rattle.uni_model.specs.Places.Name.{Of}
-use Rattle.uni_model.specs.Stages.{Stage}
-use Rattle.uni_model.specs.Stages.Stage.{Announce, ScanHead, ScanSeq, WriteScan, Test, ReadAnnounce, ReadHelpSeq, DecideAfter, DecideNew, WriteBefore, WriteSeq, WriteHead, Finish}
-use Rattle.uni_model.specs.Settled.{Grows}
-use Rattle.uni_model.specs.Invariant.{Has, HasBest, AtHead, IsPast, IsCellOf, Stands}
+use Rattle.uni_model.proofs.Vocabulary.{Announce, AtHead, DecideAfter, DecideNew, Finish, Grows, Has, HasBest, IsCellOf, IsPast, Memory, Name, Of, ReadAnnounce, ReadHelpSeq, ScanHead, ScanSeq, Stage, Stands, Test, WriteBefore, WriteHead, WriteScan, WriteSeq, ap, arith, head_of, head_seq, inl, inr, inv_of, new_of, seq_of, subst, sym, ℕ, ◌%◌, ◌+◌, ◌<◌, ◌∙◌, ◌≡◌, ◌≤◌, ◌⊎◌}
 
 -- a number stays, or is given to a cell at the end of the chain, past every threaded cell
 abbrev pub NumbersGrow : {S I R : Type 0} → Memory S I R → (num num' : Name → ℕ) → Type 0

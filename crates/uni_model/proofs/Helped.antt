@@ -1,12 +1,6 @@
 -- What holds of a process that takes no step, and of what one considers, holds later.
-use Rattle.std.proofs.Common.{◌≡◌, ◌∙◌, ℕ, ◌+◌, ◌<◌, ◌≤◌, ◌⊎◌, inl, inr, refl, sym, subst, arith}
-use Rattle.uni_model.specs.Places.{Name, Memory, announce_of, head_of, head_seq}
-use Rattle.uni_model.specs.Stages.{Stage}
-use Rattle.uni_model.specs.Stages.Stage.{Announce, ScanHead, ScanSeq, WriteScan, Test, ReadAnnounce, ReadHelpSeq, DecideAfter, DecideNew, WriteBefore, WriteSeq, WriteHead, Finish}
-use Rattle.uni_model.specs.Settled.{Grows}
-use Rattle.uni_model.specs.Invariant.{IsPast, Stands}
+use Rattle.uni_model.proofs.Vocabulary.{Announce, Announces, CountsOwnHead, DecideAfter, DecideNew, Finds, Finish, Grows, IsAhead, IsPast, Memory, Name, OfConsidered, ReadAnnounce, ReadHelpSeq, ScanHead, ScanSeq, SomeHead, Stage, Stands, Test, WriteBefore, WriteHead, WriteScan, WriteSeq, announce_of, arith, head_of, head_seq, inl, inr, refl, subst, sym, ℕ, ◌+◌, ◌<◌, ◌∙◌, ◌≡◌, ◌≤◌, ◌⊎◌}
 use Rattle.uni_model.proofs.Grows.{NumbersGrow, head_seq-at}
-use Rattle.uni_model.specs.Helping.{SomeHead, Finds, Announces, CountsOwnHead, IsAhead, OfConsidered}
 
 pub OfConsidered-map : (stage : Stage) (Was Is : ℕ → Name → Type 0) → ((s : ℕ) (x : Name) → Was s x → Is s x) → OfConsidered stage Was → OfConsidered stage Is
 OfConsidered-map Announce Was Is each h = tt

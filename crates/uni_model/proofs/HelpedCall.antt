@@ -1,17 +1,8 @@
 -- A call that is begun is helped from its start on.
-use Rattle.std.proofs.Common.{◌≡◌, ◌≢◌, ◌∙◌, ℕ, ◌<◌, ◌≤◌, ◌⊎◌, inl, inr, refl, sym, ap, subst, Some, None, arith}
-use Rattle.seq_object.specs.Sequential.{Sequential}
-use Rattle.uni_model.specs.Places.{Name, announce_of, head_of, head_seq, inv_of}
-use Rattle.uni_model.specs.AtomicObject.{set_at}
-use Rattle.uni_model.specs.Places.Name.{Anchor, Of}
-use Rattle.uni_model.specs.Stages.{Stage, Pending}
-use Rattle.uni_model.specs.Stages.Stage.{Announce, ScanHead, ScanSeq, WriteScan, Test, ReadAnnounce, ReadHelpSeq, DecideAfter, DecideNew, WriteBefore, WriteSeq, WriteHead, Finish}
-use Rattle.uni_model.specs.Worlds.{WorldOf, world_after_call}
-use Rattle.uni_model.specs.Invariant.{Has, AtHead, IsCellOf, Stands, IsSound}
+use Rattle.uni_model.proofs.Vocabulary.{Anchor, Announce, AtHead, DecideAfter, DecideNew, Finish, Has, Helps, IsCellOf, IsFair, IsFairToAll, IsHelped, IsSound, Name, None, Of, OfConsidered, Pending, ReadAnnounce, ReadHelpSeq, ScanHead, ScanSeq, Sequential, Some, SomeHead, Stage, Stands, Test, WorldOf, WriteBefore, WriteHead, WriteScan, WriteSeq, announce_of, ap, arith, head_of, head_seq, inl, inr, inv_of, refl, set_at, subst, sym, world_after_call, ℕ, ◌<◌, ◌∙◌, ◌≡◌, ◌≢◌, ◌≤◌, ◌⊎◌}
 use Rattle.uni_model.proofs.Written.{number_cases}
 use Rattle.uni_model.proofs.Begun.{fresh, not_linked, Grows-begun}
 use Rattle.uni_model.proofs.Grows.{head_seq-at}
-use Rattle.uni_model.specs.Helping.{SomeHead, OfConsidered, IsHelped, IsFair, IsFairToAll, Helps}
 use Rattle.uni_model.proofs.Helped.{OfConsidered-map}
 use Rattle.uni_model.proofs.Later.{heads_later, IsFair-later, Finds-waiting, IsHelped-waiting}
 

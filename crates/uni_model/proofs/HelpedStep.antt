@@ -1,17 +1,8 @@
 -- A step goes on helping every call that is pending.
-use Rattle.std.proofs.Common.{◌≡◌, ◌≢◌, ◌∙◌, ℕ, ◌+◌, ◌<◌, ◌≤◌, inl, inr, sym, ap, subst, Option, Some, None, arith}
-use Rattle.seq_object.specs.Sequential.{Sequential}
-use Rattle.uni_model.specs.Places.{Name, Memory, head_of, head_seq, seq_of}
-use Rattle.uni_model.specs.AtomicObject.{set_at}
-use Rattle.uni_model.specs.Stages.{Stage, Pending}
-use Rattle.uni_model.specs.Stages.Stage.{DecideAfter}
-use Rattle.uni_model.specs.Worlds.{WorldOf}
-use Rattle.uni_model.specs.Effects.{call_after}
-use Rattle.uni_model.specs.Invariant.{Stands, IsSound}
+use Rattle.uni_model.proofs.Vocabulary.{DecideAfter, Helps, IsFair, IsFairToAll, IsHelped, IsSound, Memory, Name, None, OfConsidered, Option, Pending, Sequential, Some, Stage, Stands, WorldOf, ap, arith, call_after, head_of, head_seq, inl, inr, seq_of, set_at, subst, sym, ℕ, ◌+◌, ◌<◌, ◌∙◌, ◌≡◌, ◌≢◌, ◌≤◌}
 use Rattle.uni_model.proofs.Written.{number_cases}
 use Rattle.uni_model.proofs.Moves.{Moves, Extends}
 use Rattle.uni_model.proofs.Grows.{head_seq-at}
-use Rattle.uni_model.specs.Helping.{OfConsidered, IsHelped, IsFair, IsFairToAll, Helps}
 use Rattle.uni_model.proofs.Helped.{OfConsidered-map}
 use Rattle.uni_model.proofs.Advanced.{AdvancesTo}
 use Rattle.uni_model.proofs.Later.{GrowFairly, heads_later, IsHelped-later, IsFair-later, Finds-waiting, IsHelped-waiting}

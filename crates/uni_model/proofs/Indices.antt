@@ -1,7 +1,6 @@
 -- Cells by name and by index.
-use Rattle.std.proofs.Common.{◌≡◌, ◌∙◌, ℕ, zero, suc, ◌*◌, ◌+◌, ◌/◌, ◌%◌, ◌<◌, refl, sym, ap, arith}
+use Rattle.uni_model.proofs.Vocabulary.{Of, ap, arith, refl, suc, sym, zero, ℕ, ◌%◌, ◌*◌, ◌+◌, ◌/◌, ◌<◌, ◌∙◌, ◌≡◌}
 use Rattle.std.proofs.lemmas.Nat.{div-mul-add, mod-mul-add, div-add-mod'}
-use Rattle.uni_model.specs.Places.Name.{Of}
 use Rattle.uni_model.specs.Indices.{index_of, name_of, name_from}
 
 pub index_of-name : (n i : ℕ) → index_of n (i % n) (i / n) ≡ suc i

@@ -1,17 +1,6 @@
 -- The joined log of a run: what holds of the log of each era holds of all of them, one after another.
-use Rattle.std.proofs.Common.{◌≡◌, ◌∙◌, ℕ, zero, suc, ◌+◌, ◌<◌, ◌≤◌, ◌⊎◌, inl, inr, refl, sym, ap, subst, List, [], ◌∷◌, ◌++◌, map, length, slice_get, take, Some, None, IsSome, arith}
-use Rattle.std.proofs.lemmas.List.{length-append, map-append}
-use Rattle.seq_object.specs.Sequential.{Sequential}
-use Rattle.seq_object.specs.History.{Call, state_after, IsLegal}
-use Rattle.uni_model.specs.Places.{seq_of, new_of}
-use Rattle.uni_model.specs.Places.Name.{Anchor}
-use Rattle.uni_model.specs.Chain.{Entry}
-use Rattle.uni_model.specs.AtomicObject.{Invoked}
-use Rattle.uni_model.specs.Worlds.{WorldOf, Event, anchor_memory, opened_world, world_after, world_after_all, AreAccepted}
-use Rattle.uni_model.specs.History.{log, invocations_of, logged_call, log_of_run}
-use Rattle.uni_model.specs.Invariant.{Invariant}
-use Rattle.uni_model.specs.Growth.{IsPrefixOf}
-use Rattle.uni_model.specs.Eras.{EraLeaves, EraOfRunLeaves, JoinsLegalLogs, JoinedLogGrows}
+use Rattle.uni_model.proofs.Vocabulary.{Anchor, AreAccepted, Entry, EraLeaves, EraOfRunLeaves, Event, Invariant, Invoked, IsLegal, IsPrefixOf, IsSome, JoinedLogGrows, JoinsLegalLogs, List, None, Sequential, Some, WorldOf, [], anchor_memory, ap, arith, inl, inr, invocations_of, length, length-append, log, log_of_run, logged_call, map, map-append, new_of, opened_world, refl, seq_of, slice_get, state_after, subst, suc, sym, take, world_after, world_after_all, zero, ℕ, ◌++◌, ◌+◌, ◌<◌, ◌∙◌, ◌∷◌, ◌≡◌, ◌≤◌, ◌⊎◌}
+use Rattle.seq_object.specs.History.{Call}
 use Rattle.uni_model.proofs.Kept.{Invariant-opened_world, Invariant-world_after, Invariant-world_after_all}
 use Rattle.uni_model.proofs.LawProofs.{AreAccepted-take}
 use Rattle.uni_model.proofs.OneLists.{IsLegalLog-sound}

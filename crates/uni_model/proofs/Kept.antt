@@ -1,20 +1,5 @@
 -- Every event that is accepted keeps the invariant, and in its era what is settled stays.
-use Rattle.std.proofs.Common.{◌≡◌, ℕ, zero, suc, ◌+◌, ◌<◌, ◌≤◌, inl, inr, refl, subst, List, [], ◌∷◌, Option, Some, None, arith, IsSome, true, false}
-use Rattle.std.specs.Option.{option_map_or}
-use Rattle.seq_object.specs.Sequential.{Sequential}
-use Rattle.uni_model.specs.Places.{Name, Memory, memory_with, seq_of, after_of, new_of}
-use Rattle.uni_model.specs.AtomicObject.{set_at}
-use Rattle.uni_model.specs.Places.Name.{Anchor, Of}
-use Rattle.uni_model.specs.Stages.{Pending}
-use Rattle.uni_model.specs.Transition.{place_of, turn_of}
-use Rattle.uni_model.specs.Effects.{effect_of}
-use Rattle.uni_model.specs.Chain.{cells_from, last_of}
-use Rattle.uni_model.specs.Worlds.{WorldOf, Event, world_after_step, world_after_call, opened_world, anchor_memory, world_after_era, world_after, world_after_all, last_cell, IsAccepted, AreAccepted, IsQuiescent}
-use Rattle.uni_model.specs.Counting.{era_calls}
-use Rattle.uni_model.specs.Worlds.Event.{Call, Step, Trim, Reshape}
-use Rattle.uni_model.specs.Invariant.{IsNumbered, IsSound, Invariant}
-use Rattle.uni_model.specs.Growth.{EndsNoEra}
-use Rattle.uni_model.specs.Settled.{Grows}
+use Rattle.uni_model.proofs.Vocabulary.{Anchor, AreAccepted, Call, EndsNoEra, Event, Grows, Invariant, IsAccepted, IsNumbered, IsQuiescent, IsSome, IsSound, List, Memory, Name, None, Of, Option, Pending, Reshape, Sequential, Some, Step, Trim, WorldOf, [], after_of, anchor_memory, arith, cells_from, effect_of, era_calls, false, inl, inr, last_cell, last_of, memory_with, new_of, opened_world, option_map_or, place_of, refl, seq_of, set_at, subst, suc, true, turn_of, world_after, world_after_all, world_after_call, world_after_era, world_after_step, zero, ℕ, ◌+◌, ◌<◌, ◌∷◌, ◌≡◌, ◌≤◌}
 use Rattle.uni_model.proofs.Moves.{IsSound-moved}
 use Rattle.uni_model.proofs.Steps.{leads}
 use Rattle.uni_model.proofs.Anchored.{alone, IsSound-anchor_memory}

@@ -1,17 +1,8 @@
 -- What helps a pending call helps it later too.
-use Rattle.std.proofs.Common.{◌≡◌, ◌≢◌, ◌∙◌, ℕ, ◌+◌, ◌<◌, ◌≤◌, ◌%◌, inl, inr, sym, ap, subst, Some, arith}
-use Rattle.seq_object.specs.Sequential.{Sequential}
-use Rattle.uni_model.specs.Places.{Name, Memory, announce_of, head_of, head_seq, seq_of}
-use Rattle.uni_model.specs.Places.Name.{Anchor}
-use Rattle.uni_model.specs.Stages.{Stage, Pending}
-use Rattle.uni_model.specs.Stages.Stage.{Announce}
-use Rattle.uni_model.specs.Worlds.{WorldOf}
-use Rattle.uni_model.specs.Settled.{Grows}
-use Rattle.uni_model.specs.Invariant.{IsSound}
+use Rattle.uni_model.proofs.Vocabulary.{Anchor, Announce, Announces, CountsOwnHead, Finds, Grows, Helps, IsAhead, IsFair, IsFairToAll, IsHelped, IsSound, Memory, Name, Pending, Sequential, Some, SomeHead, Stage, WorldOf, announce_of, ap, arith, head_of, head_seq, inl, inr, seq_of, subst, sym, ℕ, ◌%◌, ◌+◌, ◌<◌, ◌∙◌, ◌≡◌, ◌≢◌, ◌≤◌}
 use Rattle.uni_model.proofs.Grows.{NumbersGrow}
 use Rattle.uni_model.proofs.Longer.{IsLonger, anchor_stays, not_linked_before, numbers-cases, below-cases}
 use Rattle.uni_model.proofs.Residues.{found_near}
-use Rattle.uni_model.specs.Helping.{SomeHead, Finds, Announces, CountsOwnHead, IsAhead, IsHelped, IsFair, IsFairToAll, Helps}
 use Rattle.uni_model.proofs.Helped.{SomeHead-grows, Finds-grows, Announces-same, CountsOwnHead-same, IsAhead-grows}
 
 -- the chain is as before, or longer by a cell which is fair to all and is linked after some process's head

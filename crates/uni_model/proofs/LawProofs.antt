@@ -1,24 +1,8 @@
 -- The laws over every list of accepted events.
-use Rattle.std.proofs.Common.{◌≡◌, ◌≢◌, ◌∙◌, ℕ, zero, suc, take, inl, inr, refl, sym, ap, subst, List, [], ◌∷◌, ◌++◌, Option, Some, None, IsSome, Bool, true, false, cond}
-use Rattle.seq_object.specs.Sequential.{Sequential}
-use Rattle.uni_model.specs.Places.{Place, Content, Memory, memory_with, place_eq}
-use Rattle.uni_model.specs.Stages.{Pending}
-use Rattle.uni_model.specs.Transition.{place_of}
-use Rattle.uni_model.specs.Worlds.{WorldOf, Event, opened_world, world_after, world_after_step, world_after_all, IsAccepted, AreAccepted}
-use Rattle.uni_model.specs.Worlds.Event.{Call, Step, Trim, Reshape}
-use Rattle.uni_model.specs.AtomicObject.{Atomic, Act, AcceptsAll, set_at}
-use Rattle.uni_model.specs.History.{Shows, acts_of}
-use Rattle.uni_model.specs.Growth.{EndsNoEra}
-use Rattle.uni_model.specs.Settled.{ChangesOnly}
-use Rattle.uni_model.specs.Invariant.{Invariant}
-use Rattle.uni_model.specs.Tight.{EndsAtItsCell}
-use Rattle.uni_model.specs.Laws.{IsReached, BoundedAlong, StepIsLocal, SettledStays, Simulates}
+use Rattle.uni_model.proofs.Vocabulary.{AcceptsAll, Act, AreAccepted, Atomic, Bool, BoundedAlong, Call, ChangesOnly, Content, CountsSteps, EndsAtItsCell, EndsNoEra, Event, HelpingInvariant, Invariant, IsAccepted, IsBounded, IsReached, IsSome, List, Memory, None, Option, Pending, Place, Reshape, Sequential, SettledStays, Shows, Simulates, Some, Step, StepIsLocal, Trim, WorldOf, [], acts_of, ap, cond, false, inl, inr, memory_with, opened_world, place_eq, place_of, refl, set_at, subst, suc, sym, take, true, world_after, world_after_all, world_after_step, zero, ℕ, ◌++◌, ◌∙◌, ◌∷◌, ◌≡◌, ◌≢◌}
 use Rattle.uni_model.proofs.Written.{set_at-cases, place_eq_true}
 use Rattle.uni_model.proofs.Kept.{Invariant-opened_world, Invariant-world_after_all, Grows-world_after}
-use Rattle.uni_model.specs.Bound.{IsBounded}
-use Rattle.uni_model.specs.Counting.{CountsSteps}
 use Rattle.uni_model.proofs.Counted.{CountsSteps-opened_world, CountsSteps-world_after_all}
-use Rattle.uni_model.specs.Helping.{HelpingInvariant}
 use Rattle.uni_model.proofs.Bounded.{HelpingInvariant-opened_world, HelpingInvariant-world_after_all, IsBounded-held, at_its_cell}
 use Rattle.uni_model.proofs.Simulation.{step_accepted, call_accepted}
 

@@ -1,3 +1,4 @@
+pub mod Vocabulary
 pub mod Runs
 pub mod Written
 pub mod Grows

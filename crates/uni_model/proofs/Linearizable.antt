@@ -1,17 +1,5 @@
 -- What is observed of a run is linearizable: its history has the linearization points.
-use Rattle.std.proofs.Common.{◌≡◌, ◌∙◌, ℕ, ◌≤◌, refl, sym, ap, List, [], ◌∷◌, ◌++◌, map, drop, length, Option, Some, None}
-use Rattle.std.specs.Option.{option_map_or}
-use Rattle.seq_object.specs.Sequential.{Sequential}
-use Rattle.uni_model.specs.Places.{Name, Memory}
-use Rattle.uni_model.specs.Stages.{Pending}
-use Rattle.uni_model.specs.Worlds.{WorldOf, Event, opened_world, world_after, AreAccepted}
-use Rattle.uni_model.specs.Transition.{response_after}
-use Rattle.uni_model.specs.Worlds.Event.{Call, Step, Trim, Reshape}
-use Rattle.uni_model.specs.Chain.{Entry}
-use Rattle.uni_model.specs.AtomicObject.{Act, Invoked}
-use Rattle.uni_model.specs.AtomicObject.Act.{Invoke, Linearize, Respond}
-use Rattle.uni_model.specs.History.{calls_of, responses_of, acts_of, history_of, log_of_run}
-use Rattle.uni_model.specs.Linearizable.{observed, observed_at, observed_in, IsLinearizedAs, ObservesLinearizable}
+use Rattle.uni_model.proofs.Vocabulary.{Act, AreAccepted, Call, Entry, Event, Invoke, Invoked, IsLinearizedAs, Linearize, List, Memory, Name, None, ObservesLinearizable, Option, Pending, Reshape, Respond, Sequential, Some, Step, Trim, WorldOf, [], acts_of, ap, calls_of, drop, history_of, length, log_of_run, map, observed, observed_at, observed_in, opened_world, option_map_or, refl, response_after, responses_of, sym, world_after, ℕ, ◌++◌, ◌∙◌, ◌∷◌, ◌≡◌, ◌≤◌}
 use Rattle.uni_model.proofs.Linearized.{IsLinearizable-holds}
 
 module _ {I R : Type 0} where

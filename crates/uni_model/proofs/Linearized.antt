@@ -1,19 +1,5 @@
 -- Every run is what an atomic object does, whichever eras end in it.
-use Rattle.std.proofs.Common.{◌≡◌, ◌∙◌, ℕ, zero, suc, ◌+◌, ◌<◌, ◌≤◌, inl, inr, refl, sym, ap, subst, List, [], ◌∷◌, ◌++◌, map, length, Some, None, Contains, arith}
-use Rattle.std.proofs.lemmas.List.{append_assoc, append-nil, map-append}
-use Rattle.std.proofs.lemmas.List.Elements.{All-contains, All-from_recursion, Contains-append_cases}
-use Rattle.seq_object.specs.Sequential.{Sequential}
-use Rattle.seq_object.specs.History.{state_after}
-use Rattle.uni_model.specs.Places.{Name, Memory, seq_of}
-use Rattle.uni_model.specs.Places.Name.{Anchor, Of}
-use Rattle.uni_model.specs.Chain.{Entry, cells_from}
-use Rattle.uni_model.specs.Worlds.{WorldOf, Event, IsQuiescent, anchor_memory, chain, opened_world, world_after, world_after_era, world_after_all, AreAccepted}
-use Rattle.uni_model.specs.Counting.{era_calls}
-use Rattle.uni_model.specs.Worlds.Event.{Call, Step, Trim, Reshape}
-use Rattle.uni_model.specs.AtomicObject.{Atomic, AcceptsAll, at_start, Invoked}
-use Rattle.uni_model.specs.History.{Shows, open_at, log, log_of_run, calls_of, invocations_of, history_of, acts_of}
-use Rattle.uni_model.specs.Invariant.{IsSound, Invariant}
-use Rattle.uni_model.specs.Laws.{IsLinearizable}
+use Rattle.uni_model.proofs.Vocabulary.{AcceptsAll, All-contains, All-from_recursion, Anchor, AreAccepted, Atomic, Call, Contains, Contains-append_cases, Entry, Event, Invariant, Invoked, IsLinearizable, IsQuiescent, IsSound, List, Memory, Name, None, Of, Reshape, Sequential, Shows, Some, Step, Trim, WorldOf, [], acts_of, anchor_memory, ap, append-nil, append_assoc, arith, at_start, calls_of, cells_from, chain, era_calls, history_of, inl, inr, invocations_of, length, log, log_of_run, map, map-append, open_at, opened_world, refl, seq_of, state_after, subst, suc, sym, world_after, world_after_all, world_after_era, zero, ℕ, ◌++◌, ◌+◌, ◌<◌, ◌∙◌, ◌∷◌, ◌≡◌, ◌≤◌}
 use Rattle.uni_model.proofs.Chains.{calls_at, linked_calls}
 use Rattle.uni_model.proofs.Simulation.{calls_of-calls_at}
 use Rattle.uni_model.proofs.Kept.{Invariant-opened_world, Invariant-world_after, idle_when_quiescent}

@@ -1,13 +1,5 @@
 -- Locality: the linearization points of each object's subhistory are put among the acts of the whole history.
-use Rattle.std.proofs.Common.{◌≡◌, ◌≢◌, ◌∙◌, ℕ, zero, suc, ◌+◌, ◌-◌, ◌<◌, inl, inr, refl, sym, ap, subst, true, false, List, [], ◌∷◌, ◌++◌, length, slice_get, Some, None, Contains, arith}
-use Rattle.std.proofs.lemmas.List.{append-nil}
-use Rattle.seq_object.specs.Sequential.{Sequential}
-use Rattle.seq_object.specs.History.{response_at}
-use Rattle.uni_model.specs.AtomicObject.{Atomic, Act, Accepts, AcceptsAll, Invoked, at_start, set_at}
-use Rattle.uni_model.specs.AtomicObject.Act.{Invoke, Linearize, Respond}
-use Rattle.uni_model.specs.Linearizable.{observed, IsLinearizableHistory}
-use Rattle.uni_model.specs.HerlihyWing.{of_process, AreInTurn, IsWellFormed}
-use Rattle.uni_model.specs.Locality.{together, of_object}
+use Rattle.uni_model.proofs.Vocabulary.{Accepts, AcceptsAll, Act, AreInTurn, Atomic, Contains, Invoke, Invoked, IsLinearizableHistory, IsWellFormed, Linearize, List, None, Respond, Sequential, Some, [], ap, append-nil, arith, at_start, false, inl, inr, length, observed, of_object, of_process, refl, response_at, set_at, slice_get, subst, suc, sym, together, true, zero, ℕ, ◌++◌, ◌+◌, ◌-◌, ◌<◌, ◌∙◌, ◌∷◌, ◌≡◌, ◌≢◌}
 use Rattle.uni_model.proofs.Written.{number_cases}
 use Rattle.uni_model.proofs.LawProofs.{set_at_elsewhere}
 use Rattle.uni_model.proofs.Solo.{set_at_here}

@@ -1,15 +1,5 @@
 -- The log is a legal history of the object: what is settled along the chain is what the object makes of its calls.
-use Rattle.std.proofs.Common.{◌≡◌, ◌≢◌, ℕ, zero, suc, ◌+◌, ◌<◌, ◌≤◌, refl, sym, ap, subst, List, [], ◌∷◌, Option, Some, None, IsSome, length, map, slice_get, take, option_map, IfSome, arith}
-use Rattle.std.specs.Option.{IsSomeAnd, option_map_or}
-use Rattle.seq_object.specs.Sequential.{Sequential}
-use Rattle.seq_object.specs.History.{IsLegal, state_after}
-use Rattle.uni_model.specs.Places.{Name, seq_of, after_of, new_of, inv_of}
-use Rattle.uni_model.specs.Places.Name.{Anchor, Of}
-use Rattle.uni_model.specs.Chain.{cells_from, invoked_at, Entry, entries_from, response_in}
-use Rattle.uni_model.specs.AtomicObject.{Invoked}
-use Rattle.uni_model.specs.Worlds.{WorldOf}
-use Rattle.uni_model.specs.History.{logged_call}
-use Rattle.uni_model.specs.Invariant.{IsSound}
+use Rattle.uni_model.proofs.Vocabulary.{Anchor, Entry, IfSome, Invoked, IsLegal, IsSome, IsSomeAnd, IsSound, List, Name, None, Of, Option, Sequential, Some, WorldOf, [], after_of, ap, arith, cells_from, entries_from, inv_of, invoked_at, length, logged_call, map, new_of, option_map, option_map_or, refl, response_in, seq_of, slice_get, state_after, subst, suc, sym, take, zero, ℕ, ◌+◌, ◌<◌, ◌∷◌, ◌≡◌, ◌≢◌, ◌≤◌}
 use Rattle.uni_model.proofs.Values.{response-settled}
 use Rattle.uni_model.proofs.Chains.{calls_at, invoked_at-inv}
 

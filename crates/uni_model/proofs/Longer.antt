@@ -1,8 +1,5 @@
 -- The chain as it was, or with one more cell at its end.
-use Rattle.std.proofs.Common.{◌≡◌, ◌∙◌, ℕ, ◌+◌, ◌<◌, ◌≤◌, ◌⊎◌, inl, inr, refl, sym, ap, subst, arith}
-use Rattle.std.proofs.lemmas.Bool.{cases_lt}
-use Rattle.uni_model.specs.Places.{Name}
-use Rattle.uni_model.specs.Places.Name.{Anchor}
+use Rattle.uni_model.proofs.Vocabulary.{Anchor, Name, ap, arith, cases_lt, inl, inr, refl, subst, sym, ℕ, ◌+◌, ◌<◌, ◌∙◌, ◌≡◌, ◌≤◌, ◌⊎◌}
 use Rattle.uni_model.proofs.Numbered.{numbered_last, numbered_last-cases}
 
 -- the numbers are as before, or one more: that of a cell of which this holds

@@ -1,6 +1,5 @@
 -- Elements of lists by their places.
-use Rattle.std.proofs.Common.{◌≡◌, ◌∙◌, ℕ, zero, suc, ap, List, [], ◌∷◌, ◌++◌, slice_get, Some, None, Contains}
-use Rattle.std.proofs.lemmas.Option.{slice_get_within, get_or_from_slice_get, slice_get-get_or}
+use Rattle.uni_model.proofs.Vocabulary.{Contains, List, None, Some, [], ap, get_or_from_slice_get, slice_get, slice_get-get_or, slice_get_within, suc, zero, ℕ, ◌++◌, ◌∙◌, ◌∷◌, ◌≡◌}
 
 module _ {A : Type 0} where
   pub member : (xs : List A) (j : ℕ) (x : A) → slice_get xs j ≡ Some x → Contains xs x

@@ -1,16 +1,6 @@
 -- A step of one process: what has to be shown of it, so that the invariant holds after it.
-use Rattle.std.proofs.Common.{◌≡◌, ◌≢◌, ◌∙◌, ℕ, ◌+◌, ◌-◌, ◌<◌, ◌≤◌, ◌⊎◌, inl, inr, refl, sym, ap, subst, Option, Some, None, arith, cond, Bool, true, false, nat_eq}
-use Rattle.seq_object.specs.Sequential.{Sequential}
-use Rattle.uni_model.specs.Places.{Name, Memory, head_of, head_seq, announce_of, seq_of, inv_of}
-use Rattle.uni_model.specs.AtomicObject.{set_at}
-use Rattle.uni_model.specs.Places.Name.{Anchor, Of}
-use Rattle.uni_model.specs.Stages.{Stage, Pending}
-use Rattle.uni_model.specs.Stages.Stage.{DecideAfter}
-use Rattle.uni_model.specs.Worlds.{WorldOf, sum_below, calls_in_era}
-use Rattle.uni_model.specs.Effects.{call_after}
-use Rattle.uni_model.specs.Invariant.{Has, IsNumbered, HasValues, LeadsBack, AreCalls, Stands, IsSound, can_be_linked}
+use Rattle.uni_model.proofs.Vocabulary.{Anchor, AreCalls, Bool, DecideAfter, Grows, Has, HasValues, IsNumbered, IsSound, LeadsBack, Memory, Name, None, Of, Option, Pending, Sequential, Some, Stage, Stands, WorldOf, announce_of, ap, arith, call_after, calls_in_era, can_be_linked, cond, false, head_of, head_seq, inl, inr, inv_of, nat_eq, refl, seq_of, set_at, subst, sum_below, sym, true, ℕ, ◌+◌, ◌-◌, ◌<◌, ◌∙◌, ◌≡◌, ◌≢◌, ◌≤◌, ◌⊎◌}
 use Rattle.uni_model.proofs.Written.{set_at-cases, number_cases}
-use Rattle.uni_model.specs.Settled.{Grows}
 use Rattle.uni_model.proofs.Grows.{NumbersGrow, Has-inv, Stands-grows}
 use Rattle.uni_model.proofs.Numbered.{numbered_last}
 use Rattle.uni_model.proofs.Sums.{sum_below-le}

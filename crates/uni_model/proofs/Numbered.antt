@@ -1,11 +1,5 @@
 -- The numbers of the chain's cells, through each kind of write.
-use Rattle.std.proofs.Common.{◌≡◌, ◌≢◌, ◌∙◌, ℕ, ◌+◌, ◌<◌, ◌≤◌, ◌⊎◌, inl, inr, refl, sym, ap, subst, if◌then◌else◌, Some, None, arith}
-use Rattle.std.proofs.lemmas.Bool.{cases_lt}
-use Rattle.uni_model.specs.Places.{Name, Memory, name_eq, memory_with, seq_of, after_of}
-use Rattle.uni_model.specs.Places.Name.{Anchor}
-use Rattle.uni_model.specs.Places.Place.{SeqOf, AfterOf}
-use Rattle.uni_model.specs.Places.Content.{Number, Link}
-use Rattle.uni_model.specs.Invariant.{Has, IsNumbered, IsPast}
+use Rattle.uni_model.proofs.Vocabulary.{AfterOf, Anchor, Has, IsNumbered, IsPast, Link, Memory, Name, None, Number, SeqOf, Some, after_of, ap, arith, cases_lt, if◌then◌else◌, inl, inr, memory_with, name_eq, refl, seq_of, subst, sym, ℕ, ◌+◌, ◌<◌, ◌∙◌, ◌≡◌, ◌≢◌, ◌≤◌, ◌⊎◌}
 use Rattle.uni_model.proofs.Written.{name_cases, seq_of-memory_with, after_of-memory_with}
 
 -- the numbers after a cell y is linked at the end

@@ -1,17 +1,5 @@
 -- Every world that has the invariant has one list, and its log is a legal history.
-use Rattle.std.proofs.Common.{◌≡◌, ◌∙◌, ℕ, zero, suc, ◌+◌, ◌-◌, ◌≤◌, inl, inr, refl, sym, ap, subst, [], ◌∷◌, Option, Some, None, map, length, slice_get, take, option_map, arith}
-use Rattle.std.specs.Option.{option_map_or}
-use Rattle.std.proofs.lemmas.Bool.{cases_lt}
-use Rattle.std.proofs.lemmas.Option.{slice_get-map}
-use Rattle.seq_object.specs.Sequential.{Sequential}
-use Rattle.seq_object.specs.History.{state_after, response_at}
-use Rattle.uni_model.specs.Places.{Name, seq_of, after_of, new_of, before_of}
-use Rattle.uni_model.specs.Places.Name.{Anchor, Of}
-use Rattle.uni_model.specs.Chain.{cells_from, last_of}
-use Rattle.uni_model.specs.AtomicObject.{Invoked}
-use Rattle.uni_model.specs.Worlds.{WorldOf, chain, last_cell}
-use Rattle.uni_model.specs.Counting.{era_calls}
-use Rattle.uni_model.specs.Invariant.{IsSound, Invariant}
+use Rattle.uni_model.proofs.Vocabulary.{Anchor, Invariant, Invoked, IsSound, Name, None, Of, Option, Sequential, Some, WorldOf, [], after_of, ap, arith, before_of, cases_lt, cells_from, chain, era_calls, inl, inr, last_cell, last_of, length, map, new_of, option_map, option_map_or, refl, response_at, seq_of, slice_get, slice_get-map, state_after, subst, suc, sym, take, zero, ℕ, ◌+◌, ◌-◌, ◌∙◌, ◌∷◌, ◌≡◌, ◌≤◌}
 use Rattle.uni_model.specs.OneList.{value_at, IsOneList, HasOneList, IsLegalLog, HasLegalLog}
 use Rattle.uni_model.proofs.Chains.{calls_at, number_at, slice_get-cells_from, length-cells_from, slice_get-calls_at, invoked_past_anchor, response_at-calls_at}
 use Rattle.uni_model.proofs.Simulation.{enough, calls_of-calls_at}

@@ -1,20 +1,5 @@
 -- The joined log keeps real-time order.
-use Rattle.std.proofs.Common.{◌≡◌, ◌∙◌, ℕ, zero, suc, ◌+◌, ◌<◌, ◌≤◌, inl, inr, refl, sym, ap, subst, List, [], ◌∷◌, ◌++◌, length, slice_get, take, Option, Some, None, option_and_then, arith}
-use Rattle.std.proofs.lemmas.Bool.{cases_lt}
-use Rattle.std.proofs.lemmas.Option.{slice_get_within, slice_get_cases}
-use Rattle.seq_object.specs.Sequential.{Sequential}
-use Rattle.seq_object.specs.History.{state_after}
-use Rattle.uni_model.specs.Places.{seq_of, inv_of}
-use Rattle.uni_model.specs.AtomicObject.{set_at}
-use Rattle.uni_model.specs.Places.Name.{Anchor, Of}
-use Rattle.uni_model.specs.Stages.{Pending}
-use Rattle.uni_model.specs.Chain.{Entry, response_in}
-use Rattle.uni_model.specs.Worlds.{WorldOf, Event, chain, opened_world, world_after, world_after_step, world_after_all}
-use Rattle.uni_model.specs.Worlds.Event.{Call, Step}
-use Rattle.uni_model.specs.History.{log, invocations_of, log_of_run}
-use Rattle.uni_model.specs.Invariant.{Has, Invariant}
-use Rattle.uni_model.specs.Growth.{IsPrefixOf}
-use Rattle.uni_model.specs.Eras.{StandsAt, HasReturned, KeepsRealTime}
+use Rattle.uni_model.proofs.Vocabulary.{Anchor, Call, Entry, Event, Has, HasReturned, Invariant, IsPrefixOf, KeepsRealTime, List, None, Of, Option, Pending, Sequential, Some, StandsAt, Step, WorldOf, [], ap, arith, cases_lt, chain, inl, inr, inv_of, invocations_of, length, log, log_of_run, opened_world, option_and_then, refl, response_in, seq_of, set_at, slice_get, slice_get_cases, slice_get_within, state_after, subst, suc, sym, take, world_after, world_after_all, world_after_step, zero, ℕ, ◌++◌, ◌+◌, ◌<◌, ◌∙◌, ◌∷◌, ◌≡◌, ◌≤◌}
 use Rattle.uni_model.proofs.Written.{set_at-cases, inv_of-memory_with}
 use Rattle.uni_model.proofs.Grows.{Has-inv}
 use Rattle.uni_model.proofs.Kept.{Grows-world_after, idle_when_quiescent}

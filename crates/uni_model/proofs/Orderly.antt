@@ -1,13 +1,5 @@
 -- What an atomic object keeps from its start on: the calls of each process take effect in their order, and none ends twice.
-use Rattle.std.proofs.Common.{◌≡◌, ◌≢◌, ◌∙◌, ℕ, zero, suc, ◌+◌, ◌<◌, ◌≤◌, ◌==◌, ◌⊎◌, inl, inr, refl, sym, ap, subst, true, false, cond, List, [], ◌∷◌, ◌++◌, map, length, slice_get, take, Some, None, Contains, count_by, eq-eqb, nat_eq, arith}
-use Rattle.std.proofs.lemmas.List.{map-append, take_all, take-append-le}
-use Rattle.std.proofs.lemmas.List.Elements.{Contains-append_left, Contains-push}
-use Rattle.std.proofs.lemmas.List.Sums.{count_by_more_yes, sum_by_push, sum_by-take-le}
-use Rattle.std.proofs.lemmas.Option.{get_or_from_slice_get, slice_get_within}
-use Rattle.seq_object.specs.Sequential.{Sequential}
-use Rattle.seq_object.specs.History.{response_at}
-use Rattle.uni_model.specs.AtomicObject.{Atomic, Act, Accepts, AcceptsAll, at_start, set_at, Invoked}
-use Rattle.uni_model.specs.AtomicObject.Act.{Invoke, Linearize, Respond}
+use Rattle.uni_model.proofs.Vocabulary.{Accepts, AcceptsAll, Act, Atomic, Contains, Contains-append_left, Contains-push, Invoke, Invoked, Linearize, List, None, Respond, Sequential, Some, [], ap, arith, at_start, cond, count_by, count_by_more_yes, eq-eqb, false, get_or_from_slice_get, inl, inr, length, map, map-append, nat_eq, refl, response_at, set_at, slice_get, slice_get_within, subst, suc, sum_by-take-le, sum_by_push, sym, take, take-append-le, take_all, true, zero, ℕ, ◌++◌, ◌+◌, ◌<◌, ◌==◌, ◌∙◌, ◌∷◌, ◌≡◌, ◌≢◌, ◌≤◌, ◌⊎◌}
 use Rattle.uni_model.proofs.Written.{number_cases, set_at-cases}
 use Rattle.uni_model.proofs.Appended.{slice_get-append_left, slice_get-append_cases}
 

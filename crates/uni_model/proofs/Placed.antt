@@ -1,17 +1,7 @@
 -- What has a completion in the sense of Herlihy and Wing is linearizable with linearization points put in: before each response the
 -- calls take effect that stand in the order up to the one that responds.
-use Rattle.std.proofs.Common.{◌≡◌, ◌≢◌, ◌∙◌, ℕ, zero, suc, ◌+◌, ◌<◌, inl, inr, refl, sym, ap, subst, Bool, true, false, cond, List, [], ◌∷◌, ◌++◌, length, slice_get, Option, Some, None, Contains, filter, arith, nat_eq}
-use Rattle.std.specs.List.{AllByRecursion}
-use Rattle.std.proofs.lemmas.List.{append-nil, append_assoc}
-use Rattle.std.proofs.lemmas.List.Elements.{filter-append}
-use Rattle.seq_object.specs.Sequential.{Sequential}
-use Rattle.seq_object.specs.History.{response_at}
-use Rattle.uni_model.specs.AtomicObject.{Atomic, Act, Accepts, AcceptsAll, Invoked, at_start, set_at}
-use Rattle.uni_model.specs.AtomicObject.Act.{Invoke, Linearize, Respond}
-use Rattle.uni_model.specs.Worlds.{Event, opened_world}
-use Rattle.uni_model.specs.Linearizable.{observed, observed_in, IsLinearizedAs}
+use Rattle.uni_model.proofs.Vocabulary.{Accepts, AcceptsAll, Act, AgreesInOrder, AgreesWithCompletion, AllByRecursion, AreInTurn, Atomic, Bool, Contains, Event, Invoke, Invoked, IsLinearizedAs, IsLinearizedByCompletion, IsResponse, IsWellFormed, Linearize, List, None, ObservesCompletion, Option, Precedes, Respond, Sequential, Some, [], ap, append-nil, append_assoc, arith, at_start, cond, false, filter, filter-append, inl, inr, is_by, is_kept, length, nat_eq, observed, observed_in, of_process, one_by_one, opened_world, refl, response_at, set_at, slice_get, subst, suc, sym, true, zero, ℕ, ◌++◌, ◌+◌, ◌<◌, ◌∙◌, ◌∷◌, ◌≡◌, ◌≢◌}
 use Rattle.uni_model.proofs.Linearizable.{ObservesLinearizable-holds}
-use Rattle.uni_model.specs.HerlihyWing.{one_by_one, is_by, of_process, is_kept, AreInTurn, IsWellFormed, IsResponse, Precedes, IsLinearizedByCompletion, AgreesInOrder, AgreesWithCompletion, ObservesCompletion}
 use Rattle.uni_model.proofs.Written.{number_cases, set_at-cases}
 use Rattle.uni_model.proofs.LawProofs.{set_at_elsewhere}
 use Rattle.uni_model.proofs.Appended.{slice_get-append_left, slice_get-append_right, slice_get-append_cases}

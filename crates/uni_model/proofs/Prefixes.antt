@@ -1,8 +1,5 @@
 -- Prefixes of lists of entries that are appended.
-use Rattle.std.proofs.Common.{◌≡◌, ◌∙◌, ◌+◌, ◌≤◌, inl, inr, refl, ap, List, ◌++◌, length, slice_get, arith}
-use Rattle.std.proofs.lemmas.List.{length-append}
-use Rattle.uni_model.specs.Chain.{Entry}
-use Rattle.uni_model.specs.Growth.{IsPrefixOf}
+use Rattle.uni_model.proofs.Vocabulary.{Entry, IsPrefixOf, List, ap, arith, inl, inr, length, length-append, refl, slice_get, ◌++◌, ◌+◌, ◌∙◌, ◌≡◌, ◌≤◌}
 use Rattle.uni_model.proofs.Appended.{slice_get-append_left, slice_get-append_right, slice_get-append_cases}
 
 module _ {I R : Type 0} where

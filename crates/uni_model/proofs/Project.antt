@@ -1,11 +1,5 @@
 -- Locality, the other way: the acts of one object, with its linearization points, among those of a whole history.
-use Rattle.std.proofs.Common.{◌≡◌, ◌≢◌, ◌∙◌, ℕ, zero, suc, ◌+◌, ◌-◌, ◌==◌, ◌<◌, inl, inr, refl, sym, ap, subst, Bool, true, false, cond, List, [], ◌∷◌, ◌++◌, length, slice_get, Some, None, Contains, arith}
-use Rattle.seq_object.specs.Sequential.{Sequential}
-use Rattle.seq_object.specs.History.{response_at}
-use Rattle.uni_model.specs.AtomicObject.{Atomic, Act, Accepts, AcceptsAll, Invoked, at_start, set_at}
-use Rattle.uni_model.specs.AtomicObject.Act.{Invoke, Linearize, Respond}
-use Rattle.uni_model.specs.Linearizable.{observed, IsLinearizableHistory}
-use Rattle.uni_model.specs.Locality.{together, of_object, IsLocal}
+use Rattle.uni_model.proofs.Vocabulary.{Accepts, AcceptsAll, Act, Atomic, Bool, Contains, Invoke, Invoked, IsLinearizableHistory, IsLocal, Linearize, List, None, Respond, Sequential, Some, [], ap, arith, at_start, cond, false, inl, inr, length, observed, of_object, refl, response_at, set_at, slice_get, subst, suc, sym, together, true, zero, ℕ, ◌++◌, ◌+◌, ◌-◌, ◌<◌, ◌==◌, ◌∙◌, ◌∷◌, ◌≡◌, ◌≢◌}
 use Rattle.uni_model.proofs.Written.{number_cases}
 use Rattle.uni_model.proofs.LawProofs.{set_at_elsewhere}
 use Rattle.uni_model.proofs.Solo.{set_at_here}

@@ -1,11 +1,5 @@
 -- Which cells a world with the invariant names, and how great its numbers are.
-use Rattle.std.proofs.Common.{◌≡◌, ℕ, zero, suc, ◌+◌, ◌*◌, ◌<◌, ◌≤◌, ◌⊎◌, inl, inr, refl, sym, subst, Some, arith}
-use Rattle.seq_object.specs.Sequential.{Sequential}
-use Rattle.uni_model.specs.Places.{Name, announce_of, head_of, inv_of, seq_of, after_of, before_of}
-use Rattle.uni_model.specs.Places.Name.{Anchor, Of}
-use Rattle.uni_model.specs.Worlds.{WorldOf, sum_below}
-use Rattle.uni_model.specs.Counting.{era_calls}
-use Rattle.uni_model.specs.Invariant.{Has, IsSound}
+use Rattle.uni_model.proofs.Vocabulary.{Anchor, Has, IsSound, Name, Of, Sequential, Some, WorldOf, after_of, announce_of, arith, before_of, era_calls, head_of, inl, inr, inv_of, refl, seq_of, subst, suc, sum_below, sym, zero, ℕ, ◌*◌, ◌+◌, ◌<◌, ◌≡◌, ◌≤◌, ◌⊎◌}
 use Rattle.uni_model.proofs.Simulation.{enough}
 
 pub sum_below-bound : (n bound : ℕ) (f : ℕ → ℕ) → ((p : ℕ) → f p ≤ bound) → sum_below n f ≤ n * bound

@@ -1,20 +1,6 @@
 -- Each process's head has come as far as the last of its own cells that is threaded, but for that of its pending call. So where
 -- nobody is pending some head has the last number.
-use Rattle.std.proofs.Common.{◌≡◌, ◌∙◌, ℕ, ◌<◌, ◌≤◌, ◌⊎◌, inl, inr, refl, sym, ap, subst, Option, Some, None, arith}
-use Rattle.std.proofs.lemmas.Bool.{cases_lt}
-use Rattle.seq_object.specs.Sequential.{Sequential}
-use Rattle.uni_model.specs.Places.{Name, Memory, memory_with, head_of, head_seq, inv_of, seq_of}
-use Rattle.uni_model.specs.AtomicObject.{set_at}
-use Rattle.uni_model.specs.Places.Name.{Anchor, Of}
-use Rattle.uni_model.specs.Places.Place.{HeadOf}
-use Rattle.uni_model.specs.Stages.{Stage, Pending}
-use Rattle.uni_model.specs.Stages.Stage.{Announce, ScanHead, ScanSeq, WriteScan, Test, ReadAnnounce, ReadHelpSeq, DecideAfter, DecideNew, WriteBefore, WriteSeq, WriteHead, Finish}
-use Rattle.uni_model.specs.Transition.{place_of}
-use Rattle.uni_model.specs.Effects.{effect_of, call_after}
-use Rattle.uni_model.specs.Worlds.{WorldOf, IsQuiescent, last_cell, world_after_call}
-use Rattle.uni_model.specs.Counting.{era_calls}
-use Rattle.uni_model.specs.Invariant.{Has, Stands, IsSound}
-use Rattle.uni_model.specs.Helping.{SomeHead}
+use Rattle.uni_model.proofs.Vocabulary.{Anchor, Announce, DecideAfter, DecideNew, Finish, Has, HeadOf, IsQuiescent, IsSound, Memory, Name, None, Of, Option, Pending, ReadAnnounce, ReadHelpSeq, ScanHead, ScanSeq, Sequential, Some, SomeHead, Stage, Stands, Test, WorldOf, WriteBefore, WriteHead, WriteScan, WriteSeq, ap, arith, call_after, cases_lt, effect_of, era_calls, head_of, head_seq, inl, inr, inv_of, last_cell, memory_with, place_of, refl, seq_of, set_at, subst, sym, world_after_call, ℕ, ◌<◌, ◌∙◌, ◌≡◌, ◌≤◌, ◌⊎◌}
 use Rattle.uni_model.proofs.Written.{lt_cases, set_at-cases, written_same, head_of-memory_with}
 use Rattle.uni_model.proofs.Moves.{Moves}
 use Rattle.uni_model.proofs.Kept.{threaded_when_quiescent}

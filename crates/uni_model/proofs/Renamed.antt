@@ -1,12 +1,6 @@
 -- A memory is another one with its cells renamed: what a run with trims has is what the run without them has, where each cell
 -- of an ended era is called the anchor.
-use Rattle.std.proofs.Common.{◌≡◌, ◌≢◌, ◌∙◌, ℕ, ◌<◌, ◌≤◌, ◌==◌, ◌⊎◌, inl, inr, refl, sym, ap, subst, Option, option_map, arith, nat_lt, if◌then◌else◌}
-use Rattle.uni_model.specs.Places.{Name, Memory, memory_with, announce_of, head_of, inv_of, seq_of, after_of, new_of}
-use Rattle.uni_model.specs.Places.Name.{Anchor}
-use Rattle.uni_model.specs.Places.Place.{Announced, HeadOf, InvOf, SeqOf, AfterOf, NewOf, BeforeOf}
-use Rattle.uni_model.specs.Places.Content.{CellName, Invocation, Number, Link, Settled}
-use Rattle.uni_model.specs.Stages.{Stage, Pending}
-use Rattle.uni_model.specs.Stages.Stage.{Announce, ScanHead, ScanSeq, WriteScan, Test, ReadAnnounce, ReadHelpSeq, DecideAfter, DecideNew, WriteBefore, WriteSeq, WriteHead, Finish}
+use Rattle.uni_model.proofs.Vocabulary.{AfterOf, Anchor, Announce, Announced, BeforeOf, CellName, DecideAfter, DecideNew, Finish, HeadOf, InvOf, Invocation, Link, Memory, Name, NewOf, Number, Option, Pending, ReadAnnounce, ReadHelpSeq, ScanHead, ScanSeq, SeqOf, Settled, Stage, Test, WriteBefore, WriteHead, WriteScan, WriteSeq, after_of, announce_of, ap, arith, head_of, if◌then◌else◌, inl, inr, inv_of, memory_with, nat_lt, new_of, option_map, refl, seq_of, subst, sym, ℕ, ◌<◌, ◌==◌, ◌∙◌, ◌≡◌, ◌≢◌, ◌≤◌, ◌⊎◌}
 use Rattle.uni_model.proofs.Written.{number_cases, lt_cases, seq_of-memory_with, after_of-memory_with, new_of-memory_with, inv_of-memory_with, head_of-memory_with, announce_of-memory_with}
 
 -- the number that is read of a cell whose number is s: that of the anchor, base, where the cell is of an ended era

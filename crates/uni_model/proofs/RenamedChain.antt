@@ -1,16 +1,5 @@
 -- The chain and the log of a world whose cells are renamed: what comes after the last cell of the ended eras.
-use Rattle.std.proofs.Common.{◌≡◌, ◌∙◌, ℕ, zero, suc, ◌+◌, ◌-◌, ◌<◌, ◌≤◌, inl, inr, refl, sym, ap, subst, List, [], ◌∷◌, ◌++◌, length, slice_get, take, Option, Some, None, IsSome, option_and_then, true, false, arith}
-use Rattle.std.specs.Option.{option_map_or}
-use Rattle.std.proofs.lemmas.Bool.{cases_lt}
-use Rattle.seq_object.specs.Sequential.{Sequential}
-use Rattle.uni_model.specs.Places.{Name, Memory, seq_of, after_of}
-use Rattle.uni_model.specs.Places.Name.{Anchor, Of}
-use Rattle.uni_model.specs.Chain.{cells_from, last_of, Entry}
-use Rattle.uni_model.specs.Worlds.{WorldOf, chain, last_cell}
-use Rattle.uni_model.specs.Counting.{era_calls}
-use Rattle.uni_model.specs.History.{log}
-use Rattle.uni_model.specs.Invariant.{IsSound, Invariant}
-use Rattle.uni_model.specs.Growth.{IsPrefixOf}
+use Rattle.uni_model.proofs.Vocabulary.{Anchor, Entry, Invariant, IsPrefixOf, IsSome, IsSound, List, Memory, Name, None, Of, Option, Sequential, Some, WorldOf, [], after_of, ap, arith, cases_lt, cells_from, chain, era_calls, false, inl, inr, last_cell, last_of, length, log, option_and_then, option_map_or, refl, seq_of, slice_get, subst, suc, sym, take, true, zero, ℕ, ◌++◌, ◌+◌, ◌-◌, ◌<◌, ◌∙◌, ◌∷◌, ◌≡◌, ◌≤◌}
 use Rattle.uni_model.proofs.Chains.{number_at, slice_get-cells_from, length-cells_from}
 use Rattle.uni_model.proofs.Simulation.{enough}
 use Rattle.uni_model.proofs.Values.{response-settled}

@@ -1,13 +1,6 @@
 -- The end of an era gives a new renaming: a trim of one world calls all threaded cells of the other one the anchor; where both
 -- have an era's end they become the same.
-use Rattle.std.proofs.Common.{◌≡◌, ◌∙◌, ℕ, ◌≤◌, ◌==◌, inl, inr, refl, sym, ap, subst, Option, Some, None, if◌then◌else◌, arith}
-use Rattle.std.proofs.lemmas.Bool.{cases_lt}
-use Rattle.seq_object.specs.Sequential.{Sequential}
-use Rattle.uni_model.specs.Places.{Name, Memory, head_of, inv_of, seq_of, after_of, new_of}
-use Rattle.uni_model.specs.Places.Name.{Anchor, Of}
-use Rattle.uni_model.specs.Worlds.{WorldOf, IsQuiescent, anchor_memory, last_cell, world_after_era}
-use Rattle.uni_model.specs.Counting.{era_calls}
-use Rattle.uni_model.specs.Invariant.{Has, IsSound, Invariant}
+use Rattle.uni_model.proofs.Vocabulary.{Anchor, Has, Invariant, IsQuiescent, IsSound, Memory, Name, None, Of, Option, Sequential, Some, WorldOf, after_of, anchor_memory, ap, arith, cases_lt, era_calls, head_of, if◌then◌else◌, inl, inr, inv_of, last_cell, new_of, refl, seq_of, subst, sym, world_after_era, ℕ, ◌==◌, ◌∙◌, ◌≡◌, ◌≤◌}
 use Rattle.uni_model.proofs.Written.{number_cases}
 use Rattle.uni_model.proofs.Kept.{threaded_when_quiescent, idle_when_quiescent, last_cell_threaded}
 use Rattle.uni_model.proofs.Simulation.{enough}

@@ -1,26 +1,5 @@
 -- A run with trims and the run without them go side by side: the world of the one is that of the other with its cells renamed.
-use Rattle.std.proofs.Common.{◌≡◌, ◌∙◌, ℕ, zero, suc, ◌-◌, ◌<◌, ◌≤◌, inl, inr, refl, sym, ap, subst, List, [], ◌∷◌, ◌++◌, map, length, take, drop, Option, Some, None, IsSome, option_map, option_and_then, true, false, arith}
-use Rattle.std.specs.Option.{option_map_or}
-use Rattle.std.proofs.Math.Nat.{max-le}
-use Rattle.std.proofs.lemmas.List.{append_assoc, map-append, take_all}
-use Rattle.seq_object.specs.Sequential.{Sequential}
-use Rattle.uni_model.specs.Places.{Name, Memory, head_of, head_seq, seq_of}
-use Rattle.uni_model.specs.Places.Name.{Anchor, Of}
-use Rattle.uni_model.specs.Stages.{Stage, Pending}
-use Rattle.uni_model.specs.Stages.Stage.{Announce, ScanHead, ScanSeq, WriteScan, Test, ReadAnnounce, ReadHelpSeq, DecideAfter, DecideNew, WriteBefore, WriteSeq, WriteHead, Finish}
-use Rattle.uni_model.specs.Transition.{response_after}
-use Rattle.uni_model.specs.Chain.{Entry, invoked_at}
-use Rattle.uni_model.specs.Worlds.{WorldOf, Event, IsQuiescent, anchor_memory, world_after, world_after_call, world_after_step, world_after_era, world_after_all, opened_world, IsAccepted, AreAccepted, without_trims}
-use Rattle.uni_model.specs.Worlds.Event.{Call, Step, Trim, Reshape}
-use Rattle.uni_model.specs.AtomicObject.{Act}
-use Rattle.uni_model.specs.AtomicObject.Act.{Linearize}
-use Rattle.uni_model.specs.Frontier.{greatest_below, frontier}
-use Rattle.uni_model.specs.History.{log, log_of_run, calls_of, acts_of, history_of, responses_of}
-use Rattle.uni_model.specs.Invariant.{Invariant}
-use Rattle.uni_model.specs.Helping.{HelpingInvariant}
-use Rattle.uni_model.specs.Counting.{CountsSteps}
-use Rattle.uni_model.specs.Growth.{EndsNoEra}
-use Rattle.uni_model.specs.Untrimmed.{kind_of, ShowsSame, TrimsChangeNothing}
+use Rattle.uni_model.proofs.Vocabulary.{Act, Anchor, Announce, AreAccepted, Call, CountsSteps, DecideAfter, DecideNew, EndsNoEra, Entry, Event, Finish, HelpingInvariant, Invariant, IsAccepted, IsQuiescent, IsSome, Linearize, List, Memory, Name, None, Of, Option, Pending, ReadAnnounce, ReadHelpSeq, Reshape, ScanHead, ScanSeq, Sequential, ShowsSame, Some, Stage, Step, Test, Trim, TrimsChangeNothing, WorldOf, WriteBefore, WriteHead, WriteScan, WriteSeq, [], acts_of, anchor_memory, ap, append_assoc, arith, calls_of, drop, false, frontier, greatest_below, head_of, head_seq, history_of, inl, inr, invoked_at, kind_of, length, log, log_of_run, map, map-append, max-le, opened_world, option_and_then, option_map, option_map_or, refl, response_after, responses_of, seq_of, subst, suc, sym, take, take_all, true, without_trims, world_after, world_after_all, world_after_call, world_after_era, world_after_step, zero, ℕ, ◌++◌, ◌-◌, ◌<◌, ◌∙◌, ◌∷◌, ◌≡◌, ◌≤◌}
 use Rattle.uni_model.proofs.Kept.{Invariant-opened_world, Invariant-world_after, Invariant-world_after_step, Grows-world_after, idle_when_quiescent}
 use Rattle.uni_model.proofs.Counted.{CountsSteps-opened_world, CountsSteps-world_after, CountsSteps-world_after_step}
 use Rattle.uni_model.proofs.Bounded.{HelpingInvariant-opened_world, HelpingInvariant-world_after, HelpingInvariant-world_after_step}

@@ -1,18 +1,5 @@
 -- Each kind of step does the same with its cells renamed.
-use Rattle.std.proofs.Common.{◌≡◌, ◌≢◌, ◌∙◌, ℕ, ◌+◌, ◌<◌, ◌≤◌, ◌%◌, inl, inr, refl, sym, ap, subst, Option, Some, None, option_map, option_and_then, arith, unwrap_or}
-use Rattle.std.specs.Option.{option_or}
-use Rattle.seq_object.specs.Sequential.{Sequential}
-use Rattle.uni_model.specs.Places.{Name, Place, Memory, memory_with, inv_of, seq_of, after_of, new_of}
-use Rattle.uni_model.specs.Places.Name.{Anchor}
-use Rattle.uni_model.specs.Places.Place.{Announced, HeadOf, SeqOf, AfterOf, NewOf}
-use Rattle.uni_model.specs.Places.Content.{Link, Settled}
-use Rattle.uni_model.specs.Stages.{Stage}
-use Rattle.uni_model.specs.Stages.Stage.{Announce, ScanHead, ScanSeq, WriteScan, Test, ReadAnnounce, ReadHelpSeq, DecideAfter, DecideNew, WriteBefore, WriteSeq, WriteHead, Finish}
-use Rattle.uni_model.specs.Transition.{place_of, response_after, turn_of, next_in_scan, stage_after_scan, value_after}
-use Rattle.uni_model.specs.Effects.{effect_of, Effect}
-use Rattle.uni_model.specs.Invariant.{IsNumbered, HasBest, AtHead, Stands}
-use Rattle.uni_model.specs.Helping.{Finds}
-use Rattle.uni_model.specs.Counting.{HasTurns}
+use Rattle.uni_model.proofs.Vocabulary.{AfterOf, Anchor, Announce, Announced, AtHead, DecideAfter, DecideNew, Effect, Finds, Finish, HasBest, HasTurns, HeadOf, IsNumbered, Link, Memory, Name, NewOf, None, Option, Place, ReadAnnounce, ReadHelpSeq, ScanHead, ScanSeq, SeqOf, Sequential, Settled, Some, Stage, Stands, Test, WriteBefore, WriteHead, WriteScan, WriteSeq, after_of, ap, arith, effect_of, inl, inr, inv_of, memory_with, new_of, next_in_scan, option_and_then, option_map, option_or, place_of, refl, response_after, seq_of, stage_after_scan, subst, sym, turn_of, unwrap_or, value_after, ℕ, ◌%◌, ◌+◌, ◌<◌, ◌∙◌, ◌≡◌, ◌≢◌, ◌≤◌}
 use Rattle.uni_model.proofs.Written.{number_cases, lt_cases, written_same}
 use Rattle.uni_model.proofs.Renamed.{at_least, at_least-cases, at_least-past, stage_renamed, IsNew, IsRecent, state_in, IsRenamed, era_cases, rename-anchor, IsRenamed-head, IsRenamed-announced, IsRenamed-before, IsRenamed-after, IsRenamed-value, IsNew-numbered, IsRenamed-seq}
 

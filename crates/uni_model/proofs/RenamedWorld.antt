@@ -1,17 +1,5 @@
 -- Each event that ends no era does the same in a world and in one with its cells renamed.
-use Rattle.std.proofs.Common.{◌≡◌, ◌∙◌, ℕ, ◌+◌, ◌<◌, ◌≤◌, inl, inr, refl, sym, ap, subst, Option, Some, None, option_map, arith}
-use Rattle.std.proofs.lemmas.Bool.{cases_lt}
-use Rattle.seq_object.specs.Sequential.{Sequential}
-use Rattle.uni_model.specs.Places.{Name, Memory, head_seq, seq_of}
-use Rattle.uni_model.specs.AtomicObject.{set_at}
-use Rattle.uni_model.specs.Places.Name.{Of}
-use Rattle.uni_model.specs.Stages.{Stage, Pending}
-use Rattle.uni_model.specs.Stages.Stage.{Announce}
-use Rattle.uni_model.specs.Transition.{place_of, turn_of}
-use Rattle.uni_model.specs.Effects.{effect_of, call_after}
-use Rattle.uni_model.specs.Worlds.{WorldOf, world_after_call, world_after_step}
-use Rattle.uni_model.specs.Helping.{SomeHead, Finds, HelpingInvariant}
-use Rattle.uni_model.specs.Counting.{CountsSteps}
+use Rattle.uni_model.proofs.Vocabulary.{Announce, CountsSteps, Finds, HelpingInvariant, Memory, Name, None, Of, Option, Pending, Sequential, Some, SomeHead, Stage, WorldOf, ap, arith, call_after, cases_lt, effect_of, head_seq, inl, inr, option_map, place_of, refl, seq_of, set_at, subst, sym, turn_of, world_after_call, world_after_step, ℕ, ◌+◌, ◌<◌, ◌∙◌, ◌≡◌, ◌≤◌}
 use Rattle.uni_model.proofs.Written.{set_at-cases, number_cases}
 use Rattle.uni_model.proofs.Moves.{was_pending}
 use Rattle.uni_model.proofs.Steps.{leads}

@@ -1,7 +1,5 @@
 -- Among n numbers in a row there is one with each remainder.
-use Rattle.std.proofs.Common.{◌≡◌, ◌∙◌, ℕ, zero, suc, ◌+◌, ◌-◌, ◌<◌, ◌≤◌, ◌%◌, inl, inr, arith}
-use Rattle.std.proofs.lemmas.Bool.{cases_lt}
-use Rattle.std.proofs.Math.Nat.{mod-eq_of_lt, add-mod_right}
+use Rattle.uni_model.proofs.Vocabulary.{add-mod_right, arith, cases_lt, inl, inr, mod-eq_of_lt, suc, zero, ℕ, ◌%◌, ◌+◌, ◌-◌, ◌<◌, ◌∙◌, ◌≡◌, ◌≤◌}
 
 pub with_remainder : (n r : ℕ) → r < n → (b : ℕ) → (s : ℕ) × (b ≤ s) × (s < b + n) × (s % n ≡ r)
 with_remainder n r below zero = (r, omega arith, omega arith, mod-eq_of_lt below)

@@ -1,18 +1,6 @@
 -- The joined log holds the responses of the history.
-use Rattle.std.proofs.Common.{◌≡◌, ◌∙◌, ℕ, zero, suc, ◌+◌, ◌<◌, ◌==◌, inl, inr, refl, sym, ap, subst, true, false, cond, List, [], ◌∷◌, map, slice_get, take, Option, Some, None, option_map, arith}
-use Rattle.std.proofs.lemmas.List.{take-map}
-use Rattle.std.proofs.lemmas.List.Sums.{sum_by-cons}
-use Rattle.std.proofs.lemmas.Option.{slice_get-map}
-use Rattle.seq_object.specs.Sequential.{Sequential}
-use Rattle.seq_object.specs.History.{IsLegal, state_after, response_at}
+use Rattle.uni_model.proofs.Vocabulary.{Atomic, Entry, Event, Invoked, IsLegal, List, None, Of, Option, Pending, RunShows, Sequential, Some, StandsAt, WorldOf, [], ap, arith, at_start, cond, false, history_of, inl, inr, invocations_of, log, log_of_run, logged_call, map, open_at, opened_world, option_map, refl, response_at, slice_get, slice_get-map, state_after, subst, suc, sum_by-cons, sym, take, take-map, true, world_after, world_after_all, zero, ℕ, ◌+◌, ◌<◌, ◌==◌, ◌∙◌, ◌∷◌, ◌≡◌}
 use Rattle.seq_object.proofs.Legality.{IsLegalByPlaces-from_IsLegal}
-use Rattle.uni_model.specs.Places.Name.{Of}
-use Rattle.uni_model.specs.Stages.{Pending}
-use Rattle.uni_model.specs.Chain.{Entry}
-use Rattle.uni_model.specs.Worlds.{WorldOf, Event, opened_world, world_after, world_after_all}
-use Rattle.uni_model.specs.AtomicObject.{Atomic, at_start, Invoked}
-use Rattle.uni_model.specs.History.{RunShows, invocations_of, log, logged_call, log_of_run, history_of, open_at}
-use Rattle.uni_model.specs.Eras.{StandsAt}
 use Rattle.uni_model.specs.Responses.{LogsResponses, calls_among}
 use Rattle.uni_model.proofs.Kept.{Invariant-world_after_all}
 use Rattle.uni_model.proofs.Values.{response-settled}

@@ -1,9 +1,6 @@
 -- Runs that are appended, and a run with one event more.
-use Rattle.std.proofs.Common.{◌≡◌, ◌∙◌, List, [], ◌∷◌, ◌++◌, ap, sym, refl, append_assoc}
-use Rattle.std.proofs.lemmas.List.{append-nil}
-use Rattle.seq_object.specs.Sequential.{Sequential}
-use Rattle.uni_model.specs.Worlds.{WorldOf, Event, world_after, world_after_all, IsAccepted, AreAccepted}
-use Rattle.uni_model.specs.History.{history_of, acts_of}
+use Rattle.uni_model.proofs.Vocabulary.{AreAccepted, Event, IsAccepted, List, Sequential, WorldOf, [], acts_of, ap, append-nil, history_of, refl, sym, world_after, world_after_all, ◌++◌, ◌∙◌, ◌∷◌, ◌≡◌}
+use Rattle.std.proofs.Common.{append_assoc}
 
 module _ {S I R : Type 0} (object : Sequential S I R) where
   pub world_after_all-append : (w : WorldOf S I R) (es fs : List (Event I)) → world_after_all object w (es ++ fs) ≡ world_after_all object (world_after_all object w es) fs

@@ -1,9 +1,5 @@
 -- Two memories with the same chain, calls and settled values have the same log.
-use Rattle.std.proofs.Common.{◌≡◌, ℕ, zero, suc, ◌+◌, ◌≤◌, refl, [], ◌∷◌, Option, Some, None, arith}
-use Rattle.std.specs.Option.{option_map_or}
-use Rattle.uni_model.specs.Places.{Name, Memory, after_of}
-use Rattle.uni_model.specs.Chain.{cells_from, invoked_at, entries_from, response_in}
-use Rattle.uni_model.specs.Invariant.{IsNumbered}
+use Rattle.uni_model.proofs.Vocabulary.{IsNumbered, Memory, Name, None, Option, Some, [], after_of, arith, cells_from, entries_from, invoked_at, option_map_or, refl, response_in, suc, zero, ℕ, ◌+◌, ◌∷◌, ◌≡◌, ◌≤◌}
 
 module _ {S I R : Type 0} (m m' : Memory S I R) (num : Name → ℕ) (last : ℕ) (numbered : IsNumbered m num last)
     (calls : (x : Name) → 1 ≤ num x → invoked_at m' x ≡ invoked_at m x) (responses : (x : Name) → 1 ≤ num x → response_in m' x ≡ response_in m x) where

@@ -1,9 +1,5 @@
 -- Whether two places are one, and memory that stays as it is.
-use Rattle.std.proofs.Common.{◌≡◌, ◌≢◌, refl, sym, subst, true, false, arith}
-use Rattle.std.proofs.lemmas.Bool.Decides.{nat_tests}
-use Rattle.uni_model.specs.Places.{Place, Memory, place_eq}
-use Rattle.uni_model.specs.Places.Place.{Announced, HeadOf, InvOf, SeqOf, AfterOf, NewOf, BeforeOf}
-use Rattle.uni_model.specs.Settled.{Grows}
+use Rattle.uni_model.proofs.Vocabulary.{AfterOf, Announced, BeforeOf, Grows, HeadOf, InvOf, Memory, NewOf, Place, SeqOf, arith, false, nat_tests, place_eq, refl, subst, sym, true, ◌≡◌, ◌≢◌}
 use Rattle.uni_model.proofs.Written.{name_eq_same}
 
 pub place_eq_same : (x : Place) → place_eq x x ≡ true

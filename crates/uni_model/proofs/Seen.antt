@@ -1,15 +1,5 @@
 -- What a step reads beside its one place is settled, and is told by the places that the definitions name.
-use Rattle.std.proofs.Common.{◌≡◌, ◌∙◌, ℕ, ◌≤◌, refl, sym, ap, subst, Option, option_and_then, Some, None, IfSome}
-use Rattle.seq_object.specs.Sequential.{Sequential}
-use Rattle.uni_model.specs.Places.{Name, Content, Memory, inv_of, new_of, invocation_in, settled_in}
-use Rattle.std.specs.Option.{option_or}
-use Rattle.uni_model.specs.Places.Content.{Settled}
-use Rattle.uni_model.specs.Stages.{Stage, Pending}
-use Rattle.uni_model.specs.Stages.Stage.{Announce, ScanHead, ScanSeq, WriteScan, Test, ReadAnnounce, ReadHelpSeq, DecideAfter, DecideNew, WriteBefore, WriteSeq, WriteHead, Finish}
-use Rattle.uni_model.specs.Transition.{places_beside, value_after}
-use Rattle.uni_model.specs.Worlds.{WorldOf}
-use Rattle.uni_model.specs.Invariant.{IsSound, Invariant, Stands}
-use Rattle.uni_model.specs.Settled.{AreSettledPlaces, SeesSettled, SeesOnly}
+use Rattle.uni_model.proofs.Vocabulary.{Announce, AreSettledPlaces, Content, DecideAfter, DecideNew, Finish, IfSome, Invariant, IsSound, Memory, Name, None, Option, Pending, ReadAnnounce, ReadHelpSeq, ScanHead, ScanSeq, SeesOnly, SeesSettled, Sequential, Settled, Some, Stage, Stands, Test, WorldOf, WriteBefore, WriteHead, WriteScan, WriteSeq, ap, inv_of, invocation_in, new_of, option_and_then, option_or, places_beside, refl, settled_in, subst, sym, value_after, ℕ, ◌∙◌, ◌≡◌, ◌≤◌}
 use Rattle.uni_model.proofs.Steps.{head_number, linked_call}
 
 module _ {S I R : Type 0} (object : Sequential S I R) (w : WorldOf S I R) (num : Name → ℕ) (last : ℕ) (sound : IsSound object w num last) (p : ℕ) (mine : Name) where

@@ -1,27 +1,5 @@
 -- The atomic object accepts what each event does.
-use Rattle.std.proofs.Common.{◌≡◌, ◌≢◌, ◌∙◌, ℕ, ◌+◌, ◌-◌, ◌<◌, ◌≤◌, ◌⊎◌, inl, inr, refl, sym, ap, subst, List, [], ◌∷◌, ◌++◌, map, drop, length, slice_get, Option, Some, None, option_map, arith, Contains, unwrap_or, nat_eq, Bool, true, false, cond, take, ◌%◌}
-use Rattle.std.specs.Option.{option_map_or, option_or}
-use Rattle.std.proofs.lemmas.Bool.{cases_lt}
-use Rattle.std.proofs.lemmas.Option.{slice_get-map}
-use Rattle.std.proofs.lemmas.List.Elements.{All-contains, All-from_recursion}
-use Rattle.seq_object.specs.Sequential.{Sequential}
-use Rattle.seq_object.specs.History.{response_at, state_after}
-use Rattle.uni_model.specs.Places.{Name, Memory, memory_with, seq_of, after_of, new_of, inv_of}
-use Rattle.uni_model.specs.Places.Name.{Anchor, Of}
-use Rattle.uni_model.specs.Places.Place.{AfterOf, InvOf}
-use Rattle.uni_model.specs.Places.Content.{Invocation, Link}
-use Rattle.uni_model.specs.Stages.{Stage, Pending}
-use Rattle.uni_model.specs.Stages.Stage.{Announce, ScanHead, ScanSeq, WriteScan, Test, ReadAnnounce, ReadHelpSeq, DecideAfter, DecideNew, WriteBefore, WriteSeq, WriteHead, Finish}
-use Rattle.uni_model.specs.Transition.{place_of, turn_of, response_after}
-use Rattle.uni_model.specs.Effects.{effect_of, call_after}
-use Rattle.uni_model.specs.Chain.{invoked_at, response_in}
-use Rattle.uni_model.specs.Worlds.{WorldOf, world_after_step, world_after_call, chain, sum_below, world_after, calls_in_era}
-use Rattle.uni_model.specs.Counting.{era_calls}
-use Rattle.uni_model.specs.Worlds.Event.{Call, Step}
-use Rattle.uni_model.specs.AtomicObject.{Atomic, Act, AcceptsAll, set_at, Invoked}
-use Rattle.uni_model.specs.AtomicObject.Act.{Linearize}
-use Rattle.uni_model.specs.History.{calls_of, open_at, Shows, responses_of, acts_of}
-use Rattle.uni_model.specs.Invariant.{Has, IsSound, can_be_linked, AtHead, IsPast, IsCellOf}
+use Rattle.uni_model.proofs.Vocabulary.{AcceptsAll, Act, AfterOf, All-contains, All-from_recursion, Anchor, Announce, AtHead, Atomic, Bool, Call, Contains, DecideAfter, DecideNew, Finish, Has, InvOf, Invocation, Invoked, IsCellOf, IsPast, IsSound, Linearize, Link, List, Memory, Name, None, Of, Option, Pending, ReadAnnounce, ReadHelpSeq, ScanHead, ScanSeq, Sequential, Shows, Some, Stage, Step, Test, WorldOf, WriteBefore, WriteHead, WriteScan, WriteSeq, [], acts_of, after_of, ap, arith, call_after, calls_in_era, calls_of, can_be_linked, cases_lt, chain, cond, drop, effect_of, era_calls, false, inl, inr, inv_of, invoked_at, length, map, memory_with, nat_eq, new_of, open_at, option_map, option_map_or, option_or, place_of, refl, response_after, response_at, response_in, responses_of, seq_of, set_at, slice_get, slice_get-map, state_after, subst, sum_below, sym, take, true, turn_of, unwrap_or, world_after, world_after_call, world_after_step, ℕ, ◌%◌, ◌++◌, ◌+◌, ◌-◌, ◌<◌, ◌∙◌, ◌∷◌, ◌≡◌, ◌≢◌, ◌≤◌, ◌⊎◌}
 use Rattle.uni_model.proofs.Written.{set_at-cases, inv_of-memory_with, after_of-memory_with, number_cases}
 use Rattle.uni_model.proofs.Moves.{Moves, IsSound-moved}
 use Rattle.uni_model.proofs.Steps.{leads, links, outside, nothing_after, threaded_c, number_later, proposed}

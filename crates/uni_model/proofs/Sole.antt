@@ -1,13 +1,5 @@
 -- Among one process no call loses a turn: the process's head is the last cell, and what it links next is its own.
-use Rattle.std.proofs.Common.{◌≡◌, ◌∙◌, ℕ, ◌+◌, ◌%◌, ◌==◌, ◌≤◌, ◌⊎◌, inl, inr, refl, sym, ap, subst, Bool, true, false, cond, Option, Some, None, arith, if◌then◌else◌, unwrap_or, option_map, nat_lt}
-use Rattle.std.specs.Option.{option_or}
-use Rattle.seq_object.specs.Sequential.{Sequential}
-use Rattle.uni_model.specs.Places.{Name, Place, Content, Memory, memory_with, head_of, announce_of, seq_of, after_of}
-use Rattle.uni_model.specs.Places.Place.{Announced, HeadOf, SeqOf}
-use Rattle.uni_model.specs.Places.Content.{CellName}
-use Rattle.uni_model.specs.Stages.{Stage, Pending}
-use Rattle.uni_model.specs.Stages.Stage.{Announce, ScanHead, ScanSeq, WriteScan, Test, ReadAnnounce, ReadHelpSeq, DecideAfter, DecideNew, WriteBefore, WriteSeq, WriteHead, Finish}
-use Rattle.uni_model.specs.Transition.{place_of, stage_after, content_after, turn_of, stage_after_scan}
+use Rattle.uni_model.proofs.Vocabulary.{Announce, Announced, Bool, CellName, Content, DecideAfter, DecideNew, Finish, HeadOf, Memory, Name, None, Option, Pending, Place, ReadAnnounce, ReadHelpSeq, ScanHead, ScanSeq, SeqOf, Sequential, Some, Stage, Test, WriteBefore, WriteHead, WriteScan, WriteSeq, after_of, announce_of, ap, arith, cond, content_after, false, head_of, if◌then◌else◌, inl, inr, memory_with, nat_lt, option_map, option_or, place_of, refl, seq_of, stage_after, stage_after_scan, subst, sym, true, turn_of, unwrap_or, ℕ, ◌%◌, ◌+◌, ◌==◌, ◌∙◌, ◌≡◌, ◌≤◌, ◌⊎◌}
 use Rattle.uni_model.proofs.Written.{number_cases, lt_cases, written_same, after_of-memory_with, seq_of-memory_with}
 
 -- nothing comes after the head, and mine has no number yet, after so many turns

@@ -1,18 +1,5 @@
 -- Among one process every call takes one turn, in every world that is reached.
-use Rattle.std.proofs.Common.{◌≡◌, ◌∙◌, ℕ, ◌+◌, ◌*◌, ◌<◌, ◌≤◌, inl, inr, refl, sym, ap, subst, true, false, List, [], ◌∷◌, Option, Some, None, IsSome, arith, option_map}
-use Rattle.std.specs.Option.{option_map_or}
-use Rattle.seq_object.specs.Sequential.{Sequential}
-use Rattle.uni_model.specs.Places.{Name, Memory, memory_with, seq_of, after_of, new_of}
-use Rattle.uni_model.specs.Places.Name.{Of}
-use Rattle.uni_model.specs.Stages.{Stage, Pending}
-use Rattle.uni_model.specs.Stages.Stage.{Announce}
-use Rattle.uni_model.specs.Transition.{place_of, stage_after, content_after, turn_of}
-use Rattle.uni_model.specs.Worlds.{WorldOf, Event, anchor_memory, opened_world, last_cell, world_after, world_after_call, world_after_era, world_after_all, IsAccepted, AreAccepted}
-use Rattle.uni_model.specs.Worlds.Event.{Call, Step, Trim, Reshape}
-use Rattle.uni_model.specs.AtomicObject.{set_at}
-use Rattle.uni_model.specs.Invariant.{Invariant}
-use Rattle.uni_model.specs.Counting.{IsCounted, CountsSteps}
-use Rattle.uni_model.specs.Tight.{TakesOneTurn}
+use Rattle.uni_model.proofs.Vocabulary.{Announce, AreAccepted, Call, CountsSteps, Event, Invariant, IsAccepted, IsCounted, IsSome, List, Memory, Name, None, Of, Option, Pending, Reshape, Sequential, Some, Stage, Step, TakesOneTurn, Trim, WorldOf, [], after_of, anchor_memory, ap, arith, content_after, false, inl, inr, last_cell, memory_with, new_of, opened_world, option_map, option_map_or, place_of, refl, seq_of, set_at, stage_after, subst, sym, true, turn_of, world_after, world_after_all, world_after_call, world_after_era, ℕ, ◌*◌, ◌+◌, ◌<◌, ◌∙◌, ◌∷◌, ◌≡◌, ◌≤◌}
 use Rattle.uni_model.proofs.Written.{number_cases, set_at-cases}
 use Rattle.uni_model.proofs.LawProofs.{set_at_elsewhere, CountsSteps-reached}
 use Rattle.uni_model.proofs.Begun.{not_linked}

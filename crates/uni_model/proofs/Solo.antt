@@ -1,17 +1,5 @@
 -- The steps of one process, one after another, as equations of worlds.
-use Rattle.std.proofs.Common.{◌≡◌, ◌∙◌, ℕ, zero, suc, ◌+◌, ◌-◌, ◌==◌, ◌≤◌, ◌%◌, inl, inr, refl, sym, ap, subst, List, [], ◌∷◌, ◌++◌, Option, Some, None, arith, option_map, if◌then◌else◌, unwrap_or}
-use Rattle.std.specs.Option.{option_or}
-use Rattle.seq_object.specs.Sequential.{Sequential}
-use Rattle.uni_model.specs.Places.{Name, Memory, memory_with, head_of, announce_of, seq_of, after_of}
-use Rattle.uni_model.specs.Places.Name.{Anchor}
-use Rattle.uni_model.specs.Places.Place.{Announced, HeadOf, SeqOf, AfterOf, NewOf, BeforeOf}
-use Rattle.uni_model.specs.Places.Content.{CellName, Number, Link}
-use Rattle.uni_model.specs.Stages.{Stage, Pending}
-use Rattle.uni_model.specs.Stages.Stage.{Announce, ScanHead, ScanSeq, WriteScan, Test, ReadAnnounce, ReadHelpSeq, DecideAfter, DecideNew, WriteBefore, WriteSeq, WriteHead, Finish}
-use Rattle.uni_model.specs.Transition.{place_of, stage_after, content_after, turn_of, next_in_scan, stage_after_scan}
-use Rattle.uni_model.specs.Worlds.{WorldOf, Event, world_after, world_after_step, world_after_all, IsAccepted, AreAccepted}
-use Rattle.uni_model.specs.Worlds.Event.{Step}
-use Rattle.uni_model.specs.AtomicObject.{set_at}
+use Rattle.uni_model.proofs.Vocabulary.{AfterOf, Anchor, Announce, Announced, AreAccepted, BeforeOf, CellName, DecideAfter, DecideNew, Event, Finish, HeadOf, IsAccepted, Link, List, Memory, Name, NewOf, None, Number, Option, Pending, ReadAnnounce, ReadHelpSeq, ScanHead, ScanSeq, SeqOf, Sequential, Some, Stage, Step, Test, WorldOf, WriteBefore, WriteHead, WriteScan, WriteSeq, [], after_of, announce_of, ap, arith, content_after, head_of, if◌then◌else◌, inl, inr, memory_with, next_in_scan, option_map, option_or, place_of, refl, seq_of, set_at, stage_after, stage_after_scan, subst, suc, sym, turn_of, unwrap_or, world_after, world_after_all, world_after_step, zero, ℕ, ◌%◌, ◌++◌, ◌+◌, ◌-◌, ◌==◌, ◌∙◌, ◌∷◌, ◌≡◌, ◌≤◌}
 use Rattle.uni_model.proofs.Written.{number_cases, lt_cases, set_at-cases, written_same}
 use Rattle.uni_model.proofs.WaitFree.{NeverBlocks-holds}
 use Rattle.uni_model.proofs.Runs.{world_after_all-append, AreAccepted-append}

@@ -1,20 +1,6 @@
 -- A call that has a floor is linked soon.
-use Rattle.std.proofs.Common.{◌≡◌, ◌∙◌, ℕ, ◌+◌, ◌-◌, ◌<◌, ◌≤◌, inl, inr, refl, sym, ap, subst, List, [], ◌∷◌, length, slice_get, Contains, Option, Some, None, arith, Bool, true, false, cond}
-use Rattle.std.proofs.lemmas.Bool.{cases_lt}
-use Rattle.std.proofs.lemmas.Option.{slice_get_within, get_or_from_slice_get}
-use Rattle.seq_object.specs.Sequential.{Sequential}
-use Rattle.uni_model.specs.Places.{Name, name_eq, seq_of}
-use Rattle.uni_model.specs.Places.Name.{Anchor, Of}
-use Rattle.uni_model.specs.Stages.{Stage, Pending}
-use Rattle.uni_model.specs.Stages.Stage.{Announce}
-use Rattle.uni_model.specs.Worlds.{WorldOf, Event, chain, world_after_step, opened_world, world_after, world_after_all, AreAccepted}
-use Rattle.uni_model.specs.Counting.{era_calls}
-use Rattle.uni_model.specs.Worlds.Event.{Call, Step, Trim, Reshape}
-use Rattle.uni_model.specs.Frontier.{frontier, announces, announces_at, floor_of}
-use Rattle.uni_model.specs.Counting.{CountsSteps}
-use Rattle.uni_model.specs.Helping.{HelpingInvariant}
+use Rattle.uni_model.proofs.Vocabulary.{Anchor, Announce, AreAccepted, Bool, Call, Contains, CountsSteps, Event, HelpingInvariant, IsLinkedSoon, LinksSoon, List, Name, None, Of, Option, Pending, Reshape, Sequential, Some, Stage, Step, Trim, WorldOf, [], announces, announces_at, ap, arith, cases_lt, chain, cond, era_calls, false, floor_of, frontier, get_or_from_slice_get, inl, inr, length, name_eq, opened_world, refl, seq_of, slice_get, slice_get_within, subst, sym, true, world_after, world_after_all, world_after_step, ℕ, ◌+◌, ◌-◌, ◌<◌, ◌∙◌, ◌∷◌, ◌≡◌, ◌≤◌}
 use Rattle.uni_model.proofs.Floored.{FloorInvariant}
-use Rattle.uni_model.specs.Laws.{IsLinkedSoon, LinksSoon}
 use Rattle.uni_model.proofs.Written.{name_eq_true}
 use Rattle.uni_model.proofs.Chains.{number_at, slice_get-cells_from, length-cells_from}
 use Rattle.uni_model.proofs.FloorStep.{last-le}

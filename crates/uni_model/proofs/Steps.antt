@@ -1,20 +1,6 @@
 -- Each kind of step keeps the invariant.
-use Rattle.std.proofs.Common.{◌≡◌, ◌∙◌, ℕ, ◌+◌, ◌-◌, ◌<◌, ◌≤◌, ◌%◌, ◌⊎◌, inl, inr, refl, sym, ap, subst, Option, Some, None, arith, cond, Bool, true, false, nat_eq, nat_lt, unwrap_or, if◌then◌else◌}
-use Rattle.std.proofs.lemmas.Bool.{cases_lt}
-use Rattle.std.specs.Option.{option_or}
-use Rattle.seq_object.specs.Sequential.{Sequential}
-use Rattle.uni_model.specs.Places.{Name, Place, Content, memory_with, head_of, head_seq, announce_of, seq_of, after_of, new_of, before_of, inv_of, link_in, settled_in}
-use Rattle.uni_model.specs.Places.Name.{Anchor, Of}
-use Rattle.uni_model.specs.Places.Place.{Announced, HeadOf, SeqOf, AfterOf, NewOf, BeforeOf}
-use Rattle.uni_model.specs.Places.Content.{CellName, Invocation, Number, Link, Settled}
-use Rattle.uni_model.specs.Stages.{Stage, Pending}
-use Rattle.uni_model.specs.Stages.Stage.{Announce, ScanHead, ScanSeq, WriteScan, Test, ReadAnnounce, ReadHelpSeq, DecideAfter, DecideNew, WriteBefore, WriteSeq, WriteHead, Finish}
-use Rattle.uni_model.specs.Transition.{place_of, value_after, next_in_scan, stage_after_scan}
-use Rattle.uni_model.specs.Effects.{effect_of}
-use Rattle.uni_model.specs.Worlds.{WorldOf, sum_below, calls_in_era}
-use Rattle.uni_model.specs.Invariant.{Has, HasBest, AtHead, IsPast, IsCellOf, Stands, IsSound, can_be_linked}
+use Rattle.uni_model.proofs.Vocabulary.{AfterOf, Anchor, Announce, Announced, AtHead, BeforeOf, Bool, CellName, Content, DecideAfter, DecideNew, Finish, Grows, Has, HasBest, HeadOf, Invocation, IsCellOf, IsPast, IsSound, Link, Name, NewOf, None, Number, Of, Option, Pending, Place, ReadAnnounce, ReadHelpSeq, ScanHead, ScanSeq, SeqOf, Sequential, Settled, Some, Stage, Stands, Test, WorldOf, WriteBefore, WriteHead, WriteScan, WriteSeq, after_of, announce_of, ap, arith, before_of, calls_in_era, can_be_linked, cases_lt, cond, effect_of, false, head_of, head_seq, if◌then◌else◌, inl, inr, inv_of, link_in, memory_with, nat_eq, nat_lt, new_of, next_in_scan, option_or, place_of, refl, seq_of, settled_in, stage_after_scan, subst, sum_below, sym, true, unwrap_or, value_after, ℕ, ◌%◌, ◌+◌, ◌-◌, ◌<◌, ◌∙◌, ◌≡◌, ◌≤◌, ◌⊎◌}
 use Rattle.uni_model.proofs.Written.{number_cases, head_of-memory_with, announce_of-memory_with, written_same, lt_cases, after_of-memory_with, seq_of-memory_with, new_of-memory_with, before_of-memory_with}
-use Rattle.uni_model.specs.Settled.{Grows}
 use Rattle.uni_model.proofs.Sums.{sum_below-lt}
 use Rattle.uni_model.proofs.Numbered.{IsPast-threaded, IsNumbered-seq, IsNumbered-link, end_number, numbered_last, numbered_last-cases}
 use Rattle.uni_model.proofs.Values.{Grows-seq, HasValues-seq, LeadsBack-seq, Grows-link, HasValues-link, LeadsBack-link, Grows-new, HasValues-new, Grows-before, LeadsBack-before, not_anchor}

@@ -1,18 +1,8 @@
 -- The joined log linearizes strongly: it linearizes each run, and only grows.
-use Rattle.std.proofs.Common.{◌≡◌, ◌∙◌, ℕ, suc, ◌+◌, ◌≤◌, inl, inr, refl, ap, subst, List, [], ◌∷◌, ◌++◌, map, length, Some, arith}
+use Rattle.uni_model.proofs.Vocabulary.{AreAccepted, Entry, Event, Invoke, Invoked, IsPrefixOf, List, Respond, Sequential, Some, [], ap, arith, inl, inr, length, log_of_run, map, observed_in, one_by_one, opened_world, refl, state_after, subst, suc, ℕ, ◌++◌, ◌+◌, ◌∙◌, ◌∷◌, ◌≡◌, ◌≤◌}
 use Rattle.std.proofs.Math.Seq.{take-append_seam}
-use Rattle.seq_object.specs.Sequential.{Sequential}
-use Rattle.seq_object.specs.History.{state_after}
-use Rattle.uni_model.specs.Chain.{Entry}
-use Rattle.uni_model.specs.AtomicObject.{Invoked}
-use Rattle.uni_model.specs.AtomicObject.Act.{Invoke, Respond}
-use Rattle.uni_model.specs.Worlds.{Event, opened_world, AreAccepted}
-use Rattle.uni_model.specs.History.{log_of_run}
-use Rattle.uni_model.specs.Growth.{IsPrefixOf}
 use Rattle.uni_model.specs.StrongLinearizable.{LinearizesStrongly, IsStronglyLinearizable}
 use Rattle.uni_model.proofs.Joined.{JoinedLogGrows-holds}
-use Rattle.uni_model.specs.Linearizable.{observed_in}
-use Rattle.uni_model.specs.HerlihyWing.{one_by_one}
 use Rattle.uni_model.proofs.Linearizable.{IsLinearizedAs-holds}
 use Rattle.uni_model.proofs.Completion.{completed}
 

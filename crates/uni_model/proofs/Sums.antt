@@ -1,7 +1,5 @@
 -- Sums below a number.
-use Rattle.std.proofs.Common.{◌≡◌, ℕ, zero, suc, ◌+◌, ◌<◌, ◌≤◌, inl, inr, arith, subst}
-use Rattle.std.proofs.lemmas.Bool.{cases_lt}
-use Rattle.uni_model.specs.Worlds.{sum_below}
+use Rattle.uni_model.proofs.Vocabulary.{arith, cases_lt, inl, inr, subst, suc, sum_below, zero, ℕ, ◌+◌, ◌<◌, ◌≡◌, ◌≤◌}
 
 pub sum_below-le : (n : ℕ) (f g : ℕ → ℕ) → ((p : ℕ) → p < n → f p ≤ g p) → sum_below n f ≤ sum_below n g
 sum_below-le zero f g each = omega arith

@@ -1,17 +1,6 @@
 -- A run in which a call meets the bound: another process decides what comes after the anchor and stops, p loses its first turn to
 -- it, and then all others call and announce, so that p helps each of them before itself.
-use Rattle.std.proofs.Common.{◌≡◌, ◌≢◌, ◌∙◌, ℕ, zero, suc, ◌+◌, ◌*◌, ◌-◌, ◌/◌, ◌%◌, ◌==◌, ◌<◌, ◌≤◌, inl, inr, refl, sym, ap, subst, cond, Some, None, arith, if◌then◌else◌, unwrap_or}
-use Rattle.std.proofs.lemmas.Bool.{cases_lt}
-use Rattle.std.proofs.Math.Nat.{mod-add-div', mul-le-mul_right, add-mod_right}
-use Rattle.seq_object.specs.Sequential.{Sequential}
-use Rattle.uni_model.specs.Places.{Name, Memory, memory_with, head_of, announce_of, seq_of, after_of}
-use Rattle.uni_model.specs.Places.Name.{Anchor, Of}
-use Rattle.uni_model.specs.Places.Place.{Announced, InvOf, AfterOf}
-use Rattle.uni_model.specs.Places.Content.{CellName, Invocation, Link}
-use Rattle.uni_model.specs.Stages.Stage.{Announce, ScanHead, Test, DecideNew}
-use Rattle.uni_model.specs.Worlds.{WorldOf, opened_world, world_after, IsAccepted}
-use Rattle.uni_model.specs.Worlds.Event.{Call, Step}
-use Rattle.uni_model.specs.AtomicObject.{set_at}
+use Rattle.uni_model.proofs.Vocabulary.{AfterOf, Anchor, Announce, Announced, Call, CellName, DecideNew, InvOf, Invocation, IsAccepted, Link, Memory, Name, None, Of, ScanHead, Sequential, Some, Step, Test, WorldOf, add-mod_right, after_of, announce_of, ap, arith, cases_lt, cond, head_of, if◌then◌else◌, inl, inr, memory_with, mod-add-div', mul-le-mul_right, opened_world, refl, seq_of, set_at, subst, suc, sym, unwrap_or, world_after, zero, ℕ, ◌%◌, ◌*◌, ◌+◌, ◌-◌, ◌/◌, ◌<◌, ◌==◌, ◌∙◌, ◌≡◌, ◌≢◌, ◌≤◌}
 use Rattle.uni_model.proofs.Written.{number_cases, set_at-cases, head_of-memory_with, announce_of-memory_with, seq_of-memory_with, after_of-memory_with}
 use Rattle.uni_model.proofs.LawProofs.{set_at_elsewhere}
 use Rattle.uni_model.proofs.Solo.{Can, now, next, and_then, world_at, IsAt, at_here, set_at_here, announces_own, opened_by, scans, prefers_help, prefers_own, proposes, threaded_by, threads, ends}

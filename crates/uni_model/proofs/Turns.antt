@@ -1,15 +1,7 @@
 -- No call takes more than n + 1 turns.
-use Rattle.std.proofs.Common.{◌≡◌, ℕ, ◌+◌, ◌-◌, ◌<◌, ◌≤◌, ◌%◌, ◌⊎◌, inl, inr, arith}
-use Rattle.std.proofs.lemmas.Bool.{cases_lt}
-use Rattle.uni_model.specs.Places.{Name, Memory, head_of, head_seq}
-use Rattle.uni_model.specs.Places.Name.{Anchor}
-use Rattle.uni_model.specs.Stages.{Stage}
-use Rattle.uni_model.specs.Stages.Stage.{Announce, ScanHead, ScanSeq, WriteScan, Test, ReadAnnounce, ReadHelpSeq, DecideAfter, DecideNew, WriteBefore, WriteSeq, WriteHead, Finish}
-use Rattle.uni_model.specs.Invariant.{IsNumbered, IsPast, Stands}
-use Rattle.uni_model.specs.Counting.{HasTurns}
+use Rattle.uni_model.proofs.Vocabulary.{Anchor, Announce, DecideAfter, DecideNew, Finish, HasTurns, IsHelped, IsNumbered, IsPast, Memory, Name, ReadAnnounce, ReadHelpSeq, ScanHead, ScanSeq, Stage, Stands, Test, WriteBefore, WriteHead, WriteScan, WriteSeq, arith, cases_lt, head_of, head_seq, inl, inr, ℕ, ◌%◌, ◌+◌, ◌-◌, ◌<◌, ◌≡◌, ◌≤◌, ◌⊎◌}
 use Rattle.uni_model.proofs.Grows.{head_seq-at}
 use Rattle.uni_model.proofs.Residues.{with_remainder}
-use Rattle.uni_model.specs.Helping.{IsHelped}
 
 -- the numbers that a head has passed, while mine isn't linked: among n of them in a row is one with the remainder p
 turns-unlinked : (n p first last s turns : ℕ) → p < n → first + turns ≤ s + 1 → s ≤ last

@@ -1,11 +1,6 @@
 -- The main law, from the laws that it is made of.
-use Rattle.std.proofs.Common.{◌∙◌, ℕ, refl, sym, ap, subst, List, ◌∷◌, take}
-use Rattle.seq_object.specs.Sequential.{Sequential}
-use Rattle.uni_model.specs.Worlds.{WorldOf, Event, opened_world, world_after_all, without_trims, AreAccepted}
-use Rattle.uni_model.specs.Worlds.Event.{Call}
-use Rattle.uni_model.specs.Linearizable.{observed}
+use Rattle.uni_model.proofs.Vocabulary.{AreAccepted, Call, Event, List, Sequential, ShowsSame, ShowsSameUntrimmed, WorldOf, ap, observed, opened_world, refl, subst, sym, take, without_trims, world_after_all, ℕ, ◌∙◌, ◌∷◌}
 use Rattle.uni_model.specs.Trims.{CountsSame, IsSameUntrimmed}
-use Rattle.uni_model.specs.Untrimmed.{ShowsSame, ShowsSameUntrimmed}
 use Rattle.uni_model.specs.Universal.{RunIsUniversal}
 use Rattle.uni_model.proofs.LawProofs.{AreAccepted-take, IsBounded-along}
 use Rattle.uni_model.proofs.Counted.{CountsSteps-opened_world}

@@ -1,15 +1,7 @@
 -- What is settled in the chain's cells, and the way back, through each kind of write.
-use Rattle.std.proofs.Common.{◌≡◌, ◌≢◌, ◌∙◌, ℕ, ◌+◌, ◌≤◌, inl, inr, refl, sym, ap, subst, Option, Some, None, arith}
-use Rattle.seq_object.specs.Sequential.{Sequential}
-use Rattle.uni_model.specs.Places.{Name, Memory, memory_with, seq_of, after_of, new_of, before_of, inv_of}
-use Rattle.uni_model.specs.Places.Name.{Anchor, Of}
-use Rattle.uni_model.specs.Places.Place.{SeqOf, AfterOf, NewOf, BeforeOf}
-use Rattle.uni_model.specs.Places.Content.{Number, Link, Settled}
-use Rattle.uni_model.specs.Chain.{response_in}
-use Rattle.uni_model.specs.Invariant.{Has, IsNumbered, HasValues, LeadsBack}
+use Rattle.uni_model.proofs.Vocabulary.{AfterOf, Anchor, BeforeOf, Grows, Has, HasValues, IsNumbered, LeadsBack, Link, Memory, Name, NewOf, None, Number, Of, Option, SeqOf, Sequential, Settled, Some, after_of, ap, arith, before_of, inl, inr, inv_of, memory_with, new_of, refl, response_in, seq_of, subst, sym, ℕ, ◌+◌, ◌∙◌, ◌≡◌, ◌≢◌, ◌≤◌}
 use Rattle.uni_model.proofs.Written.{seq_of-memory_with, after_of-memory_with, new_of-memory_with, before_of-memory_with}
 use Rattle.uni_model.proofs.Numbered.{numbered_last, numbered_last-cases}
-use Rattle.uni_model.specs.Settled.{Grows}
 
 module _ {S I R : Type 0} (m : Memory S I R) (num : Name → ℕ) (last : ℕ) (old : IsNumbered m num last) where
   -- two cells that lead to one are one

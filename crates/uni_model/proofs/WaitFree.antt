@@ -1,20 +1,5 @@
 -- The own steps of a call are the steps of its process since its begin, so it has returned in time.
-use Rattle.std.proofs.Common.{◌≡◌, ◌≢◌, ◌∙◌, ℕ, zero, suc, ◌+◌, ◌*◌, ◌<◌, ◌≤◌, inl, inr, refl, sym, ap, subst, true, false, cond, List, [], ◌∷◌, ◌++◌, Option, Some, None, IsSome, Contains, arith}
-use Rattle.std.proofs.lemmas.List.{append_assoc}
-use Rattle.std.proofs.lemmas.List.Elements.{Contains-append_left, Contains-append_right, Contains-push}
-use Rattle.std.proofs.lemmas.List.Sums.{sum_by-cons}
-use Rattle.std.specs.Option.{option_map_or}
-use Rattle.seq_object.specs.Sequential.{Sequential}
-use Rattle.uni_model.specs.Places.{seq_of, new_of}
-use Rattle.uni_model.specs.Stages.{Pending}
-use Rattle.uni_model.specs.Worlds.{WorldOf, Event, anchor_memory, opened_world, last_cell, world_after, world_after_step, world_after_era, world_after_all, IsAccepted, AreAccepted}
-use Rattle.uni_model.specs.Worlds.Event.{Call, Step, Trim, Reshape}
-use Rattle.uni_model.specs.AtomicObject.{Atomic, Act, AcceptsAll, at_start, set_at, Invoked}
-use Rattle.uni_model.specs.AtomicObject.Act.{Invoke, Linearize, Respond}
-use Rattle.uni_model.specs.History.{acts_of, history_of, open_at}
-use Rattle.uni_model.specs.Linearizable.{observed, observed_in}
-use Rattle.uni_model.specs.Bound.{IsBounded, IsWithinBound}
-use Rattle.uni_model.specs.Laws.{IsReached}
+use Rattle.uni_model.proofs.Vocabulary.{AcceptsAll, Act, AreAccepted, Atomic, Call, Contains, Contains-append_left, Contains-append_right, Contains-push, Event, Invoke, Invoked, IsAccepted, IsBounded, IsReached, IsSome, IsWithinBound, Linearize, List, None, Option, Pending, Reshape, Respond, Sequential, Some, Step, Trim, WorldOf, [], acts_of, anchor_memory, ap, append_assoc, arith, at_start, cond, false, history_of, inl, inr, last_cell, new_of, observed, observed_in, open_at, opened_world, option_map_or, refl, seq_of, set_at, subst, suc, sum_by-cons, sym, true, world_after, world_after_all, world_after_era, world_after_step, zero, ℕ, ◌*◌, ◌++◌, ◌+◌, ◌<◌, ◌∙◌, ◌∷◌, ◌≡◌, ◌≢◌, ◌≤◌}
 use Rattle.uni_model.specs.WaitFree.{is_step_of, steps_among, AreNoCallsOf, NeverBlocks, IsWaitFree, CallIsWaitFree, EndsAlone, CallEndsAlone}
 use Rattle.uni_model.proofs.Written.{number_cases, set_at-cases}
 use Rattle.uni_model.proofs.LawProofs.{set_at_elsewhere, IsBounded-reached}

@@ -1,11 +1,5 @@
 -- What a memory contains after one place is written.
-use Rattle.std.proofs.Common.{◌≡◌, ◌≢◌, ℕ, Bool, true, false, cond, ◌⊎◌, inl, inr, refl, Option, arith, nat_eq, nat_lt, ◌<◌, ◌≤◌, ap, sym}
-use Rattle.std.proofs.lemmas.Bool.Decides.{nat_tests}
-use Rattle.uni_model.specs.Places.{Name, Place, Memory, name_eq, place_eq, memory_with, seq_of, after_of, new_of, before_of, inv_of, head_of, announce_of}
-use Rattle.uni_model.specs.AtomicObject.{set_at}
-use Rattle.uni_model.specs.Places.Name.{Anchor, Of}
-use Rattle.uni_model.specs.Places.Place.{Announced, HeadOf, InvOf, SeqOf, AfterOf, NewOf, BeforeOf}
-use Rattle.uni_model.specs.Places.Content.{CellName, Invocation, Number, Link, Settled}
+use Rattle.uni_model.proofs.Vocabulary.{AfterOf, Anchor, Announced, BeforeOf, Bool, CellName, HeadOf, InvOf, Invocation, Link, Memory, Name, NewOf, Number, Of, Option, Place, SeqOf, Settled, after_of, announce_of, ap, arith, before_of, cond, false, head_of, inl, inr, inv_of, memory_with, name_eq, nat_eq, nat_lt, nat_tests, new_of, place_eq, refl, seq_of, set_at, sym, true, ℕ, ◌<◌, ◌≡◌, ◌≢◌, ◌≤◌, ◌⊎◌}
 
 pub name_eq_true : (x y : Name) → name_eq x y ≡ true → x ≡ y
 name_eq_true Anchor Anchor e = refl

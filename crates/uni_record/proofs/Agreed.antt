@@ -1,26 +1,6 @@
 -- The entries and the returns of a record agree.
-use Rattle.std.proofs.Common.{◌≡◌, ◌∙◌, ℕ, zero, suc, ◌+◌, ◌<◌, ◌==◌, cond, refl, sym, ap, subst, List, [], ◌∷◌, map, slice_get, take, Some, option_map, arith}
-use Rattle.std.proofs.lemmas.List.{take-map}
-use Rattle.std.proofs.lemmas.List.Sums.{sum_by-cons}
-use Rattle.std.proofs.lemmas.Option.{slice_get-map}
-use Rattle.seq_object.specs.Sequential.{Sequential}
-use Rattle.seq_object.specs.History.{IsLegal}
-use Rattle.seq_object.specs.declared.call_id.CallId.{CallId}
+use Rattle.uni_record.proofs.Vocabulary.{Act, CallId, Entry, Event, HoldsResponses, Invariant-opened_world, Invoke, IsAudited, IsLegal, IsRecording, JoinsLegalLogs, Linearize, List, LogsResponses, Recording, Respond, Return, Sequential, Some, [], ap, arith, call_shown, calls_among, calls_of, cond, entry_shown, events_shown, history_of, log_of_run, logged_call, map, meaning, opening, option_map, refl, responses_in, slice_get, slice_get-map, subst, suc, sum_by-cons, sym, take, take-map, zero, ℕ, ◌+◌, ◌<◌, ◌==◌, ◌∙◌, ◌∷◌, ◌≡◌}
 use Rattle.uni_model.specs.Chain.{Entry as Logged}
-use Rattle.uni_model.specs.AtomicObject.{Act}
-use Rattle.uni_model.specs.AtomicObject.Act.{Invoke, Linearize, Respond}
-use Rattle.uni_model.specs.Worlds.{Event}
-use Rattle.uni_model.specs.History.{history_of, log_of_run, logged_call}
-use Rattle.uni_model.specs.Eras.{JoinsLegalLogs}
-use Rattle.uni_model.specs.Responses.{HoldsResponses, LogsResponses, calls_among}
-use Rattle.uni_model.proofs.Kept.{Invariant-opened_world}
-use Rattle.uni_log.specs.declared.entry.Entry.{Entry}
-use Rattle.uni_log.specs.Entry.{call_shown, entry_shown}
-use Rattle.uni_record.specs.declared.verdict.Return.{Return}
-use Rattle.uni_record.specs.Audited.{IsAudited}
-use Rattle.uni_record.specs.Recorded.{IsRecording, Recording, meaning, opening}
-use Rattle.uni_record.specs.Event.{events_shown, responses_in}
-use Rattle.uni_record.specs.Verdict.{calls_of}
 use Rattle.uni_record.proofs.Calls.{call_named}
 use Rattle.uni_record.proofs.Promised.{returns_are_responses}
 

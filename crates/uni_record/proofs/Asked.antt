@@ -1,11 +1,6 @@
 -- How many of the events of a packed history are calls.
-use Rattle.std.proofs.Common.{◌≡◌, ◌∙◌, ℕ, suc, ◌+◌, ◌-◌, ◌≤◌, Bool, true, false, cond, nat_lt, nat_eq, List, [], ◌∷◌, ◌++◌, length, drop, arith, refl, ap}
-use Rattle.std.proofs.lemmas.List.{length-drop, map-append}
-use Rattle.uni_model.specs.Worlds.{Event}
-use Rattle.uni_model.specs.Worlds.Event.{Call, Step, Trim, Reshape}
-use Rattle.uni_record.specs.Event.{calls_in, event_shown, events_shown}
+use Rattle.uni_record.proofs.Vocabulary.{ArePacked, Bool, Call, Event, List, Reshape, Step, Trim, [], ap, arith, asking, call_with, calls_in, cond, drop, event_shown, event_with, events_shown, false, length, length-drop, map-append, nat_eq, nat_lt, refl, suc, true, unpacked, ℕ, ◌++◌, ◌+◌, ◌-◌, ◌∙◌, ◌∷◌, ◌≡◌, ◌≤◌}
 use Rattle.uni_record.specs.declared.event.Event.TheVariants as stored
-use Rattle.uni_record.specs.Packed.{asking, call_with, event_with, unpacked, ArePacked}
 
 module _ {I : Type 0} where
   calls_in-append : (xs ys : List (Event I)) → calls_in (xs ++ ys) ≡ calls_in xs + calls_in ys

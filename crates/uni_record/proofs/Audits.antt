@@ -1,21 +1,6 @@
 -- The entries of all eras of a record, as the code makes them one at a time.
-use Rattle.std.proofs.Common.{◌≡◌, ◌∙◌, ℕ, ◌+◌, ◌↔◌, Bool, true, List, [], ◌∷◌, ◌++◌, Some, map, option_map, slice_get, take, drop, append_assoc, refl, sym, ap, suc, arith}
-use Rattle.std.proofs.lemmas.List.{map-append}
-use Rattle.std.proofs.lemmas.Option.{slice_get-map}
-use Rattle.seq_object.specs.Sequential.{Sequential}
+use Rattle.uni_record.proofs.Vocabulary.{Agrees, Bool, Entry, Event, IsRecording, JoinsLegalLogs, List, LogsResponses, Recording, Sequential, Some, Verdict, [], ap, append_assoc, arith, drop, drop-at, entries_verdict, entry_shown, entry_verdict, first, log, map, map-append, meaning, option_map, refl, returns_verdict, slice_get, slice_get-map, suc, sym, take, taken-more, true, verdict_of, world_of, ℕ, ◌++◌, ◌+◌, ◌↔◌, ◌∙◌, ◌∷◌, ◌≡◌}
 use Rattle.uni_model.specs.Chain.{Entry as Logged}
-use Rattle.uni_model.specs.Worlds.{Event}
-use Rattle.uni_model.specs.History.{log}
-use Rattle.uni_model.specs.Eras.{JoinsLegalLogs}
-use Rattle.uni_model.specs.Responses.{LogsResponses}
-use Rattle.uni_core.specs.World.{world_of}
-use Rattle.uni_log.specs.declared.entry.Entry.{Entry}
-use Rattle.uni_log.specs.Entry.{entry_shown}
-use Rattle.uni_log.proofs.Along.{drop-at, taken-more}
-use Rattle.uni_record.specs.declared.verdict.Verdict.{Verdict}
-use Rattle.uni_record.specs.declared.verdict.Verdict.TheVariants.{Agrees}
-use Rattle.uni_record.specs.Verdict.{first, entry_verdict, entries_verdict, returns_verdict, verdict_of}
-use Rattle.uni_record.specs.Recorded.{IsRecording, Recording, meaning}
 use Rattle.uni_record.proofs.Agreed.{IsAudited-record}
 use Rattle.uni_record.proofs.Faults.{first-agrees}
 use Rattle.uni_record.proofs.Meaning.{agrees_means}

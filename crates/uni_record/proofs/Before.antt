@@ -1,9 +1,5 @@
 -- Each element of a list, beside those before it.
-use Rattle.std.proofs.Common.{◌≡◌, ℕ, zero, suc, ◌+◌, ◌<◌, Bool, true, false, cond, List, [], ◌∷◌, ◌++◌, append_assoc, Some, take, slice_get, count_by, refl, sym, subst, arith}
-use Rattle.std.proofs.lemmas.Bool.{or_parts, or_from}
-use Rattle.std.proofs.lemmas.List.{append-nil}
-use Rattle.std.proofs.lemmas.List.Sums.{sum_by-cons}
-use Rattle.std.specs.List.{list_any}
+use Rattle.uni_record.proofs.Vocabulary.{Bool, List, Some, [], append-nil, append_assoc, arith, cond, count_by, false, list_any, or_from, or_parts, refl, slice_get, subst, suc, sum_by-cons, sym, take, true, zero, ℕ, ◌++◌, ◌+◌, ◌<◌, ◌∷◌, ◌≡◌}
 
 module _ {X : Type 0} where
   -- P holds of each later element and those before it, the earlier ones among them

@@ -1,11 +1,5 @@
 -- When a call can begin.
-use Rattle.std.proofs.Common.{◌≡◌, ◌≢◌, ℕ, ◌<◌, ◌≤◌, arith, Option, Some, None, false, true}
-use Rattle.std.specs.Option.{is_some}
-use Rattle.seq_object.specs.declared.call_id.CallId.{CallId}
-use Rattle.uni_model.specs.Worlds.{WorldOf, calls_in_era}
-use Rattle.uni_core.specs.World.{current_of}
-use Rattle.uni_core.specs.Refusals.{CanCall}
-use Rattle.uni_core.proofs.Runs.{current_none}
+use Rattle.uni_record.proofs.Vocabulary.{CallId, CanCall, None, Option, Some, WorldOf, arith, calls_in_era, current_none, current_of, false, is_some, true, ℕ, ◌<◌, ◌≡◌, ◌≢◌, ◌≤◌}
 
 -- a process without a pending call, whose calls of the era are fewer than a row's
 pub can_call_now : {S I R : Type 0} (w : WorldOf S I R) (row p : ℕ) (o : Option CallId) (count k : ℕ) → p < w.n → o ≡ current_of w p → false ≡ is_some o

@@ -1,9 +1,5 @@
 -- Calls by their names, and the entry of a call.
-use Rattle.std.proofs.Common.{◌≡◌, ◌≢◌, ◌∙◌, ℕ, zero, suc, ◌<◌, ◌==◌, ◌&&◌, Bool, true, false, cond, List, [], ◌∷◌, Some, option_and_then, find, take, slice_get, eq-eqb, refl, ap, arith}
-use Rattle.std.proofs.lemmas.Bool.{eqb-true}
-use Rattle.seq_object.specs.declared.call_id.CallId.{CallId}
-use Rattle.uni_log.specs.declared.entry.Entry.{Entry}
-use Rattle.uni_record.specs.Verdict.{calls_of, reply_to, same_call}
+use Rattle.uni_record.proofs.Vocabulary.{Bool, CallId, Entry, List, Some, [], ap, arith, calls_of, cond, eq-eqb, eqb-true, false, find, option_and_then, refl, reply_to, same_call, slice_get, suc, take, true, zero, ℕ, ◌&&◌, ◌<◌, ◌==◌, ◌∙◌, ◌∷◌, ◌≡◌, ◌≢◌}
 use Rattle.uni_record.proofs.Before.{count_by-before}
 
 abbrev pub call_named : (process nth : ℕ) → CallId

@@ -1,19 +1,8 @@
 -- What a list of commands to a record comes to.
-use Rattle.std.proofs.Common.{◌≡◌, ◌∙◌, ℕ, suc, ◌+◌, ◌<◌, ◌≤◌, List, [], ◌∷◌, ◌++◌, length, take, get_or, arith, refl, sym, ap, subst, Some, option_to_list, append_assoc, length-append}
-use Rattle.std.proofs.lemmas.List.{append-nil}
+use Rattle.uni_record.proofs.Vocabulary.{AreOutcomes, Command, IsOutcome, KeepsOpening, List, Outcome, Recording, Refused, Sequential, Some, TakesCommand, [], ap, append-nil, append_assoc, arith, event_of, event_shown, events_of, get_or, length, length-append, meaning, option_map_or, option_to_list, refl, standing_after, standing_of, subst, suc, sym, take, world_after, world_of, ℕ, ◌++◌, ◌+◌, ◌<◌, ◌∙◌, ◌∷◌, ◌≡◌, ◌≤◌}
 use Rattle.std.proofs.Math.Seq.{take-suc, take-length}
-use Rattle.std.specs.Option.{option_map_or}
-use Rattle.seq_object.specs.Sequential.{Sequential}
-use Rattle.uni_model.specs.Worlds.{world_after}
-use Rattle.uni_core.specs.World.{world_of}
-use Rattle.uni_record.specs.declared.command.Command.{Command}
 use Rattle.uni_record.specs.declared.command.Refusal.{Refusal}
-use Rattle.uni_record.specs.declared.command.Outcome.{Outcome}
-use Rattle.uni_record.specs.declared.command.Outcome.TheVariants.{Refused}
 use Rattle.uni_record.specs.declared.event.Event.{Event as Stored}
-use Rattle.uni_record.specs.Event.{event_shown}
-use Rattle.uni_record.specs.Recorded.{Recording, meaning, standing_of, KeepsOpening}
-use Rattle.uni_record.specs.Run.{IsOutcome, AreOutcomes, TakesCommand, event_of, events_of, standing_after}
 
 module _ {O S I R : Type 0} (sequential : O → Sequential S I R) where
   -- a command that is refused leaves the record as it was

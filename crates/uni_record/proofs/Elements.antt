@@ -1,12 +1,7 @@
 -- The element at a place of a list, after one more element, and the place of the first that passes a test.
-use Rattle.std.proofs.Common.{◌≡◌, ◌≢◌, ◌∙◌, ℕ, zero, suc, ◌+◌, ◌≤◌, eqb, Bool, not, true, false, cond, nat_lt, List, [], ◌∷◌, ◌++◌, Some, None, find, length, option_and_then, position, slice_get, refl, ap, arith}
-use Rattle.std.specs.List.{position_or_len}
-use Rattle.std.specs.Option.{option_or}
+use Rattle.uni_record.proofs.Vocabulary.{Bool, List, None, Some, [], ap, arith, cond, eqb, false, find, find_at, length, nat_lt, not, option_and_then, option_or, position, position_or_len, position_or_len_push, prefix_len-le-length, refl, slice_get, slice_get_past, suc, true, zero, ℕ, ◌++◌, ◌+◌, ◌∙◌, ◌∷◌, ◌≡◌, ◌≢◌, ◌≤◌}
 use Rattle.std.proofs.lemmas.List.{length-append}
-use Rattle.std.proofs.lemmas.List.Folds.{find_at, position_or_len_push}
-use Rattle.std.proofs.lemmas.List.Sums.{prefix_len-le-length}
 use Rattle.std.proofs.lemmas.Bool.Decides.{nat_tests}
-use Rattle.std.proofs.lemmas.Option.{slice_get_past}
 
 -- the first place that passes among n elements, and among one more
 more_place : (first n later longer : ℕ) (t : Bool) → first ≤ n → later ≡ cond (eqb first n) (n + cond t 0 1) first → longer ≡ n + 1

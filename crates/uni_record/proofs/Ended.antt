@@ -1,19 +1,6 @@
 -- The end of an era, recorded.
-use Rattle.std.proofs.Common.{◌≡◌, ◌∙◌, ℕ, ◌+◌, ◌-◌, ◌*◌, ◌≤◌, List, [], ◌∷◌, ◌++◌, map, length, arith, refl, ap, Option, Some, None, length-append}
-use Rattle.std.proofs.lemmas.List.{map-append}
-use Rattle.std.specs.Option.{option_map_or}
-use Rattle.seq_object.specs.Sequential.{Sequential}
-use Rattle.uni_model.specs.Places.{seq_of, new_of}
-use Rattle.uni_model.specs.Invariant.{Invariant}
-use Rattle.uni_model.specs.Worlds.{WorldOf, anchor_memory, last_cell, world_after_era, IsAccepted, IsQuiescent}
-use Rattle.uni_model.specs.History.{log}
-use Rattle.uni_model.proofs.Kept.{idle_when_quiescent}
-use Rattle.uni_core.specs.World.{world_of}
-use Rattle.uni_log.specs.declared.entry.Entry.{Entry}
-use Rattle.uni_log.specs.Entry.{entry_shown}
+use Rattle.uni_record.proofs.Vocabulary.{Entry, Invariant, IsAccepted, IsQuiescent, IsRecording, List, None, Option, Recording, Sequential, Some, WorldOf, [], anchor_memory, ap, arith, entry_shown, event_shown, idle_when_quiescent, last_cell, length, length-append, log, map, map-append, new_of, option_map_or, pending_count, refl, seq_of, set_aside, world_after_era, world_of, ℕ, ◌*◌, ◌++◌, ◌+◌, ◌-◌, ◌∙◌, ◌∷◌, ◌≡◌, ◌≤◌}
 use Rattle.uni_record.specs.declared.event.Event.{Event as Stored}
-use Rattle.uni_record.specs.Event.{event_shown}
-use Rattle.uni_record.specs.Recorded.{Recording, IsRecording, set_aside, pending_count}
 use Rattle.uni_record.proofs.Owed.{owed-quiescent}
 use Rattle.uni_record.proofs.Kept.{Adds, HasRoomFor, IsRecording-adds}
 

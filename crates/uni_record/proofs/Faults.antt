@@ -1,8 +1,5 @@
 -- The first fault, and when there is none.
-use Rattle.std.proofs.Common.{◌≡◌, ◌≢◌, Bool, true, false, if◌then◌else◌, refl}
-use Rattle.uni_record.specs.declared.verdict.Verdict.{Verdict}
-use Rattle.uni_record.specs.declared.verdict.Verdict.TheVariants.{Agrees, BadCall, BadReply, Missing, BadReturn, Twice}
-use Rattle.uni_record.specs.Verdict.{first}
+use Rattle.uni_record.proofs.Vocabulary.{Agrees, BadCall, BadReply, BadReturn, Bool, Missing, Twice, Verdict, false, first, if◌then◌else◌, refl, true, ◌≡◌, ◌≢◌}
 
 pub first-agrees : (a b : Verdict) → first a b ≡ Agrees → (a ≡ Agrees) × (b ≡ Agrees)
 first-agrees Agrees b e = (refl, e)

@@ -1,21 +1,10 @@
 -- What a record keeps: at its opening, with more room, and with one event more.
-use Rattle.std.proofs.Common.{◌≡◌, ◌∙◌, ℕ, ◌+◌, ◌-◌, ◌*◌, ◌<◌, ◌≤◌, List, [], ◌∷◌, ◌++◌, map, length, arith, refl, sym, ap, subst, Option, Some, None, IsSome, option_to_list, option_map, option_and_then, length-append}
-use Rattle.std.proofs.lemmas.List.{map-append, length-map}
-use Rattle.seq_object.specs.Sequential.{Sequential}
-use Rattle.uni_model.specs.Bound.{IsBounded}
-use Rattle.uni_model.specs.Worlds.{WorldOf, Event, world_after, response_of_step, IsAccepted}
-use Rattle.uni_model.specs.Worlds.Event.{Step}
-use Rattle.seq_object.specs.declared.call_id.CallId.{CallId}
-use Rattle.uni_core.specs.World.{world_of, current_of}
-use Rattle.uni_log.specs.Entry.{entry_shown}
+use Rattle.uni_record.proofs.Vocabulary.{AreAccepted-snoc, CallId, Completed, Event, HasRoom, IsAccepted, IsBounded, IsRecording, IsSome, List, None, Option, Recording, Sequential, Some, Step, WorldOf, [], ap, arith, completed_by, completed_in, current_of, entry_shown, event_shown, events_shown, length, length-append, length-map, log_ended_by, map, map-append, meaning, opening, option_and_then, option_map, option_to_list, pending_count, refl, response_of_step, set_aside, share, subst, sym, world_after, world_after_all-snoc, world_of, ℕ, ◌*◌, ◌++◌, ◌+◌, ◌-◌, ◌<◌, ◌∙◌, ◌∷◌, ◌≡◌, ◌≤◌}
 use Rattle.uni_record.specs.declared.event.Event.{Event as Stored}
 use Rattle.uni_record.specs.declared.event.Event.TheVariants as stored
-use Rattle.uni_record.specs.Event.{event_shown, events_shown, completed_by, completed_in, log_ended_by, Completed}
-use Rattle.uni_record.specs.Recorded.{Recording, IsRecording, HasRoom, meaning, opening, set_aside, pending_count, share}
 use Rattle.uni_record.proofs.Owed.{owed-begun, one_idle}
 use Rattle.uni_record.proofs.Paid.{step_pays}
 use Rattle.uni_record.proofs.Runs.{completed_in-snoc, ended_log-snoc}
-use Rattle.uni_model.proofs.Runs.{world_after_all-snoc, AreAccepted-snoc}
 
 -- the room of a record, with room for so many events, returns and counts
 abbrev pub HasRoomFor : {O S I R : Type 0} → Recording O S I R → (events returns counts : ℕ) → Type 0

@@ -1,3 +1,4 @@
+pub mod Vocabulary
 pub mod Before
 pub mod Packed
 pub mod Calls

@@ -1,16 +1,5 @@
 -- `Agrees` is the verdict exactly where entries and returns agree.
-use Rattle.std.proofs.Common.{◌≡◌, ◌≢◌, ◌↔◌, ◌∙◌, ℕ, ◌==◌, Bool, true, false, if◌then◌else◌, List, [], ◌∷◌, ◌++◌, Option, Some, None, IfSome, map, take, length, slice_get, eq-eqb, refl, sym, ap, subst}
-use Rattle.std.specs.Option.{option_map_or}
-use Rattle.std.proofs.lemmas.Bool.{eqb-true}
-use Rattle.seq_object.specs.Sequential.{Sequential}
-use Rattle.seq_object.specs.History.{IsLegal}
-use Rattle.uni_log.specs.declared.entry.Entry.{Entry}
-use Rattle.uni_log.specs.Entry.{call_shown}
-use Rattle.uni_record.specs.declared.verdict.Return.{Return}
-use Rattle.uni_record.specs.declared.verdict.Verdict.{Verdict}
-use Rattle.uni_record.specs.declared.verdict.Verdict.TheVariants.{Agrees, BadCall, BadReply, Missing, BadReturn, Twice}
-use Rattle.uni_record.specs.Verdict.{calls_of, entry_verdict, entries_verdict, return_verdict, returns_verdict, reply_to, has_returned, same_call, verdict_of}
-use Rattle.uni_record.specs.Audited.{IsAudited}
+use Rattle.uni_record.proofs.Vocabulary.{Agrees, BadCall, BadReply, BadReturn, Bool, Entry, IfSome, IsAudited, IsLegal, List, Missing, None, Option, Return, Sequential, Some, Twice, Verdict, [], ap, call_shown, calls_of, entries_verdict, entry_verdict, eq-eqb, eqb-true, false, has_returned, if◌then◌else◌, length, map, option_map_or, refl, reply_to, return_verdict, returns_verdict, same_call, slice_get, subst, sym, take, true, verdict_of, ℕ, ◌++◌, ◌==◌, ◌↔◌, ◌∙◌, ◌∷◌, ◌≡◌, ◌≢◌}
 use Rattle.uni_record.proofs.Before.{EachAfter, EachAfter-none, EachAfter-cons, EachAfter-parts, none_before, none_of_first}
 use Rattle.uni_record.proofs.Calls.{same_call-equal, same_call-same, one_entry, reply_from, reply_at}
 use Rattle.uni_record.proofs.Faults.{first-agrees, passed}

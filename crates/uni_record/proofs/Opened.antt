@@ -1,13 +1,8 @@
 -- What a record is opened with.
-use Rattle.std.proofs.Common.{◌≡◌, ℕ, ◌+◌, ◌-◌, ◌*◌, ◌≤◌, arith, refl, sym, subst, [], length, None}
-use Rattle.seq_object.specs.Sequential.{Sequential}
-use Rattle.uni_model.specs.Worlds.{opened_world}
-use Rattle.uni_core.specs.World.{world_of}
-use Rattle.uni_core.specs.Refusals.{IsOpenRefused}
+use Rattle.uni_record.proofs.Vocabulary.{HasRoom, IsOpenRefused, IsRecording, None, Recording, Sequential, [], arith, length, opened_world, pending_count, refl, set_aside, subst, sym, world_of, ℕ, ◌*◌, ◌+◌, ◌-◌, ◌≡◌, ◌≤◌}
 use Rattle.uni_core.specs.declared.fault.OpenFault.{OpenFault}
 use Rattle.uni_core.specs.declared.fault.OpenFault.TheVariants.{BadCount, BadRow, SeqFull, Memory}
 use Rattle.uni_record.specs.Recorded.{CanRecord, record_fault, IsOpenRefused as IsRecordRefused}
-use Rattle.uni_record.specs.Recorded.{Recording, IsRecording, HasRoom, set_aside, pending_count}
 use Rattle.uni_record.proofs.Owed.{owed-quiescent}
 
 -- a world that isn't opened refuses the record, where memory was refused where all else fits

@@ -1,15 +1,7 @@
 -- What pending calls are owed: after a call was begun, after a step, where nobody has one.
-use Rattle.std.proofs.Common.{◌≡◌, ◌≢◌, ◌∙◌, ℕ, zero, suc, ◌+◌, ◌*◌, ◌-◌, ◌<◌, ◌≤◌, inl, inr, arith, refl, ap, Option, Some, None}
-use Rattle.std.proofs.lemmas.Bool.{cases_lt}
-use Rattle.std.specs.Option.{option_map_or}
-use Rattle.seq_object.specs.Sequential.{Sequential}
-use Rattle.uni_model.specs.AtomicObject.{set_at}
-use Rattle.uni_model.specs.Stages.{Pending}
-use Rattle.uni_model.specs.Worlds.{WorldOf, sum_below, world_after_call, world_after_step, IsQuiescent}
+use Rattle.uni_record.proofs.Vocabulary.{IsQuiescent, None, Option, Pending, Sequential, Some, WorldOf, ap, arith, cases_lt, inl, inr, option_map_or, owed, owed_by, pending_count, refl, set_aside, set_at, set_at_elsewhere, suc, sum_below, world_after_call, world_after_step, zero, ℕ, ◌*◌, ◌+◌, ◌-◌, ◌<◌, ◌∙◌, ◌≡◌, ◌≢◌, ◌≤◌}
 use Rattle.uni_model.proofs.Written.{set_at-cases}
-use Rattle.uni_model.proofs.LawProofs.{set_at_elsewhere}
 use Rattle.uni_model.proofs.Sums.{sum_below-le, sum_below-lt}
-use Rattle.uni_record.specs.Recorded.{owed, owed_by, set_aside, pending_count}
 
 -- sums that differ at one place
 sum_below-same : (n : ℕ) (f g : ℕ → ℕ) → ((q : ℕ) → q < n → f q ≡ g q) → sum_below n f ≡ sum_below n g

@@ -1,10 +1,8 @@
 -- A packed history with an event more.
-use Rattle.std.proofs.Common.{◌≡◌, ◌∙◌, ℕ, ◌+◌, ◌-◌, ◌<◌, ◌≤◌, Bool, true, false, cond, nat_lt, nat_eq, List, [], ◌∷◌, ◌++◌, length, drop, arith, refl, sym, ap, length-append}
-use Rattle.std.proofs.lemmas.List.{append_assoc, append-nil, drop-append-le, length-drop}
-use Rattle.std.proofs.lemmas.Bool.{lt-ltb, le-ltb, ne_eqb}
+use Rattle.uni_record.proofs.Vocabulary.{ArePacked, Bool, HasCode, List, [], ap, append-nil, arith, asked_by, asking, asking_in, call_with, code_of, cond, drop, drop-append-le, event_with, false, le-ltb, length, length-append, length-drop, lt-ltb, nat_eq, nat_lt, ne_eqb, refl, sym, true, unpacked, ℕ, ◌++◌, ◌+◌, ◌-◌, ◌<◌, ◌∙◌, ◌∷◌, ◌≡◌, ◌≤◌}
+use Rattle.std.proofs.lemmas.List.{append_assoc}
 use Rattle.uni_record.specs.declared.event.Event.{Event as Stored}
 use Rattle.uni_record.specs.declared.event.Event.TheVariants.{Call, Step, Trim, Reshape}
-use Rattle.uni_record.specs.Packed.{code_of, HasCode, asked_by, asking, call_with, event_with, unpacked, asking_in, ArePacked}
 
 asking_in-snoc : (codes : List ℕ) (c : ℕ) → asking_in (codes ++ c ∷ []) ≡ asking_in codes + asking c
 asking_in-snoc [] c = omega arith

@@ -1,17 +1,8 @@
 -- What a step pays: an event of those that are set aside, and where the call returns, its place among the pending calls.
-use Rattle.std.proofs.Common.{◌≡◌, ℕ, ◌+◌, ◌-◌, ◌*◌, ◌<◌, ◌≤◌, List, length, arith, refl, sym, subst, Option, Some, None, IsSome, option_map, option_and_then, option_to_list}
-use Rattle.seq_object.specs.Sequential.{Sequential}
-use Rattle.uni_model.specs.Places.{Memory, Name, Content}
-use Rattle.uni_model.specs.Stages.{Stage, Pending}
+use Rattle.uni_record.proofs.Vocabulary.{Completed, Content, IsBounded, IsSome, List, Memory, Name, None, Option, Pending, Sequential, Some, Stage, Step, WorldOf, arith, completed_by, current_of, length, option_and_then, option_map, option_to_list, pending_count, refl, response_after, response_of_step, set_aside, stage_after, subst, sym, world_after, world_after_step, ℕ, ◌*◌, ◌+◌, ◌-◌, ◌<◌, ◌≡◌, ◌≤◌}
 use Rattle.uni_model.specs.Stages.Stage.{Finish}
-use Rattle.uni_model.specs.Transition.{place_of, stage_after, response_after}
-use Rattle.uni_model.specs.Bound.{IsBounded}
-use Rattle.uni_model.specs.Worlds.{WorldOf, world_after, world_after_step, response_of_step}
+use Rattle.uni_model.specs.Transition.{place_of}
 use Rattle.uni_model.specs.Effects.{effect_in, call_after}
-use Rattle.uni_model.specs.Worlds.Event.{Step}
-use Rattle.uni_core.specs.World.{current_of}
-use Rattle.uni_record.specs.Event.{Completed, completed_by}
-use Rattle.uni_record.specs.Recorded.{set_aside, pending_count}
 use Rattle.uni_record.proofs.Owed.{weight, weight-le, owed-stepped, set_at_here}
 
 -- how many calls these responses complete

@@ -1,32 +1,13 @@
 -- The returns of a run are the responses of its history.
-use Rattle.std.proofs.Common.{◌≡◌, ◌∙◌, ℕ, ◌+◌, ◌-◌, List, [], ◌∷◌, ◌++◌, map, arith, refl, subst, sym, ap, Option, Some, None, option_map, option_and_then, option_to_list, drop, take, length}
-use Rattle.std.proofs.lemmas.List.{map-append}
-use Rattle.std.specs.Option.{option_map_or}
-use Rattle.seq_object.specs.Sequential.{Sequential}
-use Rattle.seq_object.specs.declared.call_id.CallId.{CallId}
-use Rattle.uni_model.specs.Places.{Name, Memory, inv_of}
-use Rattle.uni_model.specs.Transition.{response_after}
+use Rattle.uni_record.proofs.Vocabulary.{Act, AreAccepted, AreAccepted-take, Call, CallId, Completed, Event, Invariant, Invariant-opened_world, Invariant-world_after, Invoke, Invoked, IsAccepted, IsPromised, IsRecording, JoinedLogGrows, Linearize, List, Memory, Name, None, Option, Pending, Recording, Reshape, Respond, Sequential, Some, Step, Trim, WorldOf, [], acts_of, ap, arith, completed_by, completed_in, drop, ended_log, entry_shown, events_shown, history_of, inv_of, length, log, log_of_run, map, map-append, meaning, opening, option_and_then, option_map, option_map_or, option_to_list, refl, response_after, responses_in, responses_of, subst, sym, take, world_after, world_of, ℕ, ◌++◌, ◌+◌, ◌-◌, ◌∙◌, ◌∷◌, ◌≡◌}
 use Rattle.uni_model.specs.Places.Name.{Of}
 use Rattle.uni_model.specs.Chain.{invoked_at}
-use Rattle.uni_model.specs.Stages.{Pending}
-use Rattle.uni_model.specs.Invariant.{Invariant}
-use Rattle.uni_model.specs.Worlds.{WorldOf, Event, world_after, IsAccepted, AreAccepted}
-use Rattle.uni_model.specs.Worlds.Event.{Call, Step, Trim, Reshape}
-use Rattle.uni_model.specs.AtomicObject.{Act, Invoked}
-use Rattle.uni_model.specs.AtomicObject.Act.{Invoke, Linearize, Respond}
-use Rattle.uni_model.specs.History.{acts_of, calls_of, history_of, log, log_of_run, responses_of}
+use Rattle.uni_model.specs.History.{calls_of}
 use Rattle.uni_model.specs.Laws.{LinksSoon}
-use Rattle.uni_model.specs.Eras.{JoinedLogGrows}
 use Rattle.uni_model.specs.Universal.{RunIsUniversal}
-use Rattle.uni_model.proofs.LawProofs.{AreAccepted-take}
-use Rattle.uni_model.proofs.Kept.{Invariant-opened_world, Invariant-world_after}
-use Rattle.uni_core.specs.World.{world_of}
 use Rattle.uni_log.specs.declared.entry.Entry.{Entry as Logged}
-use Rattle.uni_log.specs.Entry.{entry_shown}
 use Rattle.uni_record.specs.declared.verdict.Counts.{Counts}
-use Rattle.uni_record.specs.Event.{Completed, completed_by, completed_in, ended_log, events_shown, responses_in}
 use Rattle.uni_record.proofs.Runs.{log_of_run-ended}
-use Rattle.uni_record.specs.Recorded.{Recording, IsPromised, IsRecording, meaning, opening}
 
 responses_in-append : {I R : Type 0} (xs ys : List (Act I R)) → responses_in (xs ++ ys) ≡ responses_in xs ++ responses_in ys
 responses_in-append [] ys = refl

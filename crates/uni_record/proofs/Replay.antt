@@ -1,12 +1,5 @@
 -- Entries and returns, one after the other.
-use Rattle.std.proofs.Common.{◌≡◌, ◌≢◌, ◌∙◌, ℕ, ◌+◌, ◌<◌, Bool, List, [], ◌∷◌, ◌++◌, get_or, take, drop, length, sym, ap}
-use Rattle.std.proofs.lemmas.List.{at_drop_more, take_more}
-use Rattle.seq_object.specs.Sequential.{Sequential}
-use Rattle.uni_log.specs.declared.entry.Entry.{Entry}
-use Rattle.uni_record.specs.declared.verdict.Verdict.{Verdict}
-use Rattle.uni_record.specs.declared.verdict.Verdict.TheVariants.{Agrees}
-use Rattle.uni_record.specs.declared.verdict.Return.{Return}
-use Rattle.uni_record.specs.Verdict.{first, entry_verdict, entries_verdict, return_verdict, returns_verdict}
+use Rattle.uni_record.proofs.Vocabulary.{Agrees, Bool, Entry, List, Return, Sequential, Verdict, [], ap, at_drop_more, drop, entries_verdict, entry_verdict, first, get_or, length, return_verdict, returns_verdict, sym, take, take_more, ℕ, ◌++◌, ◌+◌, ◌<◌, ◌∙◌, ◌∷◌, ◌≡◌, ◌≢◌}
 use Rattle.uni_record.proofs.Faults.{first-fault}
 
 module _ {S I R : Type 0} (same : R → R → Bool) (object : Sequential S I R) (state : S) (entries : List (Entry I R)) (i : ℕ) (entry : Entry I R)

@@ -1,11 +1,5 @@
 -- A run and one event more.
-use Rattle.std.proofs.Common.{◌≡◌, ◌∙◌, List, [], ◌∷◌, ◌++◌, ap, sym, refl, append_assoc, option_to_list}
-use Rattle.std.proofs.lemmas.List.{append-nil}
-use Rattle.seq_object.specs.Sequential.{Sequential}
-use Rattle.uni_model.specs.Worlds.{WorldOf, Event, world_after, world_after_all, IsAccepted, AreAccepted}
-use Rattle.uni_model.specs.Worlds.Event.{Call, Step, Trim, Reshape}
-use Rattle.uni_model.specs.History.{log, log_of_run}
-use Rattle.uni_record.specs.Event.{completed_by, completed_in, log_ended_by, ended_log}
+use Rattle.uni_record.proofs.Vocabulary.{AreAccepted, Call, Event, IsAccepted, List, Reshape, Sequential, Step, Trim, WorldOf, [], ap, append-nil, append_assoc, completed_by, completed_in, ended_log, log, log_ended_by, log_of_run, option_to_list, refl, sym, world_after, world_after_all, ◌++◌, ◌∙◌, ◌∷◌, ◌≡◌}
 
 module _ {S I R : Type 0} (object : Sequential S I R) where
   pub completed_in-snoc : (w : WorldOf S I R) (es : List (Event I)) (e : Event I)

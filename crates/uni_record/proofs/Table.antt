@@ -1,21 +1,10 @@
 -- The table of calls, as entries are added, and their marks, as calls return.
-use Rattle.std.proofs.Common.{◌≡◌, ◌≢◌, ◌∙◌, ℕ, ◌+◌, ◌<◌, ◌==◌, ◌&&◌, ◌||◌, Bool, true, false, cond, if◌then◌else◌, List, [], ◌∷◌, ◌++◌, Option, Some, None, length, map, option_and_then, option_map, get_or, set, slice_get, refl, sym, ap, arith}
+use Rattle.uni_record.proofs.Vocabulary.{Agrees, AreMarked, BadReturn, Bool, CallId, Entry, IsTable, List, Missing, None, Option, Return, Some, [], ap, arith, calls_of, cond, entry_place, eqb-false, eqb-true, false, get_or, get_or-set_other, get_or-set_same, has_returned, if◌then◌else◌, length, length-map, list_any-append, map, mark_at, option_and_then, option_map, option_map_or, option_or, place_of, refl, return_verdict, row_of, same_call, set, slice_get, slice_get-map, slice_get_past, slice_get_read, sum_by-append, sym, true, ℕ, ◌&&◌, ◌++◌, ◌+◌, ◌<◌, ◌==◌, ◌||◌, ◌∙◌, ◌∷◌, ◌≡◌, ◌≢◌}
 use Rattle.std.proofs.Math.Bool.{or-false, or-true}
 use Rattle.std.proofs.Math.ListN.{length-set}
-use Rattle.std.proofs.lemmas.Bool.{eqb-true, eqb-false}
-use Rattle.std.proofs.lemmas.List.{get_or-set_other, get_or-set_same, length-append, length-map}
+use Rattle.std.proofs.lemmas.List.{length-append}
 use Rattle.std.proofs.lemmas.List.Quantifiers.{position-Some}
-use Rattle.std.proofs.lemmas.List.Sums.{sum_by-append}
-use Rattle.std.proofs.lemmas.List.Folds.{list_any-append}
-use Rattle.std.proofs.lemmas.Option.{slice_get-map, slice_get_past, slice_get_read}
-use Rattle.std.specs.Option.{option_map_or, option_or}
-use Rattle.seq_object.specs.declared.call_id.CallId.{CallId}
-use Rattle.uni_log.specs.declared.entry.Entry.{Entry}
 use Rattle.uni_record.specs.declared.call_places.CallPlaces.{CallPlaces}
-use Rattle.uni_record.specs.declared.verdict.Return.{Return}
-use Rattle.uni_record.specs.declared.verdict.Verdict.TheVariants.{Agrees, BadReturn, Missing}
-use Rattle.uni_record.specs.Verdict.{calls_of, has_returned, same_call, return_verdict}
-use Rattle.uni_record.specs.CallPlaces.{AreMarked, IsTable, entry_place, mark_at, place_of, row_of}
 use Rattle.uni_record.proofs.Calls.{same_call-equal, same_call-same}
 use Rattle.uni_record.proofs.Elements.{find_place, position-more, slice_get-more_last, slice_get-more_other}
 

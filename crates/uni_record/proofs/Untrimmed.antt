@@ -1,28 +1,11 @@
 -- What a record answers is what the run of its events without their trims answers.
-use Rattle.std.proofs.Common.{◌≡◌, ◌∙◌, ℕ, ◌+◌, ◌-◌, ◌≤◌, List, [], ◌∷◌, ◌++◌, Option, Some, None, option_map, option_to_list, refl, sym, ap, subst}
-use Rattle.std.proofs.lemmas.List.{append-nil, map-append}
-use Rattle.std.specs.Option.{option_map_or}
-use Rattle.seq_object.specs.Sequential.{Sequential}
-use Rattle.seq_object.specs.declared.call_id.CallId.{CallId}
-use Rattle.uni_model.specs.Places.{Name}
-use Rattle.uni_model.specs.Stages.{Pending}
-use Rattle.uni_model.specs.Worlds.{AreAccepted, Event, IsAccepted, WorldOf, opened_world, without_trims, world_after, world_after_all}
-use Rattle.uni_model.specs.Worlds.Event.{Call, Step, Trim, Reshape}
+use Rattle.uni_record.proofs.Vocabulary.{AreAccepted, AreAccepted-snoc, AreAnswersUntrimmed, AreOutcomes, Call, CallId, Called, Command, Event, IsAccepted, IsAnswerIn, IsOutcome, IsProgress, IsRecording, KeepsOpening, List, Name, None, Option, Outcome, Pending, Recording, Refused, Reshape, Reshaped, Returned, Sequential, Some, Standing, Step, Trim, Trimmed, Went, WorldOf, [], ap, append-nil, current_of, event_of, event_shown, events_shown, map-append, meaning, opened_world, opening, option_map, option_map_or, option_to_list, progress_of, refl, standing_after, standing_of, subst, sym, untrimmed_world, without_trims, world_after, world_after_all, world_after_all-append, world_after_all-snoc, world_of, ℕ, ◌++◌, ◌+◌, ◌-◌, ◌∙◌, ◌∷◌, ◌≡◌, ◌≤◌}
 use Rattle.uni_model.specs.Untrimmed.{ShowsSame, TrimsChangeNothing}
 use Rattle.uni_model.proofs.RenamedRun.{TrimsChangeNothing-holds}
-use Rattle.uni_model.proofs.Runs.{world_after_all-append}
-use Rattle.uni_core.specs.World.{IsProgress, current_of, progress_of, world_of}
 use Rattle.uni_core.specs.declared.fault.Progress.{Progress}
-use Rattle.uni_record.specs.declared.command.Command.{Command}
 use Rattle.uni_record.specs.declared.command.Command.TheVariants as command
-use Rattle.uni_record.specs.declared.command.Outcome.{Outcome}
-use Rattle.uni_record.specs.declared.command.Outcome.TheVariants.{Called, Went, Returned, Trimmed, Reshaped, Refused}
 use Rattle.uni_record.specs.declared.event.Event.{Event as Stored}
 use Rattle.uni_record.specs.declared.event.Event.TheVariants as stored
-use Rattle.uni_record.specs.Event.{event_shown, events_shown}
-use Rattle.uni_record.specs.Run.{AreAnswersUntrimmed, AreOutcomes, IsAnswerIn, IsOutcome, event_of, standing_after}
-use Rattle.uni_record.specs.Recorded.{IsRecording, KeepsOpening, Recording, Standing, meaning, opening, standing_of, untrimmed_world}
-use Rattle.uni_model.proofs.Runs.{AreAccepted-snoc, world_after_all-snoc}
 
 without_trims-trim : {I : Type 0} (es : List (Event I)) → without_trims (es ++ Trim ∷ []) ≡ without_trims es
 without_trims-trim [] = refl

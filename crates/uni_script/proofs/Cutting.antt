@@ -1,10 +1,7 @@
 -- How a text is cut into lines.
-use Rattle.std.proofs.Common.{◌≡◌, ◌∙◌, ℕ, suc, ◌+◌, ◌<◌, ◌≤◌, ◌==◌, nat_lt, cond, Bool, true, false, List, [], ◌∷◌, ◌++◌, length, Option, None, Some, refl, sym, ap, arith, append_assoc}
-use Rattle.std.proofs.lemmas.Bool.Decides.{nat_tests}
-use Rattle.std.specs.List.{position, position_or_len}
+use Rattle.uni_script.proofs.Vocabulary.{Bool, Cut, List, None, Option, Some, [], after_byte, ap, append_assoc, arith, cond, cut, false, last_line, length, lines_of, nat_lt, nat_tests, position, position_or_len, refl, suc, sym, true, with_first, ℕ, ◌++◌, ◌+◌, ◌<◌, ◌==◌, ◌∙◌, ◌∷◌, ◌≡◌, ◌≤◌}
 use Rattle.std.proofs.lemmas.List.Sums.{position_or_len_is}
 use Rattle.memchr.specs.Find.{IsFirstByte, is_byte}
-use Rattle.uni_script.specs.Grammar.{Cut, with_first, after_byte, cut, last_line, lines_of}
 
 abbrev ends : ℕ → Bool
 ends b = b == 10

@@ -1,7 +1,6 @@
 -- The events of a schedule, drawn one after the other.
-use Rattle.std.proofs.Common.{◌≡◌, ◌∙◌, ℕ, suc, ◌+◌, ◌-◌, ◌<◌, ◌≤◌, List, ◌++◌, sym, ap, arith, append_assoc, append-nil}
+use Rattle.uni_script.proofs.Vocabulary.{List, ap, append-nil, append_assoc, arith, event_line, event_lines, suc, sym, words_of_event, words_of_events, ℕ, ◌++◌, ◌+◌, ◌-◌, ◌<◌, ◌∙◌, ◌≡◌, ◌≤◌}
 use Rattle.ready_objects.specs.Spoken.{Language}
-use Rattle.uni_script.specs.Schedules.{event_line, words_of_event, event_lines, words_of_events}
 
 -- k of m events are drawn, and their lines written after a text: what is left are those from word number `at` on
 pub record IsDrawn {I R : Type 0} (l : Language I R) (n : ℕ) (word : ℕ → ℕ) (old : List ℕ) (m k : ℕ) (now : List ℕ) (next : ℕ → ℕ) : Type 0 where

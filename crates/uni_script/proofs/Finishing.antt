@@ -1,15 +1,6 @@
 -- A call returns within the bound.
-use Rattle.std.proofs.Common.{◌≡◌, ◌∙◌, ◌⊎◌, inl, inr, ℕ, zero, suc, ◌+◌, ◌≤◌, [], ◌∷◌, refl, sym, Option, None, Some, IsSome, Bool, true, false, nat_le, arith}
-use Rattle.uni_model.specs.Bound.{most_steps}
+use Rattle.uni_script.proofs.Vocabulary.{Bool, Idle, IsReached, IsSome, LastStep, None, Option, Process, Refusal, Session, Some, SpokenObject, Step, WorldOf, [], arith, false, inl, inr, last_step, latest, most_steps, nat_le, refl, refusal_of_step, response_of_step, result_of_steps, session_after, steps_of, steps_taken, suc, sym, true, world_after_all, zero, ℕ, ◌+◌, ◌∙◌, ◌∷◌, ◌≡◌, ◌≤◌, ◌⊎◌}
 use Rattle.uni_model.specs.Stages.{Pending}
-use Rattle.uni_model.specs.Worlds.{WorldOf, response_of_step}
-use Rattle.uni_model.specs.Worlds.Event.{Step}
-use Rattle.uni_model.specs.Laws.{IsReached}
-use Rattle.uni_script.specs.declared.answer.Refusal.{Refusal}
-use Rattle.uni_script.specs.declared.answer.Refusal.TheVariants.{Process, Idle}
-use Rattle.uni_script.specs.Objects.{SpokenObject}
-use Rattle.uni_script.specs.Meaning.{Session, LastStep, session_after, last_step, steps_of, steps_taken, latest, refusal_of_step, result_of_steps}
-use Rattle.uni_model.specs.Worlds.{world_after_all}
 use Rattle.uni_script.specs.Laws.{FinishReturns, IsReturned}
 use Rattle.uni_script.proofs.Stepping.{IsOnTheWay, IsOnTheWay-start, IsOnTheWay-going, IsOnTheWay-few, last_step-done}
 

@@ -1,25 +1,13 @@
 -- A call that is pending, by what every run keeps.
-use Rattle.std.proofs.Common.{◌≡◌, ◌∙◌, ℕ, ◌+◌, ◌≤◌, sym, ap, subst, refl, Option, None, Some, IsSome, true, false, option_and_then}
-use Rattle.uni_model.specs.Places.{Name, seq_of}
+use Rattle.uni_script.proofs.Vocabulary.{CountsSteps-opened_world, HelpingInvariant, HelpingInvariant-opened_world, HelpingInvariant-world_after_all, IsReached, IsRecording, IsSome, Name, None, Option, Recording, Sequential, Some, SpokenObject, Step, WorldOf, ap, events_shown, false, meaning, opened_world, option_and_then, refl, response_of_step, seq_of, subst, sym, true, world_after, world_after_step, world_of, ℕ, ◌+◌, ◌∙◌, ◌≡◌, ◌≤◌}
 use Rattle.uni_model.specs.Places.Name.{Of}
 use Rattle.uni_model.specs.Stages.{Stage, Pending}
 use Rattle.uni_model.specs.Stages.Stage.{Announce, ScanHead, ScanSeq, WriteScan, Test, ReadAnnounce, ReadHelpSeq, DecideAfter, DecideNew, WriteBefore, WriteSeq, WriteHead, Finish}
 use Rattle.uni_model.specs.Transition.{place_of, stage_after, response_after}
 use Rattle.uni_model.specs.Chain.{response_in}
-use Rattle.uni_model.specs.Worlds.{WorldOf, opened_world, world_after, world_after_step, response_of_step}
 use Rattle.uni_model.specs.Effects.{call_after}
-use Rattle.uni_model.specs.Worlds.Event.{Step}
-use Rattle.uni_model.specs.Helping.{HelpingInvariant}
-use Rattle.uni_model.specs.Laws.{IsReached}
-use Rattle.uni_model.proofs.Bounded.{HelpingInvariant-opened_world, HelpingInvariant-world_after_all}
-use Rattle.uni_model.proofs.Counted.{CountsSteps-opened_world}
 use Rattle.uni_model.proofs.Simulation.{set_at_same}
 use Rattle.uni_model.proofs.Values.{response-settled}
-use Rattle.uni_record.specs.Recorded.{Recording, IsRecording, meaning}
-use Rattle.uni_record.specs.Event.{events_shown}
-use Rattle.uni_core.specs.World.{world_of}
-use Rattle.seq_object.specs.Sequential.{Sequential}
-use Rattle.uni_script.specs.Objects.{SpokenObject}
 
 -- a step leaves the number of processes
 pub n-world_after_step : {S I R : Type 0} (object : Sequential S I R) (w : WorldOf S I R) (p : ℕ) → (world_after object w (Step p)).n ≡ w.n

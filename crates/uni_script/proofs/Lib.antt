@@ -1,3 +1,4 @@
+pub mod Vocabulary
 pub mod Written
 pub mod Drawing
 pub mod Helped

@@ -1,9 +1,5 @@
 -- The lines of the log, entry by entry.
-use Rattle.std.proofs.Common.{◌≡◌, ◌∙◌, ℕ, ◌+◌, List, [], ◌∷◌, ◌++◌, Some, take, map, slice_get, sym, ap, append_assoc, append-nil}
-use Rattle.std.proofs.lemmas.List.{map-append}
-use Rattle.std.proofs.lemmas.List.Folds.{concat-append}
-use Rattle.std.specs.List.{concat}
-use Rattle.uni_log.proofs.Along.{taken-more}
+use Rattle.uni_script.proofs.Vocabulary.{List, Some, [], ap, append-nil, append_assoc, concat, concat-append, map, map-append, slice_get, sym, take, taken-more, ℕ, ◌++◌, ◌+◌, ◌∙◌, ◌∷◌, ◌≡◌}
 
 module _ {A : Type 0} (line : A → List ℕ) where
   -- the lines of one entry more

@@ -1,11 +1,5 @@
 -- What is heard of a script, line by line.
-use Rattle.std.proofs.Common.{◌≡◌, ℕ, ◌+◌, ◌-◌, ◌≤◌, true, false, List, [], ◌∷◌, length, Option, None, Some, option_map, replicate, refl, ap, arith, append-nil}
-use Rattle.std.proofs.lemmas.List.{length-append}
-use Rattle.ready_objects.specs.Words.{words_of_text}
-use Rattle.uni_script.specs.Grammar.{is_note}
-use Rattle.uni_script.specs.Outcome.{Kind, outcome_of_line}
-use Rattle.uni_script.specs.Remarks.RemarkText.{Refused}
-use Rattle.uni_script.specs.Remarks.{RemarkAt, RemarkText, heading_of_line, remark_of_line, remarks_after, remarks_of_note, remarks_of_line, nothing, heard_remarks, heard_events, heard_then, heard_of_line, heard_of_lines}
+use Rattle.uni_script.proofs.Vocabulary.{Kind, List, None, Option, Refused, RemarkAt, RemarkText, Some, [], ap, append-nil, arith, false, heading_of_line, heard_events, heard_of_line, heard_of_lines, heard_remarks, heard_then, is_note, length, length-append, nothing, option_map, outcome_of_line, refl, remark_of_line, remarks_after, remarks_of_line, remarks_of_note, replicate, true, words_of_text, ℕ, ◌+◌, ◌-◌, ◌∷◌, ◌≡◌, ◌≤◌}
 
 -- a line's events, and then its remarks
 pub heard_events-remarks : (number count : ℕ) (remarks : List RemarkAt) → heard_then (heard_events number count) (heard_remarks remarks) ≡ record { remarks = remarks; lines = replicate count number }

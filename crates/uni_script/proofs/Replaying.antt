@@ -1,22 +1,7 @@
 -- What was read of a script, and the whole script.
-use Rattle.std.proofs.Common.{◌≡◌, ◌∙◌, ◌⊎◌, inl, inr, ℕ, ◌+◌, ◌≤◌, ◌==◌, nat_lt, not, if◌then◌else◌, Bool, true, false, List, [], ◌∷◌, ◌++◌, length, Option, None, Some, Result, Ok, Err, IfErr, OnOk, refl, sym, ap, subst, arith, append_assoc, append-nil}
-use Rattle.std.proofs.lemmas.Bool.Decides.{nat_tests}
-use Rattle.std.specs.Option.{option_map_or}
-use Rattle.std.specs.Io.KnownBytes.{Appends, Consumes, IsAtEnd}
+use Rattle.uni_script.proofs.Vocabulary.{Answered, Appends, AppendsPrefix, BenchFault, Bool, Consumes, End, Err, Failed, HasEnded, HasRunWhole, Heard, HeardGrows, IfErr, IsAtEnd, IsRead, Kind, List, Memory, NoHeader, None, Ok, OnOk, Option, Outcome, Read, Result, Some, Stop, StopsAt, TooLong, TooMany, Write, [], and_then, and_then_from, ap, append-nil, append_assoc, arith, cut, echo_of, echoed, echoed_from, end_text, false, heard_of_lines, if◌then◌else◌, inl, inr, is_note, is_plain_byte, length, lines_of, lines_of_read, list_all, nat_lt, nat_tests, not, option_map_or, outcome_of_end, outcome_of_fault, outcome_of_line, outcome_of_lines, outcome_of_read, outcome_of_script, outcome_of_stop, outcome_of_text, outcome_of_words, refl, subst, sym, true, words_of_text, ℕ, ◌++◌, ◌+◌, ◌==◌, ◌∙◌, ◌∷◌, ◌≡◌, ◌≤◌, ◌⊎◌}
 use Rattle.uni_record.specs.declared.verdict.Verdict.{Verdict}
-use Rattle.uni_script.specs.declared.fault.BenchFault.{BenchFault}
-use Rattle.uni_script.specs.declared.fault.BenchFault.TheVariants.{NoHeader, Read, Write, Memory}
 use Rattle.uni_script.specs.declared.fault.BenchFault.TheVariants as fault
-use Rattle.uni_script.specs.Ends.{AppendsPrefix}
-use Rattle.std.specs.List.{list_all}
-use Rattle.ready_objects.specs.Words.{words_of_text}
-use Rattle.uni_script.specs.Answer.{end_text}
-use Rattle.uni_script.specs.Grammar.{cut, lines_of, is_plain_byte, is_note}
-use Rattle.uni_script.specs.Outcome.{Kind, Answered, Outcome, outcome_of_text, outcome_of_fault, and_then, and_then_from, echo_of, echoed, echoed_from, outcome_of_words, outcome_of_line, outcome_of_lines, outcome_of_end, outcome_of_script}
-use Rattle.uni_script.specs.Lines.{Stop, lines_of_read, outcome_of_stop, outcome_of_read, StopsAt, IsRead, HasEnded}
-use Rattle.uni_script.specs.Lines.Stop.{End, Failed, TooLong, TooMany}
-use Rattle.uni_script.specs.ScriptRun.{HasRunWhole}
-use Rattle.uni_script.specs.Remarks.{Heard, HeardGrows, heard_of_lines}
 use Rattle.uni_script.specs.Replay.{IsInput, IsReplay, Leaves, IsPartOfReplay, HasAnswered, IsFaultOfScript, text_of_script}
 use Rattle.uni_script.proofs.Cutting.{GoesOn-start, GoesOn-start_other, GoesOn-after, lines_of-append}
 use Rattle.uni_script.proofs.Running.{after_text, and_then-same, and_then-assoc, and_then-none, and_then-some, and_then-quiet, outcome_of_lines-append, outcome_of_lines-too_long, outcome_of_lines-too_many, few_lines}

@@ -1,24 +1,12 @@
 -- What a command comes to.
-use Rattle.std.proofs.Common.{◌≡◌, ◌∙◌, ℕ, ◌<◌, ◌≤◌, refl, sym, ap, subst, [], ◌∷◌, length, Option, None, Some, Bool, true, false, nat_le, nat_lt, ◌==◌, is_none, arith, option_map, if◌then◌else◌, Result, Ok, Err, OnOk, zero, suc, ◌+◌, ◌*◌, ◌^◌, IsSome}
-use Rattle.std.proofs.lemmas.Bool.Decides.{nat_tests}
-use Rattle.std.proofs.lemmas.List.{length-map}
+use Rattle.uni_script.proofs.Vocabulary.{Bool, Busy, Call, CanBegin, CanEnd, CommandResult, Count, Err, History, Idle, IsBeginRefused, IsEndRefused, IsQuiescent, IsReshapeRefused, IsSome, LastStep, None, Ok, OnOk, Option, Pending, Process, Recording, Refusal, Reshape, Result, Row, Sequence, Session, Some, SpokenObject, Trim, WorldOf, [], ap, arith, called_text, calls_in_era, current_of, event_shown, events_shown, false, if◌then◌else◌, is_full, is_none, last_step, latest, least_pending, length, length-map, nat_le, nat_lt, nat_tests, option_map, refl, refusal_of_call, refusal_of_end, refusal_of_reshape, refusal_of_step, refused, reshaped_text, result_of_call, result_of_reshape, result_of_steps, result_of_trim, session_after, session_of, standing_of, steps_of, steps_taken, subst, suc, sym, text_of_steps, trimmed_text, true, world_after_all, world_of, zero, ℕ, ◌*◌, ◌+◌, ◌<◌, ◌==◌, ◌^◌, ◌∙◌, ◌∷◌, ◌≡◌, ◌≤◌}
 use Rattle.seq_object.specs.declared.call_id.CallId.{CallId}
 use Rattle.uni_model.specs.Stages.{Pending as Stands}
-use Rattle.uni_model.specs.Worlds.{WorldOf, IsQuiescent, world_after_all, calls_in_era}
-use Rattle.uni_model.specs.Worlds.Event.{Call, Trim, Reshape}
-use Rattle.uni_core.specs.World.{world_of, current_of}
 use Rattle.uni_record.specs.declared.fault.RecordTrimFault.TheVariants as trim
 use Rattle.uni_record.specs.declared.fault.RecordReshapeFault.TheVariants as reshape
-use Rattle.uni_record.specs.Recorded.{Recording, CanBegin, CanEnd, IsBeginRefused, IsEndRefused, IsReshapeRefused, standing_of}
 use Rattle.uni_core.specs.Refusals.{IsCount}
 use Rattle.uni_record.specs.declared.fault.RecordBeginFault.TheVariants as begin
-use Rattle.uni_record.specs.Event.{event_shown, events_shown}
-use Rattle.uni_script.specs.declared.answer.Refusal.{Refusal}
-use Rattle.uni_script.specs.declared.answer.Refusal.TheVariants.{Process, Busy, Row, Idle, Pending, Sequence, History, Count}
-use Rattle.uni_script.specs.Answer.{called_text, trimmed_text, reshaped_text}
-use Rattle.uni_script.specs.Objects.{SpokenObject}
 use Rattle.uni_core.specs.Ends.{last_number}
-use Rattle.uni_script.specs.Meaning.{Session, CommandResult, LastStep, session_of, session_after, refused, is_full, latest, least_pending, refusal_of_call, refusal_of_end, refusal_of_reshape, refusal_of_step, result_of_call, result_of_trim, result_of_reshape, result_of_steps, steps_of, steps_taken, last_step, text_of_steps}
 use Rattle.uni_script.proofs.Stepping.{session_after-none}
 
 at_least : (n p : ℕ) → n ≤ p → nat_le n p ≡ true

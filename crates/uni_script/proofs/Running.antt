@@ -1,12 +1,6 @@
 -- What lines come to, one after the other.
-use Rattle.std.proofs.Common.{◌≡◌, ◌∙◌, ℕ, ◌+◌, ◌<◌, ◌≤◌, nat_lt, nat_le, Bool, true, false, List, [], ◌∷◌, ◌++◌, length, Option, None, Some, refl, sym, ap, arith, append_assoc}
-use Rattle.std.proofs.lemmas.Bool.Decides.{nat_tests}
-use Rattle.std.specs.List.{list_all}
-use Rattle.uni_script.specs.declared.fault.BenchFault.{BenchFault}
-use Rattle.uni_script.specs.declared.fault.BenchFault.TheVariants.{BadLine, TooLong, TooMany}
-use Rattle.ready_objects.specs.Words.{words_of_text}
-use Rattle.uni_script.specs.Grammar.{is_plain_byte, is_note}
-use Rattle.uni_script.specs.Outcome.{Kind, Answered, Outcome, outcome_of_text, outcome_of_fault, and_then, and_then_from, echoed, outcome_of_line, outcome_of_words, outcome_of_short_line, outcome_of_echoed_line, outcome_of_lines}
+use Rattle.uni_script.proofs.Vocabulary.{Answered, BadLine, BenchFault, Bool, Kind, List, None, Option, Outcome, Some, [], and_then, and_then_from, ap, append_assoc, arith, echoed, false, is_note, is_plain_byte, length, list_all, nat_le, nat_lt, nat_tests, outcome_of_echoed_line, outcome_of_fault, outcome_of_line, outcome_of_lines, outcome_of_short_line, outcome_of_text, outcome_of_words, refl, sym, true, words_of_text, ℕ, ◌++◌, ◌+◌, ◌<◌, ◌∙◌, ◌∷◌, ◌≡◌, ◌≤◌}
+use Rattle.uni_script.specs.declared.fault.BenchFault.TheVariants.{TooLong, TooMany}
 
 -- a line that isn't too long
 abbrev pub is_short : List ℕ → Bool

@@ -1,23 +1,7 @@
 -- The run of the lines of a script, one after the other.
-use Rattle.std.proofs.Common.{◌≡◌, ◌∙◌, ◌↔◌, ◌⊎◌, inl, inr, ℕ, ◌+◌, ◌≤◌, Bool, not, if◌then◌else◌, true, false, List, [], ◌∷◌, ◌++◌, length, Option, None, Some, Result, Ok, Err, IfOk, IfSome, IfNone, OnOk, refl, sym, ap, subst, arith, append_assoc, append-nil}
-use Rattle.std.proofs.KnownBytes.{Appends-nil, Appends-trans}
-use Rattle.std.specs.Io.KnownBytes.{Appends, Consumes}
-use Rattle.std.specs.List.{list_all}
-use Rattle.std.proofs.lemmas.Bool.Decides.{nat_tests}
-use Rattle.std.specs.Option.{option_map_or}
-use Rattle.ready_objects.specs.Words.{words_of_text}
-use Rattle.uni_script.specs.declared.fault.BenchFault.{BenchFault}
-use Rattle.uni_script.specs.declared.fault.BenchFault.TheVariants.{BadByte, BadLine, BadHeader, Read, Write, Memory}
+use Rattle.uni_script.proofs.Vocabulary.{Answered, Appends, Appends-nil, Appends-trans, AppendsPrefix, BadByte, BadHeader, BadLine, BenchFault, Bool, Consumes, End, Ended, EndsAs, Err, Failed, FaultsAfter, HasEnded, HasFaultAfter, HasRun, HasStopped, HasTaken, Heard, HeardGrows, IfNone, IfOk, IfSome, IsHeld, Kind, Lines, List, Memory, Moves, None, Ok, OnOk, Open, Option, Outcome, Read, ReadsOn, Result, Some, Stop, TooLong, TooMany, Write, WritesAs, [], and_then, ap, append-nil, append_assoc, arith, cut, echo_of, echoed, false, fault_of_stop, heard_of_line, heard_of_lines, heard_then, if◌then◌else◌, inl, inr, is_note, is_plain_byte, last_line, length, line_of, lines_of_read, list_all, nat_tests, not, nothing, option_map_or, outcome_of_end, outcome_of_fault, outcome_of_line, outcome_of_lines, outcome_of_read, outcome_of_short_line, outcome_of_stop, outcome_of_text, outcome_of_words, refl, rest_of, subst, sym, true, words_of_text, ℕ, ◌++◌, ◌+◌, ◌↔◌, ◌∙◌, ◌∷◌, ◌≡◌, ◌≤◌, ◌⊎◌}
 use Rattle.uni_script.specs.declared.fault.BenchFault.TheVariants as fault
-use Rattle.uni_script.specs.declared.lines.Lines.{Lines}
 use Rattle.uni_script.specs.declared.lines.Source.{Source}
-use Rattle.uni_script.specs.declared.lines.Source.TheVariants.{Open, Ended}
-use Rattle.uni_script.specs.Ends.{AppendsPrefix, Moves}
-use Rattle.uni_script.specs.Grammar.{cut, last_line, is_plain_byte, is_note}
-use Rattle.uni_script.specs.Outcome.{Kind, Answered, Outcome, outcome_of_fault, outcome_of_text, and_then, echo_of, echoed, outcome_of_words, outcome_of_line, outcome_of_short_line, outcome_of_lines, outcome_of_end}
-use Rattle.uni_script.specs.Remarks.{Heard, HeardGrows, nothing, heard_then, heard_of_line, heard_of_lines}
-use Rattle.uni_script.specs.Lines.{Stop, IsHeld, line_of, rest_of, HasTaken, HasStopped, HasRun, HasEnded, ReadsOn, HasFaultAfter, FaultsAfter, lines_of_read, fault_of_stop, outcome_of_stop, outcome_of_read, EndsAs, WritesAs}
-use Rattle.uni_script.specs.Lines.Stop.{End, Failed, TooLong, TooMany}
 use Rattle.uni_script.proofs.Cutting.{cut-append}
 use Rattle.uni_script.proofs.Running.{is_short, after_text, echoed-none, echoed-some, and_then-none, and_then-some, and_then-assoc, outcome_of_line-short, outcome_of_lines-append}
 use Rattle.uni_script.proofs.Taking.{line_of-length}

@@ -1,13 +1,9 @@
 -- Words on the session of an object, seen as one of scripts.
-use Rattle.std.proofs.Common.{◌≡◌, List, ℕ, None, Some, refl}
+use Rattle.uni_script.proofs.Vocabulary.{IsAbout, List, None, Session, Some, SpokenObject, answered, command_of_words, own_scripts, own_session, refl, refusal_of_command, refusal_of_words, result_of_command, script_session, scripts, session_after, spoken_of, ℕ, ◌≡◌}
 use Rattle.uni_script.specs.declared.grammar.ObjectName.{ObjectName}
 use Rattle.uni_script.specs.declared.options.Options.{Options}
 use Rattle.uni_script.specs.declared.grammar.Version.{Version}
 use Rattle.uni_script.specs.declared.grammar.Command.{Command}
-use Rattle.uni_script.specs.Grammar.{command_of_words}
-use Rattle.uni_script.specs.Objects.{SpokenObject, spoken_of}
-use Rattle.uni_script.specs.Meaning.{Session, session_after, result_of_command, refusal_of_command}
-use Rattle.uni_script.specs.Scripts.{IsAbout, answered, refusal_of_words, scripts, script_session, own_scripts, own_session}
 
 module _ {S I R B : Type 0} (o : SpokenObject S I R) (version : Version) (inside : Session S I R → B) (b : Session S I R) (words : List (List ℕ)) where
   pub answered-some : (command : Command I) → command_of_words version o.language.inv_of_words words ≡ Some command

@@ -1,27 +1,12 @@
 -- Steps of a process until its call returns.
-use Rattle.std.proofs.Common.{◌≡◌, ◌∙◌, ℕ, zero, suc, ◌+◌, ◌-◌, ◌<◌, ◌≤◌, List, [], ◌∷◌, ◌++◌, refl, sym, ap, subst, Option, None, Some, IsSome, true, false, arith, append_assoc, append-nil}
-use Rattle.std.proofs.lemmas.List.{map-append, replicate-append-replicate}
-use Rattle.seq_object.specs.Sequential.{Sequential}
-use Rattle.uni_model.specs.Bound.{most_steps}
+use Rattle.uni_script.proofs.Vocabulary.{CountsSteps-world_after, Event, HelpingInvariant, HelpingInvariant-world_after, IsBounded-held, IsReached, IsSome, IsWithinBound, KeepsOpening, List, None, Option, Recording, Sequential, Session, Some, SpokenObject, Step, WorldOf, [], ap, append-nil, append_assoc, arith, event_shown, events_shown, false, last_step, map-append, most_steps, progress_of, refl, replicate-append-replicate, response_after, response_of_step, session_after, session_of, steps_of, steps_taken, subst, suc, sym, true, world_after, world_after_all, world_of, zero, ℕ, ◌++◌, ◌+◌, ◌-◌, ◌<◌, ◌∙◌, ◌∷◌, ◌≡◌, ◌≤◌}
 use Rattle.uni_model.specs.Stages.{Pending}
-use Rattle.uni_model.specs.Worlds.{WorldOf, Event, world_after, world_after_all, response_of_step}
-use Rattle.uni_model.specs.Worlds.Event.{Step}
-use Rattle.uni_model.specs.Bound.{IsWithinBound}
 use Rattle.uni_model.specs.Counting.{CountsSteps}
-use Rattle.uni_model.specs.Helping.{HelpingInvariant}
-use Rattle.uni_model.specs.Laws.{IsReached}
-use Rattle.uni_model.proofs.Bounded.{HelpingInvariant-world_after, IsBounded-held}
-use Rattle.uni_model.proofs.Counted.{CountsSteps-world_after}
 use Rattle.uni_model.proofs.LawProofs.{CountsSteps-reached}
 use Rattle.uni_model.proofs.Runs.{world_after_all-append}
-use Rattle.uni_core.specs.World.{world_of, progress_of}
 use Rattle.uni_core.specs.declared.fault.Progress.{Progress}
 use Rattle.uni_core.specs.declared.fault.Progress.TheVariants.{Going, Done}
 use Rattle.uni_record.specs.declared.event.Event.{Event as Stored}
-use Rattle.uni_record.specs.Recorded.{Recording, KeepsOpening}
-use Rattle.uni_record.specs.Event.{event_shown, events_shown}
-use Rattle.uni_script.specs.Objects.{SpokenObject}
-use Rattle.uni_script.specs.Meaning.{Session, session_of, session_after, response_after, last_step, steps_of, steps_taken}
 use Rattle.uni_script.proofs.Helped.{n-world_after_step, steps-world_after_step, pending-world_after_step, HelpingInvariant-reached}
 
 -- a step that answers `Going` has no response

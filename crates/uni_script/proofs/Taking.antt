@@ -1,19 +1,8 @@
 -- How lines are taken of the bytes that a reader gives.
-use Rattle.std.proofs.Common.{◌≡◌, ◌≢◌, ◌∙◌, ℕ, zero, suc, ◌+◌, ◌-◌, ◌<◌, ◌≤◌, ◌==◌, not, ◌&&◌, Bool, true, false, List, [], ◌∷◌, ◌++◌, length, take, drop, Option, refl, sym, ap, subst, arith, append_assoc, append-nil}
-use Rattle.std.proofs.lemmas.Bool.Decides.{nat_tests}
-use Rattle.std.proofs.lemmas.List.{length-append, length-take-le, length-drop, drop-take, drop-drop, take_all}
-use Rattle.std.proofs.lemmas.List.Folds.{list_all-append}
+use Rattle.uni_script.proofs.Vocabulary.{Bool, Consumes, Consumes-kept, Consumes-trans, Cut, End, Ended, Failed, HasStopped, HasTaken, IsAtEnd, IsHeld, Keeps, Lines, List, Open, Option, TakesOn, TooLong, TooMany, [], ap, append-nil, append_assoc, arith, cut, drop, drop-drop, drop-take, false, last_line, length, length-append, length-drop, length-take-le, line_of, list_all, list_all-append, nat_tests, not, refl, rest_of, subst, suc, sym, take, take_all, true, zero, ℕ, ◌&&◌, ◌++◌, ◌+◌, ◌-◌, ◌<◌, ◌==◌, ◌∙◌, ◌∷◌, ◌≡◌, ◌≢◌, ◌≤◌}
 use Rattle.std.proofs.Math.Seq.{take-length}
-use Rattle.std.proofs.KnownBytes.{Consumes-trans, Consumes-kept}
-use Rattle.std.specs.Io.KnownBytes.{Consumes, Keeps, IsAtEnd}
-use Rattle.std.specs.List.{list_all}
-use Rattle.uni_script.specs.declared.lines.Lines.{Lines}
-use Rattle.uni_script.specs.declared.lines.Source.TheVariants.{Open, Ended}
 use Rattle.uni_script.specs.declared.lines.Taken.{Taken}
 use Rattle.uni_script.specs.declared.lines.Taken.TheVariants as taken
-use Rattle.uni_script.specs.Grammar.{Cut, cut, last_line}
-use Rattle.uni_script.specs.Lines.{IsHeld, line_of, rest_of, HasTaken, HasStopped, TakesOn}
-use Rattle.uni_script.specs.Lines.Stop.{End, Failed, TooLong, TooMany}
 use Rattle.uni_script.proofs.Cutting.{end_of, end_of-end, end_of-other, cut_is, cut-append}
 
 -- a byte that ends no line

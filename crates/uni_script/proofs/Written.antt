@@ -1,8 +1,5 @@
 -- What is written of some bytes, write by write.
-use Rattle.std.proofs.Common.{◌≡◌, ℕ, List, [], ◌++◌, Option, refl, sym, ap, ◌∙◌, take, drop, append_assoc, append-nil, take-append-drop}
-use Rattle.std.proofs.KnownBytes.{Appends-nil, Appends-trans}
-use Rattle.std.specs.Io.KnownBytes.{Appends}
-use Rattle.uni_script.specs.Ends.{IsWritten, AppendsPrefix}
+use Rattle.uni_script.proofs.Vocabulary.{Appends, Appends-nil, Appends-trans, AppendsPrefix, IsWritten, List, Option, [], ap, append-nil, append_assoc, drop, refl, sym, take, take-append-drop, ℕ, ◌++◌, ◌∙◌, ◌≡◌}
 
 -- before the first write all bytes are left
 pub IsWritten-start : (a : Option (List ℕ)) (bytes : List ℕ) → IsWritten a a bytes bytes

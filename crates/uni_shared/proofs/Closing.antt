@@ -1,13 +1,6 @@
 -- The first reason for which a record and seats aren't closed.
-use Rattle.std.proofs.Common.{◌≡◌, ◌≢◌, ◌⊎◌, inl, inr, ◌∙◌, ℕ, ◌+◌, ◌<◌, ◌≤◌, refl, sym, ap, subst, List, length, get_or, take, Option, Some, None, IsSome, arith, nat_eq}
-use Rattle.std.specs.Option.{IfSome}
-use Rattle.std.specs.List.{All, Contains}
-use Rattle.std.proofs.lemmas.List.Elements.{All-contains, All-more, Contains-get_or}
+use Rattle.uni_shared.proofs.Vocabulary.{All, All-contains, All-more, Contains, Contains-get_or, IfSome, IsBusy, IsLeast, IsMissing, IsQuiescent, IsSome, List, None, Option, SeatOf, Some, WorldOf, ap, arith, get_or, inl, inr, length, nat_eq, number_cases, refl, seats_of, subst, sym, take, ℕ, ◌+◌, ◌<◌, ◌∙◌, ◌≡◌, ◌≢◌, ◌≤◌, ◌⊎◌}
 use Rattle.std.proofs.lemmas.List.Sums.{count_by_more_yes, count_by_more_no}
-use Rattle.uni_model.specs.Worlds.{WorldOf, IsQuiescent}
-use Rattle.uni_model.proofs.Written.{number_cases}
-use Rattle.uni_shared.specs.Agreement.{IsBusy, IsLeast, IsMissing, seats_of}
-use Rattle.uni_shared.specs.Seat.{SeatOf}
 
 module _ {I R : Type 0} where
   -- one seat more

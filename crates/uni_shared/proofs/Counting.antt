@@ -1,17 +1,8 @@
 -- Receipts beside a history, call by call.
-use Rattle.std.proofs.Common.{◌≡◌, ◌∙◌, ℕ, zero, suc, ◌+◌, ◌<◌, ◌≤◌, refl, sym, ap, subst, List, [], ◌∷◌, ◌++◌, length, get_or, take, map, Bool, true, false, Option, Some, None, IsSome, IsTrue, arith}
+use Rattle.uni_shared.proofs.Vocabulary.{Agrees, All, Bool, Completed, Counts, IsSome, IsTrue, List, None, Option, Receipt, Sequential, Some, WorldOf, [], ap, arith, false, filter, filter-append, get_or, length, length-map, map, refl, subst, suc, sym, take, take_all, take_more, true, zero, ℕ, ◌++◌, ◌+◌, ◌<◌, ◌∙◌, ◌∷◌, ◌≡◌, ◌≤◌}
 use Rattle.std.proofs.Math.ListN.{get_or-map}
-use Rattle.std.proofs.lemmas.List.{take_more, take_all, length-map}
-use Rattle.std.proofs.lemmas.List.Elements.{filter-append}
-use Rattle.std.specs.List.{All, filter}
-use Rattle.seq_object.specs.Sequential.{Sequential}
-use Rattle.uni_model.specs.Worlds.{WorldOf}
 use Rattle.uni_record.specs.declared.event.Event.{Event as Stored}
 use Rattle.uni_record.specs.declared.verdict.Return.{Return}
-use Rattle.uni_shared.specs.declared.receipt.Receipt.{Receipt}
-use Rattle.uni_shared.specs.Agreement.{Agrees}
-use Rattle.uni_record.specs.declared.verdict.Counts.{Counts}
-use Rattle.uni_record.specs.Event.{Completed}
 
 -- a return with its counts, among the calls that have returned
 pub get_or-completed : {R : Type 0} (calls : List (Completed R)) (n : ℕ) (returned : Return R) (counts : Counts) → returned ≡ get_or (map (λ (c : Completed R). c.returned) calls) n returned

@@ -1,18 +1,7 @@
 -- Two lists that differ at a place.
-use Rattle.std.proofs.Common.{◌≡◌, ◌≢◌, ◌⊎◌, inl, inr, ◌∙◌, ℕ, zero, suc, ◌+◌, ◌<◌, ◌≤◌, refl, sym, ap, subst, List, [], ◌∷◌, ◌++◌, append-nil, length, map, get_or, take, drop, Option, Some, None, slice_get, arith, Bool, true, cond, nat_eq}
-use Rattle.std.specs.Option.{IfSome}
-use Rattle.std.specs.List.{filter, filter_map}
-use Rattle.std.proofs.lemmas.List.{drop_more, take-append-drop}
-use Rattle.std.proofs.lemmas.List.Elements.{filter-append}
-use Rattle.std.proofs.lemmas.Option.{slice_get_cases}
-use Rattle.uni_model.proofs.Written.{number_cases}
-use Rattle.seq_object.specs.Sequential.{Sequential}
+use Rattle.uni_shared.proofs.Vocabulary.{Bool, DiffersFirstAt, IfSome, IsMismatchOf, IsSameAt, List, None, Option, Receipt, Recording, SeatOf, Sequential, Some, [], ap, arith, completed_in, completed_of, completed_of_process, cond, drop, drop_more, events_shown, filter, filter-append, filter_map, get_or, inl, inr, invocation_by, length, map, meaning, nat_eq, number_cases, opening, refl, slice_get, slice_get_cases, subst, suc, sym, take, take-append-drop, true, zero, ℕ, ◌++◌, ◌+◌, ◌<◌, ◌∙◌, ◌∷◌, ◌≡◌, ◌≢◌, ◌≤◌, ◌⊎◌}
+use Rattle.std.proofs.Common.{append-nil}
 use Rattle.uni_record.specs.declared.event.Event.{Event as Stored}
-use Rattle.uni_record.specs.Event.{completed_in, events_shown}
-use Rattle.uni_record.specs.Recorded.{Recording, meaning, opening}
-use Rattle.uni_shared.specs.Agreement.{DiffersFirstAt, IsMismatchOf, IsSameAt, invocation_by, completed_of, completed_of_process}
-use Rattle.uni_shared.specs.Seat.{SeatOf}
-use Rattle.uni_shared.specs.declared.receipt.Receipt.{Receipt}
 
 -- a list up to a place, and then another one
 before_place : {A : Type 0} (xs ys : List A) (n j : ℕ) → j < n → n ≤ length xs → slice_get (take n xs ++ ys) j ≡ slice_get xs j

@@ -1,16 +1,13 @@
 -- What a hold of the lock leaves, and what it is refused for.
-use Rattle.std.proofs.Common.{◌≡◌, ℕ, ◌≤◌, ◌-◌, refl, ◌∙◌, ap, Option, Some, None, IsSome, option_map, arith, subst}
-use Rattle.seq_object.specs.Sequential.{Sequential}
+use Rattle.uni_shared.proofs.Vocabulary.{IsSome, None, Option, Sequential, Some, WorldOf, ap, arith, current_of, option_map, refl, subst, world_after, world_after_call, ℕ, ◌-◌, ◌∙◌, ◌≡◌, ◌≤◌}
 use Rattle.seq_object.specs.declared.call_id.CallId.{CallId}
 use Rattle.uni_model.specs.Stages.{Pending}
-use Rattle.uni_model.specs.Worlds.{WorldOf, world_after, world_after_call}
 use Rattle.uni_model.specs.Worlds.Event.{Step}
 use Rattle.uni_model.specs.Invariant.{Invariant}
 use Rattle.uni_model.specs.Places.Name.{Of}
 use Rattle.uni_model.specs.Stages.Stage.{Announce}
 use Rattle.uni_model.specs.Transition.{place_of}
 use Rattle.uni_model.proofs.Simulation.{set_at_same}
-use Rattle.uni_core.specs.World.{current_of}
 use Rattle.uni_shared.specs.declared.held.Held.{Held}
 use Rattle.uni_shared.specs.Held.{Tells}
 

@@ -1,3 +1,4 @@
+pub mod Vocabulary
 pub mod Counting
 pub mod Closing
 pub mod Differing

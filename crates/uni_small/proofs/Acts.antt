@@ -1,10 +1,5 @@
 -- The acts of a process in a history.
-use Rattle.std.proofs.Common.{◌≡◌, ◌≢◌, ◌∙◌, ℕ, suc, ◌+◌, inl, inr, refl, sym, ap, List, [], ◌∷◌, ◌++◌, length, map, arith, append-nil}
-use Rattle.uni_model.specs.AtomicObject.{Act, Invoked}
-use Rattle.uni_model.specs.AtomicObject.Act.{Invoke, Linearize, Respond}
-use Rattle.uni_model.proofs.Written.{number_cases}
-use Rattle.uni_model.specs.ProcessCalls.{acts_by, sequential_acts}
-use Rattle.uni_small.specs.View.{Returned, plain}
+use Rattle.uni_small.proofs.Vocabulary.{Act, Invoke, Invoked, Linearize, List, Respond, Returned, [], acts_by, ap, append-nil, arith, inl, inr, length, map, number_cases, plain, refl, sequential_acts, suc, sym, ℕ, ◌++◌, ◌+◌, ◌∙◌, ◌∷◌, ◌≡◌, ◌≢◌}
 
 pub acts_by-append : (p : ℕ) (xs ys : List (Act (List ℕ) (List ℕ))) → acts_by p (xs ++ ys) ≡ acts_by p xs ++ acts_by p ys
 acts_by-append p [] ys = refl

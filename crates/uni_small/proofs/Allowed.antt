@@ -1,13 +1,5 @@
 -- What the functions of the word steps ask, in parts.
-use Rattle.std.proofs.Common.{◌≡◌, ℕ, List, sym, subst}
-use Rattle.atomic_table.specs.Table.{Me, keeps, Allows}
-use Rattle.uni_model.specs.AtomicObject.{Act}
-use Rattle.uni_small.specs.Image.{Meaning}
-use Rattle.uni_small.specs.Board.{Board}
-use Rattle.uni_small.specs.Laws.{Moves}
-use Rattle.uni_small.specs.Rule.{Rule}
-use Rattle.uni_small.specs.declared.view.View.{View}
-use Rattle.uni_small.specs.declared.rule.Setup.{Setup}
+use Rattle.uni_small.proofs.Vocabulary.{Act, Allows, Board, List, Me, Meaning, Moves, Rule, Setup, View, keeps, subst, sym, ℕ, ◌≡◌}
 
 -- what the table was told is what the object has, the word is this one, and the step moves the board
 pub by_key : {O : Type 0} (meaning : O → Meaning) (told setup : Setup O) → told ≡ setup

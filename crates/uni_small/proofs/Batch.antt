@@ -1,13 +1,6 @@
 -- The calls of a scan take effect one after another.
-use Rattle.std.proofs.Common.{◌≡◌, ◌∙◌, ℕ, zero, suc, ◌+◌, ◌<◌, ◌≤◌, ◌⊎◌, inl, inr, refl, sym, ap, subst, List, [], ◌∷◌, ◌++◌, length, map, slice_index, slice_get, slice_set, Option, Some, None, Contains, arith, append-nil, append_assoc, length-set, get_or-set_same}
-use Rattle.std.specs.List.{sum}
-use Rattle.std.proofs.lemmas.List.Elements.{Contains-append_cases}
+use Rattle.uni_small.proofs.Vocabulary.{AcceptsAll, Atomic, Contains, Contains-append_cases, Image, Invoked, Linearize, List, None, Option, Sequential, Some, [], ap, append-nil, append_assoc, arith, calls_seen, due_at, get_or-set_same, inl, inr, length, length-set, map, refl, reply_of, response_at, slice_get, slice_index, slice_set, subst, suc, sum, sym, taken_in, with_seen, zero, ℕ, ◌++◌, ◌+◌, ◌<◌, ◌∙◌, ◌∷◌, ◌≡◌, ◌≤◌, ◌⊎◌}
 use Rattle.std.proofs.lemmas.List.Sums.{sum_by-set}
-use Rattle.seq_object.specs.Sequential.{Sequential}
-use Rattle.seq_object.specs.History.{response_at}
-use Rattle.uni_model.specs.AtomicObject.{Atomic, Invoked, AcceptsAll}
-use Rattle.uni_model.specs.AtomicObject.Act.{Linearize}
-use Rattle.uni_small.specs.Image.{Image, due_at, calls_seen, reply_of, taken_in, with_seen}
 use Rattle.uni_small.proofs.Images.{reply-before}
 
 contains_cons : {A : Type 0} (x : A) (xs : List A) (y : A) → Contains (x ∷ xs) y → (x ≡ y) ⊎ Contains xs y

@@ -1,22 +1,6 @@
 -- What the words of a closed table show.
-use Rattle.std.proofs.Common.{◌≡◌, ◌∙◌, ℕ, zero, suc, ◌*◌, ◌<◌, ◌≤◌, refl, sym, ap, subst, List, ◌∷◌, Contains, map, slice_index, slice_get, [], arith}
-use mathlib.Core.Option.{some}
-use lib.ListN.{get_elem?}
-use Rattle.atomic_table.specs.Table.{State}
-use Rattle.seq_object.specs.Sequential.{Sequential}
-use Rattle.uni_small.specs.declared.sizes.Sizes.{Sizes}
-use Rattle.uni_small.specs.Image.{Meaning, Image, state_place}
-use Rattle.uni_small.specs.View.{Local, ProcessReturned, plain}
-use Rattle.uni_small.specs.View.Stage.{Idle}
-use Rattle.uni_small.specs.Board.{Board, buffer_in}
-use Rattle.uni_small.specs.Final.{IsFinal}
-use Rattle.uni_small.specs.Invariant.{IsBoard, IsClosed}
-use Rattle.uni_model.specs.ProcessCalls.{sequential_acts}
+use Rattle.uni_small.proofs.Vocabulary.{AreWords, Board, Contains, Idle, Image, IsBoard, IsClosed, IsFinal, IsShown, List, Local, Meaning, ProcessReturned, Rule, Sequential, Setup, Sizes, State, View, [], ap, arith, buffer_in, get_elem?, map, plain, refl, sequential_acts, slice_get, slice_index, some, state_place, subst, suc, sym, zero, ℕ, ◌*◌, ◌<◌, ◌∙◌, ◌∷◌, ◌≡◌, ◌≤◌}
 use Rattle.uni_small.specs.Reading.{IsStateIn}
-use Rattle.uni_small.specs.Rule.{Rule}
-use Rattle.uni_small.specs.Shown.{AreWords, IsShown}
-use Rattle.uni_small.specs.declared.rule.Setup.{Setup}
-use Rattle.uni_small.specs.declared.view.View.{View}
 use Rattle.uni_small.proofs.Images.{reached_from, spell-state}
 use Rattle.uni_small.proofs.Lists.{same_list}
 use Rattle.uni_small.proofs.Loads.{buffer_of, call_at}

@@ -1,18 +1,6 @@
 -- How an attempt goes on after its check, and how a call ends.
-use Rattle.std.proofs.Common.{[], ◌≡◌, ◌≢◌, ◌∙◌, ℕ, ◌+◌, ◌-◌, ◌*◌, ◌<◌, ◌≤◌, inl, inr, refl, sym, ap, subst, List, length, slice_index, Option, Some, None, arith}
+use Rattle.uni_small.proofs.Vocabulary.{AreBuffers, Buffers, CallEnds, EndsWithin, Goes, GoesBy, HasRows, Idle, Image, IsEnd, IsGood, IsLeft, Last, List, Local, Me, Meaning, None, Option, Reading, Ready, ReplyEnds, Returned, Sizes, Some, Stage, View, WritesWithin, Writing, [], announces, ap, arith, attempt_steps, brings, brought, buffer_in, buffer_words, call_steps, checked, end_of, goes, inl, inr, length, local_of, number_cases, read_image, refl, returns, slice_index, spell, stage_of, subst, sym, version_in, went, with_local, ℕ, ◌*◌, ◌+◌, ◌-◌, ◌<◌, ◌∙◌, ◌≡◌, ◌≢◌, ◌≤◌}
 use Rattle.std.proofs.Math.Nat.{add-mul, mul_assoc, mul_comm}
-use Rattle.atomic_table.specs.Table.{Me}
-use Rattle.uni_model.proofs.Written.{number_cases}
-use Rattle.uni_small.specs.declared.sizes.Sizes.{Sizes}
-use Rattle.uni_small.specs.Image.{HasRows, Image, Meaning, buffer_words, spell, read_image}
-use Rattle.uni_small.specs.View.{Local, Returned, Stage, announces, brings, goes, returns}
-use Rattle.uni_small.specs.View.Stage.{Idle, Last, Reading, Ready, Writing}
-use Rattle.uni_small.specs.Board.{buffer_in, version_in}
-use Rattle.uni_small.specs.Plays.{Goes, IsLeft, IsGood, brought, checked, stage_of, with_local}
-use Rattle.uni_small.specs.Standing.{GoesBy, local_of, went, CallEnds, EndsWithin, IsEnd, ReplyEnds, WritesWithin, attempt_steps, call_steps, end_of}
-use Rattle.uni_small.specs.Belongs.{AreBuffers}
-use Rattle.uni_small.specs.declared.seat.Buffers.{Buffers}
-use Rattle.uni_small.specs.declared.view.View.{View}
 use Rattle.uni_small.proofs.Going.{add_assoc, stage_after, own_after, spare_after, held_after, goes_on}
 use Rattle.uni_small.proofs.Images.{read-spell, spell-applied}
 

@@ -1,32 +1,5 @@
 -- The exchange that makes a spare buffer current.
-use Rattle.std.proofs.Common.{◌≡◌, ◌≢◌, ◌∙◌, ℕ, zero, suc, ◌+◌, ◌*◌, ◌<◌, ◌≤◌, ◌⊎◌, inl, inr, refl, sym, ap, subst, List, [], ◌∷◌, ◌++◌, length, map, slice_index, slice_get, slice_set, take, Option, Some, None, arith, append-nil, if◌then◌else◌, length-append, nat_lt, ◌==◌, eqb, Bool, true, false}
-use Rattle.std.proofs.lemmas.List.{map-append, set-get_or}
-use Rattle.std.proofs.lemmas.List.Elements.{Contains-append_cases}
-use Rattle.std.proofs.lemmas.Option.{slice_get_within}
-use prog.Atomic.{either}
-use Rattle.atomic_table.specs.Table.{Me, Step}
-use Rattle.atomic_table.proofs.Lists.{exchanged}
-use Rattle.seq_object.specs.Sequential.{Sequential}
-use Rattle.seq_object.specs.History.{response_at, state_after}
-use Rattle.uni_model.specs.AtomicObject.{Invoked, at_start, set_at}
-use Rattle.uni_model.specs.AtomicObject.Act.{Linearize}
-use Rattle.uni_model.proofs.Written.{set_at-cases, number_cases, lt_cases}
-use Rattle.uni_model.proofs.Simulation.{set_at_same}
-use Rattle.uni_model.proofs.LawProofs.{set_at_elsewhere, AcceptsAll-append}
-use Rattle.uni_model.proofs.Appended.{slice_get-append_left, slice_get-append_right, response_at-append}
-use Rattle.uni_model.specs.ProcessCalls.{acts_by}
-use Rattle.uni_small.specs.declared.sizes.Sizes.{Sizes}
-use Rattle.uni_small.specs.Image.{Meaning, AreWhole, HasRows, Image, IsSteady, buffer_words, calls_seen, due_at, first_image, image_from, reply_of, reply_place, spell, with_seen}
-use Rattle.uni_small.specs.View.{Local, Returned, Stage, goes, brings}
-use Rattle.uni_small.specs.View.Stage.{Idle, Last, Reading, Ready, Writing}
-use Rattle.uni_small.specs.Board.{Board, in_of, current_word, buffer_in, version_in}
-use Rattle.uni_small.specs.Invariant.{IsBoard, IsSound, IsCallAt, IsAttemptAt, IsClosed, IsOpen, HasTaken, HasSeen, AreIn, MayBeWritten}
-use Rattle.uni_small.specs.Order.{StandsIn, IsOrdered}
-use Rattle.uni_small.specs.Shown.{AreWords}
-use Rattle.uni_small.specs.Laws.{Moves, takes_effect}
-use Rattle.uni_small.specs.Plays.{with_local, brought, HasBrought}
-use Rattle.uni_small.specs.Standing.{HasWrittenAll}
-use Rattle.uni_small.specs.declared.view.View.{View}
+use Rattle.uni_small.proofs.Vocabulary.{AcceptsAll-append, AreIn, AreWhole, AreWords, Board, Bool, Contains-append_cases, HasBrought, HasRows, HasSeen, HasTaken, HasWrittenAll, Idle, Image, Invoked, IsAttemptAt, IsBoard, IsCallAt, IsClosed, IsOpen, IsOrdered, IsSound, IsSteady, Last, Linearize, List, Local, MayBeWritten, Me, Meaning, Moves, None, Option, Reading, Ready, Returned, Sequential, Sizes, Some, Stage, StandsIn, Step, View, Writing, [], acts_by, ap, append-nil, arith, at_start, brings, brought, buffer_in, buffer_words, calls_seen, current_word, due_at, either, eqb, exchanged, false, first_image, goes, if◌then◌else◌, image_from, in_of, inl, inr, length, length-append, lt_cases, map, map-append, nat_lt, number_cases, refl, reply_of, reply_place, response_at, response_at-append, set-get_or, set_at, set_at-cases, set_at_elsewhere, set_at_same, slice_get, slice_get-append_left, slice_get-append_right, slice_get_within, slice_index, slice_set, spell, state_after, subst, suc, sym, take, takes_effect, true, version_in, with_local, with_seen, zero, ℕ, ◌*◌, ◌++◌, ◌+◌, ◌<◌, ◌==◌, ◌∙◌, ◌∷◌, ◌≡◌, ◌≢◌, ◌≤◌, ◌⊎◌}
 use Rattle.uni_small.proofs.Frame.{Found, Given, step_law, sound_with, sound_same}
 use Rattle.uni_small.proofs.Lists.{due_cases, get-append, get-contains}
 use Rattle.uni_small.proofs.Acts.{acts_by-append, acts_by-linearized}

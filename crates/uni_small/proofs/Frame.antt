@@ -1,24 +1,5 @@
 -- A word step of a seat of one process keeps the rule: what has to be shown of the board.
-use Rattle.std.proofs.Common.{◌≡◌, ◌≢◌, ◌∙◌, ℕ, ◌<◌, inl, inr, ⊎_elim, sym, ap, subst, List, slice_index, slice_set, Some, ◌++◌, append-nil, arith, set}
-use Rattle.std.proofs.lemmas.List.{set-get_or}
-use mathlib.Core.Option.{some}
-use lib.ListN.{get_elem?}
-use Rattle.atomic_table.specs.Table.{State, Me}
-use Rattle.atomic_table.proofs.Lists.{at_set}
-use Rattle.seq_object.specs.Sequential.{Sequential}
-use Rattle.uni_model.specs.AtomicObject.{Act, set_at}
-use Rattle.uni_model.proofs.Written.{set_at-cases}
-use Rattle.uni_model.proofs.Simulation.{set_at_same}
-use Rattle.uni_model.proofs.LawProofs.{set_at_elsewhere}
-use Rattle.uni_small.specs.Image.{AreWidths, Meaning}
-use Rattle.uni_small.specs.declared.sizes.Sizes.{Sizes}
-use Rattle.uni_small.specs.View.{Local}
-use Rattle.uni_small.specs.Board.{Board}
-use Rattle.uni_small.specs.Invariant.{IsAt, IsBoard, IsSound}
-use Rattle.uni_small.specs.Shown.{AreWords, Tells, IsShown}
-use Rattle.uni_small.specs.Laws.{Moves, nothing}
-use Rattle.uni_small.specs.Plays.{with_local}
-use Rattle.uni_small.specs.declared.view.View.{View}
+use Rattle.uni_small.proofs.Vocabulary.{Act, AreWidths, AreWords, Board, IsAt, IsBoard, IsShown, IsSound, List, Local, Me, Meaning, Moves, Sequential, Sizes, Some, State, Tells, View, ap, append-nil, arith, at_set, get_elem?, inl, inr, nothing, set, set-get_or, set_at, set_at-cases, set_at_elsewhere, set_at_same, slice_index, slice_set, some, subst, sym, with_local, ℕ, ⊎_elim, ◌++◌, ◌<◌, ◌∙◌, ◌≡◌, ◌≢◌}
 
 -- one process gets another local, and the others stay where they are
 pub sound_with : (object : Sequential (List ℕ) (List ℕ) (List ℕ)) (sizes : Sizes) (g g' : Board) (local : ℕ → Local) (p : ℕ) (l' : Local) → IsSound object sizes g local

@@ -1,17 +1,5 @@
 -- Seats that go on with a call.
-use Rattle.std.proofs.Common.{◌≡◌, ◌≢◌, ◌∙◌, ℕ, ◌+◌, inl, inr, refl, sym, ap, subst, List, [], ◌∷◌, ◌++◌, ◌≤◌, length, slice_index, slice_set, Option, Some, None, arith}
-use Rattle.atomic_table.specs.Table.{Me}
-use Rattle.seq_object.specs.Sequential.{Sequential}
-use Rattle.uni_model.proofs.Written.{number_cases}
-use Rattle.uni_small.specs.declared.sizes.Sizes.{Sizes}
-use Rattle.uni_small.specs.Image.{Image, with_seen}
-use Rattle.uni_small.specs.View.{Stage, goes, wrote}
-use Rattle.uni_small.specs.View.Stage.{Reading}
-use Rattle.uni_small.specs.Plays.{Goes, IsLeft, looked, stage_of, with_local}
-use Rattle.uni_small.specs.Standing.{IsOf, GoesBy, WritesWithin, local_of, went}
-use Rattle.uni_small.specs.Belongs.{AreBuffers}
-use Rattle.uni_small.specs.declared.seat.Buffers.{Buffers}
-use Rattle.uni_small.specs.declared.view.View.{View}
+use Rattle.uni_small.proofs.Vocabulary.{AreBuffers, Buffers, Goes, GoesBy, Image, IsLeft, IsOf, List, Me, None, Option, Reading, Sequential, Sizes, Some, Stage, View, WritesWithin, [], ap, arith, goes, inl, inr, length, local_of, looked, number_cases, refl, slice_index, slice_set, stage_of, subst, sym, went, with_local, with_seen, wrote, ℕ, ◌++◌, ◌+◌, ◌∙◌, ◌∷◌, ◌≡◌, ◌≢◌, ◌≤◌}
 
 pub add_assoc : (x y z : ℕ) → x + y + z ≡ x + (y + z)
 add_assoc x y z = omega arith

@@ -1,12 +1,5 @@
 -- Images: what applying calls does to them.
-use Rattle.std.proofs.Common.{◌≡◌, ◌∙◌, ℕ, zero, suc, ◌+◌, ◌*◌, ◌<◌, inl, inr, refl, sym, ap, subst, List, [], ◌∷◌, ◌++◌, length, slice_index, slice_index_or, slice_set, Option, Some, None, map, arith, take, drop, length-set, length-append, get_or-set_same, get_or-set_other}
-use Rattle.std.proofs.lemmas.List.{drop_at, get_or-append-add, get_or_append_left, take_at}
-use Rattle.seq_object.specs.Sequential.{Sequential}
-use Rattle.seq_object.specs.History.{state_after}
-use Rattle.uni_model.specs.AtomicObject.{Invoked}
-use Rattle.uni_model.proofs.Written.{number_cases}
-use Rattle.uni_small.specs.Image.{Image, HasRows, IsSteady, buffer_words, joined, reply_of, reply_place, rows, spell, state_place, read_image, due_at, calls_seen, taken_in, first_image, image_from, with_seen}
-use Rattle.uni_small.specs.declared.sizes.Sizes.{Sizes}
+use Rattle.uni_small.proofs.Vocabulary.{HasRows, Image, Invoked, IsSteady, List, None, Option, Sequential, Sizes, Some, [], ap, arith, buffer_words, calls_seen, drop, drop_at, due_at, first_image, get_or-append-add, get_or-set_other, get_or-set_same, get_or_append_left, image_from, inl, inr, joined, length, length-append, length-set, map, number_cases, read_image, refl, reply_of, reply_place, rows, slice_index, slice_index_or, slice_set, spell, state_after, state_place, subst, suc, sym, take, take_at, taken_in, with_seen, zero, ℕ, ◌*◌, ◌++◌, ◌+◌, ◌<◌, ◌∙◌, ◌∷◌, ◌≡◌}
 use Rattle.uni_small.proofs.Rows.{AreEven, joined-index, joined-length, rows-joined}
 
 -- the words of an image

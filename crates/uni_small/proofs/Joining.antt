@@ -1,19 +1,5 @@
 -- A seat takes in another one, of one process with no call pending.
-use Rattle.std.proofs.Common.{◌≡◌, ◌≢◌, ◌∙◌, ℕ, zero, suc, ◌≤◌, inl, inr, refl, sym, ap, subst, [], ◌∷◌, Contains, if◌then◌else◌, nat_eq, arith, set}
-use Rattle.std.proofs.lemmas.List.Elements.{Contains-append_cases}
-use mathlib.Core.Option.{some}
-use lib.ListN.{get_elem?}
-use Rattle.atomic_table.specs.Table.{Joins}
-use Rattle.atomic_table.proofs.Lists.{at_set, set_else}
-use Rattle.uni_model.proofs.Written.{number_cases}
-use Rattle.uni_small.specs.Image.{Meaning}
-use Rattle.uni_small.specs.declared.sizes.Sizes.{Sizes}
-use Rattle.uni_small.specs.View.{Local, ProcessReturned}
-use Rattle.uni_small.specs.View.Stage.{Idle}
-use Rattle.uni_small.specs.Board.{Board}
-use Rattle.uni_small.specs.Shown.{Tells, IsTaken, IsShown, ShowsBoard}
-use Rattle.uni_small.specs.Plays.{nobody, own_in_view, took_in}
-use Rattle.uni_small.specs.declared.view.View.{View}
+use Rattle.uni_small.proofs.Vocabulary.{Board, Contains, Contains-append_cases, Idle, IsShown, IsTaken, Joins, Local, Meaning, ProcessReturned, ShowsBoard, Sizes, Tells, View, [], ap, arith, at_set, get_elem?, if◌then◌else◌, inl, inr, nat_eq, nobody, number_cases, own_in_view, refl, set, set_else, some, subst, suc, sym, took_in, zero, ℕ, ◌∙◌, ◌∷◌, ◌≡◌, ◌≢◌, ◌≤◌}
 
 -- the seats of processes after it
 moved : (seat_of : ℕ → ℕ) → (id other : ℕ) → ℕ → ℕ

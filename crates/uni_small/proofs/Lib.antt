@@ -1,3 +1,4 @@
+pub mod Vocabulary
 pub mod Frame
 pub mod Lists
 pub mod Rows

@@ -1,10 +1,5 @@
 -- Lists with one more element, and two lists with the same elements.
-use Rattle.std.proofs.Common.{◌≡◌, ℕ, zero, suc, ◌+◌, ◌*◌, ◌<◌, ◌≤◌, ◌⊎◌, inl, inr, refl, sym, ap, List, [], ◌∷◌, ◌++◌, length, slice_index, slice_index_or, slice_get, Option, Some, None, Contains, arith, suc-mul}
-use Rattle.std.proofs.lemmas.Option.{slice_get_within, get_or_from_slice_get}
-use Rattle.std.specs.List.{sum, fold}
-use mathlib.Core.Option.{some, some-injective, some-ne-none}
-use lib.ListN.{get_elem?}
-use Rattle.uni_small.specs.Image.{due_at}
+use Rattle.uni_small.proofs.Vocabulary.{Contains, List, None, Option, Some, [], ap, arith, due_at, fold, get_elem?, get_or_from_slice_get, inl, inr, length, refl, slice_get, slice_get_within, slice_index, slice_index_or, some, some-injective, some-ne-none, suc, suc-mul, sum, sym, zero, ℕ, ◌*◌, ◌++◌, ◌+◌, ◌<◌, ◌∷◌, ◌≡◌, ◌≤◌, ◌⊎◌}
 
 pub index_snoc : (xs : List ℕ) (x j : ℕ) → j < length xs → slice_index (xs ++ x ∷ []) j ≡ slice_index xs j
 index_snoc [] x j h = absurd (omega arith)

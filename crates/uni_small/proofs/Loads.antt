@@ -1,25 +1,6 @@
 -- The word steps that load, but the last one of a call.
-use Rattle.std.proofs.Common.{◌≡◌, ◌≢◌, ◌∙◌, ℕ, ◌+◌, ◌*◌, ◌<◌, ◌≤◌, inl, inr, refl, sym, ap, subst, List, [], ◌∷◌, ◌++◌, length, map, slice_index, slice_get, Option, Some, None, arith, Bool, true, false, cond, if◌then◌else◌, length-append, ◌==◌}
+use Rattle.uni_small.proofs.Vocabulary.{AreIn, AreWhole, Board, Bool, HasAsked, HasChecked, HasCopied, HasFollowed, HasLooked, HasStarted, HasTurned, Idle, IfFresh, Image, Invoked, IsAsking, IsAt, IsAttemptAt, IsBeginning, IsBoard, IsCallAt, IsClosed, IsCopying, IsGood, IsLooking, IsNamed, IsOpen, IsShown, IsSound, IsSteady, Last, List, Local, MayBeWritten, Me, Meaning, Moves, None, Option, Reading, Ready, Returned, Sequential, Sizes, Some, Stage, State, Step, View, Writing, [], announce_word, ap, argument_word, arith, buffer_in, buffer_word, buffer_words, checked, cond, current_word, false, goes, if◌then◌else◌, in_of, inl, inr, knows, length, length-append, looked, lt_cases, map, most_calls, nothing, number_cases, read_image, refl, reply_of, same_from_push, slice_get, slice_get-append_left, slice_get_within, slice_index, spell, stage_of, subst, sum, sym, true, version_in, with_local, with_seen, ℕ, ◌*◌, ◌++◌, ◌+◌, ◌<◌, ◌==◌, ◌∙◌, ◌∷◌, ◌≡◌, ◌≢◌, ◌≤◌}
 use Rattle.std.proofs.lemmas.Bool.Decides.{nat_tests}
-use Rattle.std.proofs.lemmas.List.{same_from_push}
-use Rattle.std.proofs.lemmas.Option.{slice_get_within}
-use Rattle.std.specs.List.{sum}
-use Rattle.atomic_table.specs.Table.{State, Me, Step}
-use Rattle.seq_object.specs.Sequential.{Sequential}
-use Rattle.uni_model.specs.AtomicObject.{Invoked}
-use Rattle.uni_model.proofs.Appended.{slice_get-append_left}
-use Rattle.uni_model.proofs.Written.{number_cases, lt_cases}
-use Rattle.uni_small.specs.declared.sizes.Sizes.{Sizes}
-use Rattle.uni_small.specs.Image.{Meaning, AreWhole, Image, IsSteady, buffer_words, read_image, reply_of, spell, with_seen}
-use Rattle.uni_small.specs.View.{Local, Returned, Stage, goes, knows}
-use Rattle.uni_small.specs.View.Stage.{Idle, Last, Reading, Ready, Writing}
-use Rattle.uni_small.specs.Board.{Board, in_of, current_word, buffer_in, version_in, announce_word, argument_word, buffer_word}
-use Rattle.uni_small.specs.Invariant.{AreIn, IfFresh, IsAt, IsAttemptAt, IsBeginning, IsBoard, IsCallAt, IsClosed, IsOpen, IsSound, MayBeWritten, most_calls}
-use Rattle.uni_small.specs.Shown.{IsShown}
-use Rattle.uni_small.specs.Laws.{Moves, nothing}
-use Rattle.uni_small.specs.Plays.{stage_of, with_local, IsNamed, IsGood, looked, checked, HasStarted, HasCopied, HasLooked, HasAsked, HasChecked, HasTurned, HasFollowed}
-use Rattle.uni_small.specs.Standing.{IsCopying, IsLooking, IsAsking}
-use Rattle.uni_small.specs.declared.view.View.{View}
 use Rattle.uni_small.proofs.Frame.{Found, load_law}
 use Rattle.uni_small.proofs.Lists.{due_cases, due_last, due_same, due_snoc, get-contains, get_last, get_snoc, index_last, index_snoc, same_list, sum_most}
 use Rattle.uni_small.proofs.Rows.{begins_more}

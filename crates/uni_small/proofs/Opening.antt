@@ -1,19 +1,5 @@
 -- The table that is made shows the board that is opened.
-use Rattle.std.proofs.Common.{append-nil, append_assoc, ◌≡◌, ◌∙◌, ℕ, zero, suc, ◌+◌, ◌*◌, ◌<◌, ◌≤◌, refl, sym, ap, subst, List, [], ◌∷◌, ◌++◌, length, replicate, slice_index, arith, length-append, suc-mul}
-use Rattle.std.proofs.lemmas.List.{get_or-append-add, get_or-replicate, get_or_append_left, length-replicate, replicate-append-replicate}
-use Rattle.std.proofs.lemmas.Option.{slice_get_within}
-use mathlib.Core.Option.{some, some-injective, some-ne-none}
-use lib.ListN.{get_elem?}
-use Rattle.atomic_table.specs.Table.{opening}
-use Rattle.seq_object.specs.Sequential.{Sequential}
-use Rattle.uni_small.specs.declared.sizes.Sizes.{Sizes}
-use Rattle.uni_small.specs.Image.{AreWidths, Meaning, HasRows, buffer_words, first_held, first_image, held_place, joined, spell}
-use Rattle.uni_small.specs.View.{at_rest}
-use Rattle.uni_small.specs.Board.{argument_word, buffer_word, opened, words_before, words_of}
-use Rattle.uni_small.specs.Invariant.{AreHeld, IsBoard, IsSound}
-use Rattle.uni_small.specs.Shown.{AreWords, Tells, ShowsBoard}
-use Rattle.uni_small.specs.Plays.{first_view}
-use Rattle.uni_small.specs.declared.view.View.{View}
+use Rattle.uni_small.proofs.Vocabulary.{AreHeld, AreWidths, AreWords, HasRows, IsBoard, IsSound, List, Meaning, Sequential, ShowsBoard, Sizes, Tells, View, [], ap, append-nil, append_assoc, argument_word, arith, at_rest, buffer_word, buffer_words, first_held, first_image, first_view, get_elem?, get_or-append-add, get_or-replicate, get_or_append_left, held_place, joined, length, length-append, length-replicate, opened, opening, refl, replicate, replicate-append-replicate, slice_get_within, slice_index, some, some-injective, some-ne-none, spell, subst, suc, suc-mul, sym, words_before, words_of, zero, ℕ, ◌*◌, ◌++◌, ◌+◌, ◌<◌, ◌∙◌, ◌∷◌, ◌≡◌, ◌≤◌}
 use Rattle.uni_small.proofs.Images.{spell-length, spell-reply}
 use Rattle.uni_small.proofs.Rows.{later}
 

@@ -1,15 +1,5 @@
 -- A step of one process by which S, the image and the marks stay leaves the others where they are.
-use Rattle.std.proofs.Common.{◌≡◌, ◌∙◌, ℕ, ◌+◌, ◌*◌, ◌<◌, ◌≤◌, sym, ap, subst, List, length, map, slice_get, take, Option, arith}
-use Rattle.seq_object.specs.Sequential.{Sequential}
-use Rattle.seq_object.specs.History.{response_at}
-use Rattle.uni_model.specs.AtomicObject.{Atomic, Act, Invoked}
-use Rattle.uni_model.specs.ProcessCalls.{acts_by}
-use Rattle.uni_small.specs.declared.sizes.Sizes.{Sizes}
-use Rattle.uni_small.specs.View.{Local, Returned, Stage}
-use Rattle.uni_small.specs.View.Stage.{Idle, Last, Reading, Ready, Writing}
-use Rattle.uni_small.specs.Board.{Board}
-use Rattle.uni_small.specs.Invariant.{IsAt, IsCallAt, IsAttemptAt, IsClosed, IsOpen, HasTaken, HasSeen}
-use Rattle.uni_small.specs.Order.{IsOrdered}
+use Rattle.uni_small.proofs.Vocabulary.{Act, Atomic, Board, HasSeen, HasTaken, Idle, Invoked, IsAt, IsAttemptAt, IsCallAt, IsClosed, IsOpen, IsOrdered, Last, List, Local, Option, Reading, Ready, Returned, Sequential, Sizes, Stage, Writing, acts_by, ap, arith, length, map, response_at, slice_get, subst, sym, take, ℕ, ◌*◌, ◌+◌, ◌<◌, ◌∙◌, ◌≡◌, ◌≤◌}
 
 module _ (object : Sequential (List ℕ) (List ℕ) (List ℕ)) (sizes : Sizes) (g : Board) (announced' : ℕ → ℕ) (argument' : ℕ → List ℕ) (since' : ℕ → ℕ) (buffer' : ℕ → ℕ → ℕ) (atomic' : Atomic (List ℕ) (List ℕ)) (acts' : List (Act (List ℕ) (List ℕ))) where
   -- the board afterwards

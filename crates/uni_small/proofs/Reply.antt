@@ -1,27 +1,5 @@
 -- The load of the reply, by which a call returns.
-use Rattle.std.proofs.Common.{◌≡◌, ◌∙◌, ℕ, ◌+◌, ◌*◌, ◌<◌, ◌≤◌, inl, inr, refl, sym, ap, subst, List, [], ◌∷◌, ◌++◌, length, map, slice_index, Some, None, arith, append_assoc, length-append}
-use Rattle.std.proofs.lemmas.List.{set-get_or}
-use Rattle.atomic_table.specs.Table.{Me, Step}
-use Rattle.seq_object.specs.Sequential.{Sequential}
-use Rattle.seq_object.specs.History.{response_at}
-use Rattle.uni_model.specs.AtomicObject.{Atomic, Act, Invoked, at_start, set_at}
-use Rattle.uni_model.specs.AtomicObject.Act.{Invoke, Respond}
-use Rattle.uni_model.proofs.Written.{lt_cases}
-use Rattle.uni_model.proofs.Simulation.{set_at_same}
-use Rattle.uni_model.proofs.LawProofs.{set_at_elsewhere, AcceptsAll-append}
-use Rattle.uni_model.specs.ProcessCalls.{sequential_acts}
-use Rattle.uni_small.specs.declared.sizes.Sizes.{Sizes}
-use Rattle.uni_small.specs.View.{Local, Returned, ending, goes, plain, returns}
-use Rattle.uni_small.specs.View.Stage.{Last}
-use Rattle.uni_small.specs.Board.{Board, in_of, buffer_in, buffer_word, version_in}
-use Rattle.uni_small.specs.Order.{StandsIn}
-use Rattle.uni_small.specs.Invariant.{HasTaken, IsBeginning, IsOpen}
-use Rattle.uni_small.specs.Shown.{AreWords}
-use Rattle.uni_small.specs.Laws.{Moves, ends, nothing}
-use Rattle.uni_small.specs.Plays.{HasLoaded, HasReplied, stage_of, with_local}
-use Rattle.uni_small.specs.Standing.{IsLoading}
-use Rattle.uni_small.specs.Image.{Meaning, reply_of, reply_place}
-use Rattle.uni_small.specs.declared.view.View.{View}
+use Rattle.uni_small.proofs.Vocabulary.{AcceptsAll-append, Act, AreWords, Atomic, Board, HasLoaded, HasReplied, HasTaken, Invoke, Invoked, IsBeginning, IsLoading, IsOpen, Last, List, Local, Me, Meaning, Moves, None, Respond, Returned, Sequential, Sizes, Some, StandsIn, Step, View, [], ap, append_assoc, arith, at_start, buffer_in, buffer_word, ending, ends, goes, in_of, inl, inr, length, length-append, lt_cases, map, nothing, plain, refl, reply_of, reply_place, response_at, returns, sequential_acts, set-get_or, set_at, set_at_elsewhere, set_at_same, slice_index, stage_of, subst, sym, version_in, with_local, ℕ, ◌*◌, ◌++◌, ◌+◌, ◌<◌, ◌∙◌, ◌∷◌, ◌≡◌, ◌≤◌}
 use Rattle.uni_small.proofs.Frame.{Found, load_law, sound_with, step_law}
 use Rattle.uni_small.proofs.Rows.{begins_more, begins_whole, later}
 use Rattle.uni_small.proofs.Lists.{get_snoc}

@@ -1,14 +1,5 @@
 -- A room's image, and what it has of the processes that were seen.
-use Rattle.std.proofs.Common.{All, Bool, if◌then◌else◌, true, false, ◌≡◌, ◌∙◌, ℕ, zero, suc, ◌+◌, ◌*◌, ◌<◌, sym, ap, List, [], ◌∷◌, ◌++◌, length, map, set, slice_index, slice_set, subst, take, Some, None, arith}
-use Rattle.std.proofs.Math.Seq.{take-length}
-use Rattle.std.proofs.lemmas.List.{get_or-append-add, get_or_append_left}
-use borrow.Rule.Slice.PartMut.{put_mid}
-use Rattle.seq_object.specs.Sequential.{Sequential}
-use Rattle.uni_small.specs.Image.{AreWhole, HasRows, rows, spell, with_seen}
-use Rattle.uni_small.specs.Belongs.{HasInvocation, HasRoom, image_in, image_of_rows, seen_in}
-use Rattle.uni_small.specs.declared.seat.Room.{Room}
-use Rattle.uni_small.specs.declared.seat.Seen.{Seen}
-use Rattle.uni_small.specs.declared.sizes.Sizes.{Sizes}
+use Rattle.uni_small.proofs.Vocabulary.{All, AreWhole, Bool, HasInvocation, HasRoom, HasRows, List, None, Room, Seen, Sequential, Sizes, Some, [], ap, arith, false, get_or-append-add, get_or_append_left, if◌then◌else◌, image_in, image_of_rows, length, map, put_mid, rows, seen_in, set, slice_index, slice_set, spell, subst, suc, sym, take, take-length, true, with_seen, zero, ℕ, ◌*◌, ◌++◌, ◌+◌, ◌<◌, ◌∙◌, ◌∷◌, ◌≡◌}
 use Rattle.uni_small.proofs.Rows.{joined-rows, rows-even, rows-length, rows-set}
 
 module _ (sizes : Sizes) (room : Room) (has : HasRoom sizes room) where

@@ -1,10 +1,7 @@
 -- Rows of words, and the first words of a list.
-use Rattle.std.proofs.Common.{◌≡◌, ◌∙◌, ℕ, zero, suc, ◌+◌, ◌*◌, ◌<◌, refl, sym, ap, List, [], ◌∷◌, ◌++◌, length, slice_index, slice_index_or, slice_set, arith, take, drop, append_assoc, length-append, suc-mul, mul-le-mul_right, ◌≤◌, get_or-set_other, get_or-set_same, length-set}
-use Rattle.std.proofs.lemmas.List.{drop-append-le, drop-drop, drop-take, drop_at, get_or-append-add, get_or_append_left, length-drop, length-take-le, nil_from_length, take-append-drop, set-get_or, take_all, take_at, take_more, take_more_set}
+use Rattle.uni_small.proofs.Vocabulary.{IsBeginning, List, [], ap, append_assoc, arith, drop, drop-append-le, drop-drop, drop-take, drop_at, get_or-append-add, get_or-set_other, get_or-set_same, get_or_append_left, joined, length, length-append, length-drop, length-set, mul-le-mul_right, nil_from_length, put_mid, refl, rows, set-get_or, slice_index, slice_index_or, slice_set, suc, suc-mul, sym, take, take-append-drop, take_all, take_at, take_more, take_more_set, with_row, zero, ℕ, ◌*◌, ◌++◌, ◌+◌, ◌<◌, ◌∙◌, ◌∷◌, ◌≡◌, ◌≤◌}
+use Rattle.std.proofs.lemmas.List.{length-take-le}
 use Rattle.std.proofs.lemmas.Slice.{take-put_mid_below}
-use borrow.Rule.Slice.PartMut.{put_mid}
-use Rattle.uni_small.specs.Image.{joined, rows, with_row}
-use Rattle.uni_small.specs.Invariant.{IsBeginning}
 
 -- each of the rows has so many words
 abbrev pub AreEven : (wide : ℕ) → List (List ℕ) → Type 0

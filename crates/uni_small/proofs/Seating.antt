@@ -1,8 +1,5 @@
 -- One more seat in order.
-use Rattle.std.proofs.Common.{All, Some, slice_index_or, ◌≡◌, ◌∙◌, ℕ, ◌+◌, ◌<◌, inl, inr, sym, subst, List, [], ◌∷◌, ◌++◌, length-append, append_assoc, append-nil, flat_map, refl, ap, Contains, arith}
-use Rattle.std.proofs.lemmas.List.Elements.{Contains-append_cases, Contains-append_left, Contains-append_right}
-use Rattle.uni_small.specs.Belongs.{AreBuffers, IsFreshSeat, IsSeatOf, AreFirstSeats, HasRoom, known_calls}
-use Rattle.uni_small.specs.View.{ProcessReturned}
+use Rattle.uni_small.proofs.Vocabulary.{All, AreBuffers, AreFirstSeats, Contains, Contains-append_cases, Contains-append_left, Contains-append_right, HasRoom, IsFreshSeat, IsSeatOf, List, ProcessReturned, Some, [], ap, append-nil, append_assoc, arith, flat_map, inl, inr, known_calls, length-append, refl, slice_index_or, subst, sym, ℕ, ◌++◌, ◌+◌, ◌<◌, ◌∙◌, ◌∷◌, ◌≡◌}
 use Rattle.uni_small.specs.declared.log.SmallShared.{SmallShared}
 use Rattle.uni_small.specs.declared.seat.SmallSeat.{SmallSeat}
 use Rattle.uni_small.proofs.Lists.{get_snoc, get-contains, slice_get-index}

@@ -1,19 +1,5 @@
 -- A seat of several processes is cut in two.
-use Rattle.std.proofs.Common.{◌≡◌, ◌∙◌, ℕ, zero, suc, ◌<◌, ◌≤◌, ◌⊎◌, inl, inr, refl, sym, ap, subst, List, [], ◌∷◌, ◌++◌, length, arith, set, length-set}
-use mathlib.Core.Option.{some, some-injective, some-ne-none}
-use lib.ListN.{get_elem?}
-use Rattle.atomic_table.specs.Table.{Splits}
-use Rattle.atomic_table.proofs.Lists.{at_set}
-use Rattle.uni_model.specs.AtomicObject.{set_at}
-use Rattle.uni_model.proofs.Simulation.{set_at_same}
-use Rattle.uni_model.proofs.LawProofs.{set_at_elsewhere}
-use Rattle.uni_small.specs.Image.{Meaning}
-use Rattle.uni_small.specs.declared.sizes.Sizes.{Sizes}
-use Rattle.uni_small.specs.View.{Local}
-use Rattle.uni_small.specs.Board.{Board}
-use Rattle.uni_small.specs.Shown.{Tells, IsShown, ShowsBoard}
-use Rattle.uni_small.specs.Plays.{first_alone, others}
-use Rattle.uni_small.specs.declared.view.View.{View}
+use Rattle.uni_small.proofs.Vocabulary.{Board, IsShown, List, Local, Meaning, ShowsBoard, Sizes, Splits, Tells, View, [], ap, arith, at_set, first_alone, get_elem?, inl, inr, length, length-set, others, refl, set, set_at, set_at_elsewhere, set_at_same, some, some-injective, some-ne-none, subst, suc, sym, zero, ℕ, ◌++◌, ◌<◌, ◌∙◌, ◌∷◌, ◌≡◌, ◌≤◌, ◌⊎◌}
 
 -- an element of a list with one more at its end
 at_end : {A : Type 0} (l : List A) (a b : A) (j : ℕ) → get_elem? (l ++ a ∷ []) j ≡ some b → (get_elem? l j ≡ some b) ⊎ ((j ≡ length l) × (a ≡ b))

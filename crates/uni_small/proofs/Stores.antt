@@ -1,22 +1,5 @@
 -- The word steps that store.
-use Rattle.std.proofs.Common.{◌≡◌, ◌≢◌, ◌∙◌, ℕ, ◌+◌, ◌*◌, ◌<◌, ◌≤◌, inl, inr, refl, sym, ap, subst, List, [], ◌∷◌, ◌++◌, length, slice_index, slice_set, Some, append-nil, arith, length-set, get_or-set_same, get_or-set_other}
-use Rattle.atomic_table.specs.Table.{Me, Step}
-use Rattle.seq_object.specs.Sequential.{Sequential}
-use Rattle.uni_model.specs.AtomicObject.{Atomic, Act, at_start, set_at}
-use Rattle.uni_model.specs.AtomicObject.Act.{Invoke}
-use Rattle.uni_model.proofs.Written.{set_at-cases, number_cases}
-use Rattle.uni_model.proofs.Simulation.{set_at_same}
-use Rattle.uni_model.proofs.LawProofs.{set_at_elsewhere, AcceptsAll-append}
-use Rattle.uni_small.specs.declared.sizes.Sizes.{Sizes}
-use Rattle.uni_small.specs.Image.{Meaning, buffer_words, due_at, held_place, reply_place, spell, with_seen}
-use Rattle.uni_small.specs.View.{Local, announces, goes, wrote}
-use Rattle.uni_small.specs.View.Stage.{Idle, Writing}
-use Rattle.uni_small.specs.Board.{Board, in_of, announce_word, argument_word, buffer_word}
-use Rattle.uni_small.specs.Invariant.{AreHeld, IsAttemptAt, IsBeginning, IsCallAt, IsClosed, IsOpen, most_calls}
-use Rattle.uni_small.specs.Laws.{Moves, nothing, begins}
-use Rattle.uni_small.specs.Plays.{HasAnnounced, HasStored, HasWritten, stage_of, with_local}
-use Rattle.uni_small.specs.Standing.{IsStoring, IsWriting}
-use Rattle.uni_small.specs.declared.view.View.{View}
+use Rattle.uni_small.proofs.Vocabulary.{AcceptsAll-append, Act, AreHeld, Atomic, Board, HasAnnounced, HasStored, HasWritten, Idle, Invoke, IsAttemptAt, IsBeginning, IsCallAt, IsClosed, IsOpen, IsStoring, IsWriting, List, Local, Me, Meaning, Moves, Sequential, Sizes, Some, Step, View, Writing, [], announce_word, announces, ap, append-nil, argument_word, arith, at_start, begins, buffer_word, buffer_words, due_at, get_or-set_other, get_or-set_same, goes, held_place, in_of, inl, inr, length, length-set, most_calls, nothing, number_cases, refl, reply_place, set_at, set_at-cases, set_at_elsewhere, set_at_same, slice_index, slice_set, spell, stage_of, subst, sym, with_local, with_seen, wrote, ℕ, ◌*◌, ◌++◌, ◌+◌, ◌<◌, ◌∙◌, ◌∷◌, ◌≡◌, ◌≢◌, ◌≤◌}
 use Rattle.uni_small.proofs.Frame.{step_law, sound_with}
 use Rattle.uni_small.proofs.Images.{spell-reply}
 use Rattle.uni_small.proofs.Loads.{call_at, attempt_at}

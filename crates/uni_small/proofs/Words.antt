@@ -1,11 +1,5 @@
 -- The words after a store are those of the board after it.
-use Rattle.std.proofs.Common.{◌≡◌, ◌≢◌, ◌∙◌, ℕ, suc, ◌+◌, ◌*◌, ◌<◌, ◌≤◌, ◌⊎◌, inl, inr, sym, ap, List, length, slice_index, slice_set, arith, length-set, get_or-set_same, get_or-set_other, mul-le-mul_right, suc-mul}
-use Rattle.uni_model.specs.AtomicObject.{set_at}
-use Rattle.uni_model.proofs.Written.{set_at-cases, number_cases, lt_cases}
-use Rattle.uni_small.specs.Image.{buffer_words, held_place, reply_place}
-use Rattle.uni_small.specs.Board.{Board, words_of, current_word, announce_word, argument_word, buffer_word}
-use Rattle.uni_small.specs.Shown.{AreWords}
-use Rattle.uni_small.specs.declared.sizes.Sizes.{Sizes}
+use Rattle.uni_small.proofs.Vocabulary.{AreWords, Board, List, Sizes, announce_word, ap, argument_word, arith, buffer_word, buffer_words, current_word, get_or-set_other, get_or-set_same, held_place, inl, inr, length, length-set, lt_cases, mul-le-mul_right, number_cases, reply_place, set_at, set_at-cases, slice_index, slice_set, suc, suc-mul, sym, words_of, ℕ, ◌*◌, ◌+◌, ◌<◌, ◌∙◌, ◌≡◌, ◌≢◌, ◌≤◌, ◌⊎◌}
 
 module _ (sizes : Sizes) where
   -- a buffer's words end where the next one's begin

@@ -1,10 +1,5 @@
 -- Seats that are taken in one after another.
-use Rattle.std.proofs.Common.{All, Contains, flat_map, map, ℕ, ◌≡◌, ◌⊎◌, inl, inr, sym, subst, List, [], ◌∷◌, ◌++◌, arith}
-use Rattle.std.proofs.lemmas.List.Elements.{All-append, All-contains, All-head, All-map, All-tail, Contains-append_left, Contains-append_right, Contains-push_cases}
-use Rattle.uni_model.specs.ProcessCalls.{ProcessCalls}
-use Rattle.uni_words.specs.Belongs.{calls_of, known_calls, seen_by}
-use Rattle.uni_words.specs.View.{Seen}
-use Rattle.uni_words.specs.declared.seat.WordSeat.{WordSeat}
+use Rattle.uni_words.proofs.Vocabulary.{All, All-append, All-contains, All-head, All-map, All-tail, Contains, Contains-append_left, Contains-append_right, Contains-push_cases, List, ProcessCalls, Seen, WordSeat, [], arith, calls_of, flat_map, inl, inr, known_calls, map, seen_by, subst, sym, ℕ, ◌++◌, ◌∷◌, ◌≡◌, ◌⊎◌}
 use Rattle.uni_words.proofs.Views.{All-each, first_or, first_there}
 
 -- what holds of each element of each list

@@ -1,19 +1,6 @@
 -- A log in which each process's calls are those that its seat was told agrees with the seats.
-use Rattle.std.proofs.Common.{All, Contains, ◌≡◌, ◌∙◌, ℕ, zero, suc, ◌<◌, inl, inr, refl, sym, ap, subst, List, [], ◌∷◌, length, map, slice_get, Option, Some, None}
-use Rattle.std.proofs.lemmas.List.{length-map}
-use Rattle.std.proofs.lemmas.List.Elements.{All-contains}
-use Rattle.seq_object.specs.Sequential.{Sequential}
-use Rattle.seq_object.specs.History.{IsLegal, response_at}
+use Rattle.uni_words.proofs.Vocabulary.{Agrees, All, All-contains, AreAllSeats, AreCallsOf, Contains, Entry, IsLegal, IsLogged, List, None, Option, Sequential, Some, WordLog, WordSeat, [], ap, calls_by, calls_of, inl, inr, length, length-map, logged_call, map, map-logged_call, number_cases, own_calls, refl, replied, response_at, slice_get, subst, suc, sym, zero, ℕ, ◌<◌, ◌∙◌, ◌∷◌, ◌≡◌}
 use Rattle.seq_object.proofs.Legality.{IsLegalByPlaces-from_IsLegal}
-use Rattle.uni_model.specs.Chain.{Entry}
-use Rattle.uni_model.specs.History.{logged_call}
-use Rattle.uni_model.proofs.Joined.{map-logged_call}
-use Rattle.uni_model.proofs.Written.{number_cases}
-use Rattle.uni_words.specs.Belongs.{AreAllSeats, calls_of, own_calls}
-use Rattle.uni_words.specs.Compare.{Agrees}
-use Rattle.uni_words.specs.Log.{AreCallsOf, IsLogged, calls_by, replied}
-use Rattle.uni_words.specs.declared.log.WordLog.{WordLog}
-use Rattle.uni_words.specs.declared.seat.WordSeat.{WordSeat}
 use Rattle.uni_words.proofs.Comparing.{slice_get-map}
 use Rattle.uni_words.proofs.Views.{first_there, later_there}
 use Rattle.uni_words.proofs.Underway.{there_below}

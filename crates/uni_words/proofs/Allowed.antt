@@ -1,18 +1,6 @@
 -- What the functions of the word steps ask, in parts.
-use Rattle.std.proofs.Common.{◌≡◌, ◌∙◌, ℕ, zero, suc, ◌+◌, ◌*◌, ◌<◌, ◌≤◌, inl, inr, refl, sym, ap, subst, Option, Some, None, option_map, arith, nat_lt, eqb, if◌then◌else◌, ◌==◌}
-use Rattle.std.specs.Option.{option_or}
-use prog.Atomic.{either}
-use Rattle.uni_words.proofs.Names.{Allows, Announce, Content, Finish, HasLooked, HasMoved, InvOf, IsWithin, Me, Memory, Moved, Name, Of, Pending, Place, ReadAnnounce, Reading, Sequential, Stage, Step, Test, View, begun_by, cells_of, content_of, index_in, index_of, link_of, looked_at, moved_at, name_of, none, stage_found, start_of, step, word_of}
-use Rattle.atomic_table.proofs.Lists.{exchanged}
-use Rattle.uni_model.specs.Places.Content.{Link}
-use Rattle.uni_model.specs.Transition.{place_of, content_after, turn_of}
-use Rattle.uni_model.proofs.Written.{lt_cases, number_cases}
-use Rattle.uni_model.proofs.Indices.{name_of-index_of}
-use Rattle.uni_model.specs.Effects.{call_after}
-use Rattle.uni_words.specs.Standing.{IsAtStage, GoesBy, IsIdle}
-use Rattle.uni_words.specs.Rule.{Rule}
-use Rattle.uni_words.specs.declared.rule.Setup.{Setup}
-use Rattle.uni_words.specs.declared.log.WordLog.{WordLog}
+use Rattle.uni_words.proofs.Vocabulary.{Allows, Announce, Content, Finish, GoesBy, HasLooked, HasMoved, InvOf, IsAtStage, IsIdle, IsWithin, Link, Me, Memory, Moved, Name, None, Of, Option, Pending, Place, ReadAnnounce, Reading, Rule, Sequential, Setup, Some, Stage, Test, View, WordLog, ap, arith, begun_by, call_after, cells_of, content_after, content_of, either, eqb, exchanged, if◌then◌else◌, index_in, index_of, inl, inr, link_of, looked_at, lt_cases, moved_at, name_of, name_of-index_of, nat_lt, none, number_cases, option_map, option_or, place_of, refl, stage_found, start_of, step, subst, suc, sym, turn_of, word_of, zero, ℕ, ◌*◌, ◌+◌, ◌<◌, ◌==◌, ◌∙◌, ◌≡◌, ◌≤◌}
+use Rattle.atomic_table.specs.Table.{Step}
 use Rattle.uni_words.proofs.Columns.{index_in-name_of, word_below}
 use Rattle.uni_words.proofs.Moving.{GoesOn, moves}
 

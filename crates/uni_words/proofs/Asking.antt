@@ -1,18 +1,8 @@
 -- A seat asks about a call.
-use Rattle.std.proofs.Common.{All, ◌≡◌, ◌∙◌, ℕ, zero, suc, ◌+◌, ◌<◌, ◌≤◌, inl, inr, refl, sym, ap, subst, List, [], ◌∷◌, append-nil, length, map, slice_get, slice_index, slice_set, Contains, Some, None, option_and_then, arith}
-use Rattle.std.proofs.lemmas.List.Elements.{All-append, All-contains, All-map, Contains-append_cases}
-use Rattle.uni_words.proofs.Names.{Allows, Anchor, Event, FirstCalls, HasAsked, HasCall, InvOf, IsShown, Known, LeadsTo, Me, Name, Of, Seen, SeqOf, Sequential, ShowsRun, State, Step, View, WorldOf, all_of, asked_of, calls_in_view, chain, get_elem?, inv_of, keeps, logged_in_view, own_of, seen_of, seq_of, some, told_by, up_to, word_at, word_of}
-use Rattle.seq_object.specs.declared.call_id.CallId.{CallId}
-use Rattle.uni_model.specs.Chain.{response_in}
-use Rattle.uni_model.specs.Eras.{HasReturned, StandsAt}
-use Rattle.uni_model.specs.History.{log, log_of_run}
-use Rattle.uni_model.specs.Invariant.{Has}
-use Rattle.uni_model.specs.ProcessCalls.{ProcessCalls}
+use Rattle.uni_words.proofs.Vocabulary.{All, All-append, All-contains, All-map, Allows, Anchor, CallId, Contains, Contains-append_cases, Event, FirstCalls, Has, HasAsked, HasCall, HasReturned, HasSeen, InvOf, IsShown, Known, Leads, LeadsTo, List, Me, Name, None, Of, ProcessCalls, Seen, SeqOf, Sequential, ShowsRun, Some, StandInLog, StandsAt, State, View, WorldOf, [], after_word, all_of, ap, append-nil, arith, asked_of, calls_in_view, chain, get_elem?, inl, inr, inv_of, keeps, length, log, log_of_run, logged_in_view, lt_cases, map, opened, option_and_then, own_of, refl, response_in, seen_of, seq_of, slice_get, slice_index, slice_set, some, subst, suc, sym, told_by, up_to, word_at, word_of, zero, ℕ, ◌+◌, ◌<◌, ◌∙◌, ◌∷◌, ◌≡◌, ◌≤◌}
+use Rattle.atomic_table.specs.Table.{Step}
 use Rattle.uni_model.proofs.Growing.{entry_of, slice_get-log}
 use Rattle.uni_model.proofs.OneLists.{HasOneList-held}
-use Rattle.uni_model.proofs.Written.{lt_cases}
-use Rattle.uni_words.specs.Laws.{Leads, after_word}
-use Rattle.uni_words.specs.Run.{StandInLog, opened, HasSeen}
 use Rattle.uni_words.proofs.Columns.{one_place}
 use Rattle.uni_words.proofs.Happens.{knows_more, own_local}
 use Rattle.uni_words.proofs.Locality.{word_here}

@@ -1,17 +1,7 @@
 -- The word step that begins a call.
-use Rattle.std.proofs.Common.{◌≡◌, ◌≢◌, ◌∙◌, ℕ, ◌+◌, ◌<◌, ◌≤◌, inl, inr, refl, sym, ap, subst, List, [], ◌∷◌, length, slice_set, Some, None, arith, Bool, true, false, cond, nat_lt, length-set}
-use Rattle.uni_words.proofs.Names.{AfterOf, Allows, Anchor, Announce, Announced, BeforeOf, HasBegun, HeadOf, InvOf, IsLocal, IsShown, Known, Me, Memory, Name, NewOf, Of, Place, SeqOf, Sequential, ShowsRun, State, Step, View, WorldOf, begun_by, content_of, get_elem?, inv_of, invocation_in, keeps, memory_of, memory_with, pending_count, place_eq, some, word_at, word_of, world_after_call}
+use Rattle.uni_words.proofs.Vocabulary.{AfterOf, Allows, Anchor, Announce, Announced, BeforeOf, Bool, Call, CountsSteps-world_after, Grows, HasBegun, HeadOf, HelpingInvariant-begun, InvOf, Invariant-begun, IsLocal, IsShown, Known, Leads, List, Me, Memory, Name, NewOf, None, Of, Place, SeqOf, Sequential, ShowsRun, Some, State, View, WorldOf, [], after_word, ap, arith, begun_by, cond, content_of, false, get_elem?, inl, inr, inv_of, invocation_in, keeps, length, length-set, lt_cases, memory_of, memory_with, nat_lt, number_cases, pending_count, place_eq, place_eq_false, place_eq_true, refl, set_at_elsewhere, set_at_same, slice_set, some, subst, sym, true, word_at, word_of, world_after_call, ℕ, ◌+◌, ◌<◌, ◌∙◌, ◌∷◌, ◌≡◌, ◌≢◌, ◌≤◌}
+use Rattle.atomic_table.specs.Table.{Step}
 use Rattle.uni_model.specs.Places.Content.{Invocation}
-use Rattle.uni_model.specs.Worlds.Event.{Call}
-use Rattle.uni_model.specs.Settled.{Grows}
-use Rattle.uni_model.proofs.Written.{number_cases, lt_cases, place_eq_true}
-use Rattle.uni_model.proofs.LawProofs.{set_at_elsewhere}
-use Rattle.uni_model.proofs.Simulation.{set_at_same}
-use Rattle.uni_model.proofs.SamePlace.{place_eq_false}
-use Rattle.uni_model.proofs.Kept.{Invariant-begun}
-use Rattle.uni_model.proofs.Bounded.{HelpingInvariant-begun}
-use Rattle.uni_model.proofs.Counted.{CountsSteps-world_after}
-use Rattle.uni_words.specs.Laws.{Leads, after_word}
 use Rattle.uni_words.proofs.Locality.{set_here, set_elsewhere}
 use Rattle.uni_words.proofs.Underway.{HasOutcome-grows, last_number-grows}
 use Rattle.uni_words.proofs.Happens.{own_local, keeps_rule}

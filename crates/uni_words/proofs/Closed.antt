@@ -1,25 +1,11 @@
 -- What closing tells, in the words of the log.
-use Rattle.std.proofs.Common.{All, ◌≡◌, ◌∙◌, ℕ, List, length, None, map, sym, ap, subst, arith, inl, inr, ◌≤◌, slice_get, take, Contains, Some}
-use Rattle.atomic_table.specs.Table.{State, Final, Seen}
-use Rattle.seq_object.specs.Sequential.{Sequential}
-use Rattle.seq_object.specs.History.{IsLegal}
-use Rattle.uni_model.specs.Places.{seq_of}
-use Rattle.uni_model.specs.Places.Name.{Anchor, Of}
-use Rattle.uni_model.specs.History.{log, log_of_run, logged_call}
-use Rattle.uni_model.specs.Worlds.{WorldOf, Event}
+use Rattle.uni_words.proofs.Vocabulary.{All, Anchor, AreAnswered, AreCallCells, AreCallsOf, Contains, Event, Final, HasOutcome, HasSeen, IsChained, IsInOrder, IsLegal, IsLogOfRun, IsLogOfSeenRun, IsLogged, IsShown, LastHasNumber, LeadsTo, List, None, Of, ProcessCalls, Rule, Sequential, Setup, Some, State, View, WorldOf, acts_by, ap, arith, calls_by, calls_in_view, inl, inr, length, log, log_of, log_of_run, logged_call, map, opened, replied, run_history, seq_of, sequential_acts, slice_get, subst, sym, take, told_memory, ℕ, ◌∙◌, ◌≡◌, ◌≤◌}
+use Rattle.atomic_table.specs.Table.{Seen}
 use Rattle.uni_model.specs.Responses.{HoldsResponses, calls_among}
 use Rattle.uni_model.proofs.Ordered.{KeepsRealTime-holds}
 use Rattle.uni_model.proofs.Responses.{LogsResponses-holds}
 use Rattle.uni_model.proofs.Universal.{RunIsUniversal-holds}
-use Rattle.uni_model.specs.ProcessCalls.{ProcessCalls, acts_by, sequential_acts}
-use Rattle.uni_words.specs.Log.{AreAnswered, AreCallsOf, AreCallCells, LastHasNumber, IsChained, IsInOrder, IsLogged, told_memory, log_of, calls_by, replied}
-use Rattle.uni_words.specs.Rule.{Rule}
-use Rattle.uni_words.specs.Run.{HasSeen, IsLogOfRun, IsLogOfSeenRun, opened, run_history}
-use Rattle.uni_words.specs.Seats.{calls_in_view}
-use Rattle.uni_words.specs.Shown.{HasOutcome, IsShown, LeadsTo}
 use Rattle.uni_words.specs.View.{Seen as SeenCalls, own_of}
-use Rattle.uni_words.specs.declared.rule.Setup.{Setup}
-use Rattle.uni_words.specs.declared.view.View.{View}
 use Rattle.uni_words.proofs.Closing.{calls_inside, log_of_world, shows_chain, call_cells, legal_log, answered_log}
 use Rattle.uni_words.proofs.Joining.{ended_local}
 use Rattle.uni_words.proofs.Rising.{last_numbered}

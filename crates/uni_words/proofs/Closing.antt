@@ -1,19 +1,8 @@
 -- What the words of a closed table show.
-use Rattle.std.proofs.Common.{◌≡◌, ◌∙◌, ℕ, ◌+◌, ◌*◌, ◌<◌, ◌≤◌, inl, inr, refl, sym, ap, subst, map, slice_get, Some, None, option_map, arith, true}
-use Rattle.uni_words.proofs.Names.{Anchor, IsShown, Memory, Name, Of, Sequential, State, View, WorldOf, after_of, calls_in_era, inv_of, memory_of, seq_of}
-use Rattle.seq_object.specs.History.{IsLegal}
-use Rattle.uni_model.specs.Chain.{cells_from, entries_from, invoked_at, response_in}
-use Rattle.uni_model.specs.History.{log, logged_call}
-use Rattle.uni_model.specs.Counting.{era_calls}
-use Rattle.uni_model.specs.Invariant.{IsNumbered, IsSound}
+use Rattle.uni_words.proofs.Vocabulary.{Anchor, AreAnswered, AreCallsOf, IsChained, IsLegal, IsNumbered, IsShown, IsSound, Memory, Name, None, Of, Sequential, Some, State, View, WorldOf, after_of, ap, arith, calls_in_era, cells_from, enough, entries_from, era_calls, inl, inr, inv_of, invoked_at, is_call_cell, log, log_of, logged_call, lt_cases, map, memory_of, number_of_entry, option_map, refl, response_in, seq_of, slice_get, subst, sum_below-bound, sym, told_memory, true, ℕ, ◌*◌, ◌+◌, ◌<◌, ◌∙◌, ◌≡◌, ◌≤◌}
 use Rattle.uni_model.proofs.Chains.{cells_from-enough, cells_from-same, number_at}
-use Rattle.uni_model.proofs.Eras.{number_of_entry}
 use Rattle.uni_model.proofs.Logged.{legal_from, settled_from}
-use Rattle.uni_model.proofs.Ranges.{sum_below-bound}
 use Rattle.uni_model.proofs.SameLog.{entries_from-same}
-use Rattle.uni_model.proofs.Simulation.{enough}
-use Rattle.uni_model.proofs.Written.{lt_cases}
-use Rattle.uni_words.specs.Log.{AreAnswered, AreCallsOf, IsChained, is_call_cell, log_of, told_memory}
 
 module _ (object : Sequential ℕ ℕ ℕ) (row : ℕ) (w : WorldOf ℕ ℕ ℕ) (s : State ℕ View) (is : IsShown object row w s) where
   abbrev told : Memory ℕ ℕ ℕ

@@ -1,10 +1,6 @@
 -- Each word is one place, and each place of the table has its own word.
-use Rattle.std.proofs.Common.{◌≡◌, ◌∙◌, ℕ, zero, suc, ◌+◌, ◌*◌, ◌/◌, ◌%◌, ◌<◌, ◌≤◌, inl, inr, refl, sym, ap, subst, Option, Some, None, option_map, arith, mul-le-mul_right, suc-mul, nat_lt, if◌then◌else◌}
-use Rattle.std.proofs.lemmas.Nat.{div-add-mod', mod_below}
+use Rattle.uni_words.proofs.Vocabulary.{AfterOf, Anchor, Announced, BeforeOf, HeadOf, InvOf, Name, NewOf, None, Of, Option, Place, SeqOf, Some, ap, arith, cells_of, column_of, div-add-mod', if◌then◌else◌, index_in, index_of, inl, inr, lt_cases, mod_below, mul-le-mul_right, name_of, name_of-index_of, nat_lt, offset_of, option_map, refl, start_of, subst, suc, suc-mul, sym, word_of, words_of, zero, ℕ, ◌%◌, ◌*◌, ◌+◌, ◌/◌, ◌<◌, ◌∙◌, ◌≡◌, ◌≤◌}
 use Rattle.std.proofs.Math.Nat.{div-lt_iff_lt-mul}
-use Rattle.uni_words.proofs.Names.{AfterOf, Anchor, Announced, BeforeOf, HeadOf, InvOf, Name, NewOf, Of, Place, SeqOf, cells_of, column_of, index_in, index_of, name_of, offset_of, start_of, word_of, words_of}
-use Rattle.uni_model.proofs.Written.{lt_cases}
-use Rattle.uni_model.proofs.Indices.{name_of-index_of}
 
 -- an index whose process and number fit is in the table
 pub index_in-there : (n row i : ℕ) → i % n < n → i / n < row → suc i < cells_of n row

@@ -1,13 +1,5 @@
 -- Comparing a log with what callers were told, entry by entry.
-use Rattle.std.proofs.Common.{◌≡◌, ◌≢◌, ◌∙◌, ℕ, zero, suc, ◌+◌, ◌<◌, ◌≤◌, inl, inr, refl, sym, ap, subst, List, [], ◌∷◌, ◌++◌, append-nil, append_assoc, length, map, slice_get, slice_index_or, take, drop, Option, Some, None, option_map, arith, ◌==◌, cond}
-use Rattle.std.proofs.lemmas.List.{drop_all, take_all}
-use Rattle.seq_object.specs.Sequential.{Sequential}
-use Rattle.seq_object.specs.History.{state_after, response_at}
-use Rattle.seq_object.specs.declared.call_id.CallId.{CallId}
-use Rattle.uni_model.specs.Chain.{Entry}
-use Rattle.uni_model.proofs.Written.{number_cases, lt_cases}
-use Rattle.uni_words.specs.Compare.{invocations_of, Agrees, IsRight, IsFirstWrong, IsFirstOther, DiffersFirstAt}
-use Rattle.uni_words.specs.Log.{calls_by, entry_shown, replied}
+use Rattle.uni_words.proofs.Vocabulary.{Agrees, CallId, DiffersFirstAt, Entry, IsFirstOther, IsFirstWrong, IsRight, List, None, Option, Sequential, Some, [], ap, append-nil, append_assoc, arith, calls_by, cond, drop, drop_all, entry_shown, inl, inr, invocations_of, length, lt_cases, map, number_cases, option_map, refl, replied, response_at, slice_get, slice_index_or, state_after, subst, suc, sym, take, take_all, zero, ℕ, ◌++◌, ◌+◌, ◌<◌, ◌==◌, ◌∙◌, ◌∷◌, ◌≡◌, ◌≢◌, ◌≤◌}
 use Rattle.uni_words.specs.declared.read.WordEntry.{WordEntry}
 use Rattle.uni_words.proofs.OwnCalls.{drop-here}
 use Rattle.uni_words.proofs.Underway.{there_below}

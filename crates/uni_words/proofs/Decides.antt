@@ -1,14 +1,7 @@
 -- The exchange of `new`, which is always tried.
-use Rattle.std.proofs.Common.{◌≡◌, ◌≢◌, ◌∙◌, ℕ, zero, suc, ◌+◌, ◌*◌, ◌<◌, ◌^◌, inl, inr, refl, sym, ap, subst, slice_index, Option, Some, arith, eqb}
-use Rattle.std.specs.Option.{option_or}
-use prog.Atomic.{either}
-use Rattle.uni_words.proofs.Names.{Allows, Anchor, Content, DecideNew, HasMoved, HasRead, IsShown, Known, Me, Moved, Name, NewOf, Of, Pending, Sequential, ShowsRun, Stage, Step, View, WorldOf, WriteBefore, content_of, inv_of, keeps, moved_at, new_of, settled_at, settled_in, settled_word, stage_found, word_of}
-use Rattle.atomic_table.proofs.Lists.{exchanged}
-use Rattle.uni_model.specs.Places.Content.{Settled}
-use Rattle.uni_model.specs.Transition.{value_after}
-use Rattle.uni_model.proofs.Written.{new_of-memory_with}
+use Rattle.uni_words.proofs.Vocabulary.{Allows, Anchor, Applied, Content, DecideNew, HasMoved, HasRead, IsShown, Known, Me, Moved, Name, NewOf, Of, Option, Pending, Sequential, Settled, ShowsRun, Some, Stage, View, WorldOf, WriteBefore, ap, arith, content_of, either, eqb, exchanged, inl, inr, inv_of, keeps, moved_at, new_of, new_of-memory_with, option_or, refl, settled_at, settled_in, settled_word, slice_index, stage_found, subst, suc, sym, value_after, word_of, zero, ℕ, ◌*◌, ◌+◌, ◌<◌, ◌^◌, ◌∙◌, ◌≡◌, ◌≢◌}
+use Rattle.atomic_table.specs.Table.{Step}
 use Rattle.uni_model.proofs.Values.{not_anchor}
-use Rattle.uni_words.specs.View.Reading.{Applied}
 use Rattle.uni_words.proofs.Codes.{settled_at-word}
 use Rattle.uni_words.proofs.Within.{within}
 use Rattle.uni_words.proofs.Happens.{effect, later, there}

@@ -1,16 +1,6 @@
 -- The last step of a call.
-use Rattle.std.proofs.Common.{◌≡◌, ◌∙◌, ℕ, zero, suc, ◌+◌, ◌<◌, ◌≤◌, ◌⊎◌, inl, inr, refl, sym, ap, subst, List, [], ◌∷◌, ◌++◌, length, length-append, slice_get, slice_index, slice_set, Option, Some, None, arith, length-set}
-use Rattle.std.proofs.lemmas.List.{set-get_or}
-use Rattle.uni_words.proofs.Names.{Allows, Content, Finish, HasFinished, HasRead, HasOutcome, HeadOf, IsLocal, IsShown, Known, Me, Name, NewOf, Of, Pending, Sequential, ShowsRun, State, TellsReply, View, WorldOf, content_of, finished_by, get_elem?, keeps, last_number, memory_of, memory_with, name_of, number_of, pending_count, reply_in, seq_of, some, word_of}
+use Rattle.uni_words.proofs.Vocabulary.{Allows, CellName, Content, Finish, Grows, HasFinished, HasOutcome, HasRead, HeadOf, IsLocal, IsShown, Known, Leads, List, Me, Name, NewOf, None, Of, Option, Pending, Reply, Sequential, ShowsRun, Some, State, Step, TellsReply, View, WorldOf, [], after_word, ap, arith, content_of, finished_by, get_elem?, inl, inr, keeps, last_number, length, length-append, length-set, lt_cases, memory_of, memory_with, name_of, number_of, pending_count, refl, reply_in, response_in, seq_of, set-get_or, set_at_same, slice_get, slice_index, slice_set, some, subst, suc, sym, word_of, written_same, zero, ℕ, ◌++◌, ◌+◌, ◌<◌, ◌∙◌, ◌∷◌, ◌≡◌, ◌≤◌, ◌⊎◌}
 use Rattle.atomic_table.specs.Table as table
-use Rattle.uni_model.specs.Places.Content.{CellName}
-use Rattle.uni_model.specs.Chain.{response_in}
-use Rattle.uni_model.specs.Settled.{Grows}
-use Rattle.uni_model.specs.Worlds.Event.{Step}
-use Rattle.uni_model.proofs.Simulation.{set_at_same}
-use Rattle.uni_model.proofs.Written.{lt_cases, written_same}
-use Rattle.uni_words.specs.View.Reading.{Reply}
-use Rattle.uni_words.specs.Laws.{Leads, after_word}
 use Rattle.uni_words.proofs.Underway.{HasOutcome-grows, there_below}
 use Rattle.uni_words.proofs.Happens.{own_local, effect, later, memory_grows, memory_set, kept}
 use Rattle.uni_words.proofs.Running.{led, run_ends}

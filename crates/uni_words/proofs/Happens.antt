@@ -1,21 +1,6 @@
 -- A word step keeps the rule: what has to be shown of it, and of a step that is an event.
-use Rattle.std.proofs.Common.{◌≡◌, ◌≢◌, ◌∙◌, ℕ, zero, suc, ◌+◌, ◌<◌, ◌≤◌, ◌^◌, inl, inr, ⊎_elim, refl, sym, ap, subst, List, [], ◌∷◌, length, slice_index, slice_set, Contains, Option, Some, None, IsSome, arith, set}
-use Rattle.std.proofs.lemmas.List.{set-get_or}
-use Rattle.uni_words.proofs.Names.{Anchor, IsAmong, IsLocal, IsShown, IsTaken, Known, Name, Of, Pending, Place, Process, Sequential, State, Tells, View, WorldOf, content_of, get_elem?, memory_of, memory_with, new_of, some, some-injective, some-ne-none, word_of, words_of, world_after, world_after_step}
-use Rattle.atomic_table.proofs.Lists.{at_set}
-use Rattle.uni_model.specs.Transition.{place_of, turn_of}
-use Rattle.uni_model.specs.Effects.{effect_in, Effect, call_after}
-use Rattle.uni_model.specs.Worlds.Event.{Step}
+use Rattle.uni_words.proofs.Vocabulary.{Anchor, Contains, CountsSteps, CountsSteps-world_after, Effect, Grows, Grows-same, HelpingInvariant-world_after_step, Invariant-world_after_step, IsAmong, IsLocal, IsShown, IsSome, IsTaken, Known, List, Name, None, Of, Option, Pending, Place, Process, ProcessCalls, Sequential, Some, State, Step, Tells, View, WorldOf, [], ap, arith, at_set, call_after, content_of, effect_in, get_elem?, inl, inr, length, memory_of, memory_with, new_of, number_cases, place_of, refl, set, set-get_or, set_at_elsewhere, slice_index, slice_set, some, some-injective, some-ne-none, subst, suc, sym, turn_of, word_of, words_of, world_after, world_after_step, zero, ℕ, ⊎_elim, ◌+◌, ◌<◌, ◌^◌, ◌∙◌, ◌∷◌, ◌≡◌, ◌≢◌, ◌≤◌}
 use Rattle.uni_model.specs.Helping.{HelpingInvariant}
-use Rattle.uni_model.specs.Counting.{CountsSteps}
-use Rattle.uni_model.specs.Settled.{Grows}
-use Rattle.uni_model.proofs.SamePlace.{Grows-same}
-use Rattle.uni_model.proofs.Written.{number_cases}
-use Rattle.uni_model.proofs.LawProofs.{set_at_elsewhere}
-use Rattle.uni_model.proofs.Kept.{Invariant-world_after_step}
-use Rattle.uni_model.proofs.Bounded.{HelpingInvariant-world_after_step}
-use Rattle.uni_model.proofs.Counted.{CountsSteps-world_after}
-use Rattle.uni_model.specs.ProcessCalls.{ProcessCalls}
 use Rattle.uni_words.proofs.Locality.{memory_at, word_here, words_written}
 use Rattle.uni_words.proofs.Underway.{HasOutcome-grows, IsUnderway-grows, last_number-grows, place_shared}
 

@@ -1,12 +1,5 @@
 -- A seat takes in another one.
-use Rattle.std.proofs.Common.{◌≡◌, ◌≢◌, ◌∙◌, ℕ, ◌+◌, ◌≤◌, inl, inr, refl, sym, subst, List, [], length, Contains, None, arith, ◌==◌, if◌then◌else◌, set}
-use Rattle.std.proofs.lemmas.List.Elements.{Contains-append_cases}
-use Rattle.uni_words.proofs.Names.{Event, IsAmong, IsLocal, IsShown, IsTaken, Joins, LeadsTo, Process, Seen, Sequential, ShowsRun, State, Tells, View, WorldOf, acts_in_view, calls_in_view, get_elem?, logged_in_view, nobody, pending_count, some, took_in}
-use Rattle.atomic_table.proofs.Lists.{at_set, set_else}
-use Rattle.uni_model.proofs.Written.{number_cases}
-use Rattle.uni_model.specs.ProcessCalls.{ProcessCalls, acts_by, sequential_acts}
-use Rattle.uni_words.specs.Laws.{Leads, after_join}
-use Rattle.uni_words.specs.Run.{run_history, HasSeen}
+use Rattle.uni_words.proofs.Vocabulary.{Contains, Contains-append_cases, Event, HasSeen, IsAmong, IsLocal, IsShown, IsTaken, Joins, Leads, LeadsTo, List, None, Process, ProcessCalls, Seen, Sequential, ShowsRun, State, Tells, View, WorldOf, [], acts_by, acts_in_view, after_join, arith, at_set, calls_in_view, get_elem?, if◌then◌else◌, inl, inr, length, logged_in_view, nobody, number_cases, pending_count, refl, run_history, sequential_acts, set, set_else, some, subst, sym, took_in, ℕ, ◌+◌, ◌==◌, ◌∙◌, ◌≡◌, ◌≢◌, ◌≤◌}
 use Rattle.uni_words.proofs.Asking.{sees_now, view_logged}
 use Rattle.uni_words.proofs.Running.{idle_acts, led, no_more}
 use Rattle.uni_words.proofs.Views.{Holds-set, first_or}

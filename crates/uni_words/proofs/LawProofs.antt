@@ -1,10 +1,5 @@
 -- The laws of the word steps.
-use Rattle.std.proofs.Common.{◌≡◌, ◌∙◌, ℕ, ◌<◌, ◌^◌, sym, ap, subst, [], ◌∷◌, slice_index, Option, Some}
-use Rattle.uni_words.proofs.Names.{DecideNew, Finish, HasRead, IsShown, Known, Name, Pending, Reading, Sequential, Stage, State, View, WorldOf, finished_by, get_elem?, moved_at, new_of, reply_at, reply_in, some}
-use Rattle.uni_model.specs.Worlds.Event.{Step}
-use Rattle.uni_model.proofs.Steps.{linked_call, head_number}
-use Rattle.uni_words.specs.Laws.{IsLoad, Leads, after_word, WordStepMoves, StoreEnds, LoadEnds}
-use Rattle.uni_words.specs.View.Reading.{Nothing, Invocation, Applied, Reply}
+use Rattle.uni_words.proofs.Vocabulary.{Applied, DecideNew, Finish, HasRead, Invocation, IsLoad, IsShown, Known, Leads, LoadEnds, Name, Nothing, Option, Pending, Reading, Reply, Sequential, Some, Stage, State, Step, StoreEnds, View, WordStepMoves, WorldOf, [], after_word, ap, finished_by, get_elem?, head_number, linked_call, moved_at, new_of, reply_at, reply_in, slice_index, some, subst, sym, ℕ, ◌<◌, ◌^◌, ◌∙◌, ◌∷◌, ◌≡◌}
 use Rattle.uni_words.proofs.Finishes.{stored_leads, loaded_leads}
 use Rattle.uni_words.proofs.Happens.{own_local, later_is}
 use Rattle.uni_words.proofs.Looks.{stands, underway, inv_told, state_told, reply_told}

@@ -1,10 +1,6 @@
 -- A word that is memory_with is a place that is memory_with.
-use Rattle.std.proofs.Common.{◌≡◌, ◌≢◌, ◌∙◌, ℕ, ◌<◌, inl, inr, refl, sym, ap, subst, List, length, slice_index, slice_set, Option, Some, None, nat_lt, Bool, true, false, cond, get_or-set_same, get_or-set_other}
-use Rattle.std.specs.Option.{option_map_or}
-use Rattle.uni_words.proofs.Names.{AfterOf, Anchor, Announced, BeforeOf, HeadOf, InvOf, IsShared, NewOf, Of, Place, SeqOf, content_of, memory_of, memory_with, place_eq, word_at, word_of, words_of}
+use Rattle.uni_words.proofs.Vocabulary.{AfterOf, Anchor, Announced, BeforeOf, Bool, HeadOf, InvOf, IsShared, List, NewOf, None, Of, Option, Place, SeqOf, Some, ap, cond, content_of, false, get_or-set_other, get_or-set_same, inl, inr, length, memory_of, memory_with, nat_lt, number_cases, option_map_or, place_eq, place_eq_false, place_eq_true, refl, slice_index, slice_set, subst, sym, true, word_at, word_of, words_of, ℕ, ◌<◌, ◌∙◌, ◌≡◌, ◌≢◌}
 use Rattle.uni_model.specs.Places.Content.{Invocation}
-use Rattle.uni_model.proofs.Written.{number_cases, place_eq_true}
-use Rattle.uni_model.proofs.SamePlace.{place_eq_false}
 use Rattle.uni_words.proofs.Columns.{one_place, word_below}
 
 module _ (n row : ℕ) where

@@ -1,11 +1,6 @@
 -- The word steps that are no events: reads of settled words.
-use Rattle.std.proofs.Common.{◌≡◌, ◌∙◌, ℕ, zero, suc, ◌<◌, ◌≤◌, ◌^◌, refl, sym, ap, subst, [], slice_index, slice_set, Option, Some, None, option_and_then, arith, nat_lt, Bool, true, false, cond}
-use Rattle.uni_words.proofs.Names.{Allows, Anchor, DecideNew, Finish, HasLooked, HasRead, InvOf, IsLocal, IsShown, IsUnderway, Known, Me, Name, NewOf, Of, Reading, Sequential, ShowsRun, Stage, State, Step, TellsState, View, WorldOf, get_elem?, inv_of, keeps, looked_at, new_of, reply_at, reply_in, seq_of, settled_at, some, state_in, word_at, word_of}
-use Rattle.uni_model.specs.Chain.{response_in}
-use Rattle.uni_model.specs.Invariant.{Has, Stands}
-use Rattle.uni_model.proofs.Steps.{linked_call, head_number}
-use Rattle.uni_words.specs.View.Reading.{Invocation, Applied, Reply}
-use Rattle.uni_words.specs.Laws.{Leads, after_word}
+use Rattle.uni_words.proofs.Vocabulary.{Allows, Anchor, Applied, Bool, DecideNew, Finish, Has, HasLooked, HasRead, InvOf, Invocation, IsLocal, IsShown, IsUnderway, Known, Leads, Me, Name, NewOf, None, Of, Option, Reading, Reply, Sequential, ShowsRun, Some, Stage, Stands, State, TellsState, View, WorldOf, [], after_word, ap, arith, cond, false, get_elem?, head_number, inv_of, keeps, linked_call, looked_at, nat_lt, new_of, option_and_then, refl, reply_at, reply_in, response_in, seq_of, settled_at, slice_index, slice_set, some, state_in, subst, suc, sym, true, word_at, word_of, zero, ℕ, ◌<◌, ◌^◌, ◌∙◌, ◌≡◌, ◌≤◌}
+use Rattle.atomic_table.specs.Table.{Step}
 use Rattle.uni_words.proofs.Locality.{word_here}
 use Rattle.uni_words.proofs.Happens.{own_local, knows_more}
 use Rattle.uni_words.proofs.Running.{led, no_more, run_stays}

@@ -1,16 +1,6 @@
 -- The word steps that are events, all but those of `new` and of the last step of a call.
-use Rattle.std.proofs.Common.{◌≡◌, ◌∙◌, ℕ, ◌+◌, ◌<◌, ◌≤◌, ◌^◌, refl, sym, ap, subst, List, [], ◌∷◌, length, slice_index, slice_set, Option, Some, None, arith, length-set, get_or-set_same}
-use Rattle.uni_words.proofs.Names.{AfterOf, Allows, Announce, Announced, BeforeOf, Content, DecideAfter, DecideNew, Finish, HasMoved, HeadOf, InvOf, IsLocal, IsShown, IsUnderway, IsWithin, Known, Me, Memory, Moved, Name, NewOf, Of, Pending, Place, ReadAnnounce, ReadHelpSeq, ScanHead, ScanSeq, SeqOf, Sequential, ShowsRun, Stage, State, Test, View, WorldOf, WriteBefore, WriteHead, WriteScan, WriteSeq, content_of, get_elem?, keeps, memory_with, moved_at, new_of, pending_count, some, stage_found, word_of}
+use Rattle.uni_words.proofs.Vocabulary.{AfterOf, Allows, Announce, Announced, BeforeOf, Content, DecideAfter, DecideNew, Effect, Finish, Grows, HasMoved, HeadOf, InvOf, IsCounted-pending, IsLocal, IsShown, IsUnderway, IsWithin, Known, Leads, List, Me, Memory, Moved, Name, NewOf, None, Nothing, Of, Option, Pending, Place, ReadAnnounce, ReadHelpSeq, ScanHead, ScanSeq, SeqOf, Sequential, ShowsRun, Some, Stage, State, Step, Test, View, WorldOf, WriteBefore, WriteHead, WriteScan, WriteSeq, [], after_word, ap, arith, at_its_cell, call_after, content_after, content_of, get_elem?, get_or-set_same, keeps, length, length-set, memory_with, moved_at, new_of, pending_count, place_of, refl, response_after, set_at_same, slice_index, slice_set, some, stage_after, stage_found, subst, sym, turn_of, turns_bounded, word_of, ℕ, ◌+◌, ◌<◌, ◌^◌, ◌∙◌, ◌∷◌, ◌≡◌, ◌≤◌}
 use Rattle.atomic_table.specs.Table as table
-use Rattle.uni_model.specs.Transition.{place_of, stage_after, content_after, response_after, turn_of}
-use Rattle.uni_model.specs.Effects.{Effect, call_after}
-use Rattle.uni_model.specs.Worlds.Event.{Step}
-use Rattle.uni_model.specs.Settled.{Grows}
-use Rattle.uni_model.proofs.Counted.{IsCounted-pending}
-use Rattle.uni_model.proofs.Bounded.{turns_bounded, at_its_cell}
-use Rattle.uni_model.proofs.Simulation.{set_at_same}
-use Rattle.uni_words.specs.View.Reading.{Nothing}
-use Rattle.uni_words.specs.Laws.{Leads, after_word}
 use Rattle.uni_words.proofs.Columns.{word_below}
 use Rattle.uni_words.proofs.Underway.{HasOutcome-grows, last_number-grows}
 use Rattle.uni_words.proofs.Within.{within}

@@ -1,14 +1,5 @@
 -- The table at the start meets the rule.
-use Rattle.std.proofs.Common.{◌≡◌, ◌∙◌, ℕ, zero, suc, ◌+◌, ◌*◌, ◌<◌, ◌^◌, inl, inr, refl, sym, ap, subst, List, [], ◌∷◌, length, slice_get, slice_index, slice_set, replicate, length-set, Contains, Option, Some, None, arith}
-use Rattle.std.specs.Option.{option_map_or}
-use Rattle.std.proofs.lemmas.Nat.{div-mul-add}
-use Rattle.std.proofs.lemmas.List.{length-replicate}
-use Rattle.uni_words.proofs.Names.{AfterOf, Anchor, Announced, BeforeOf, HeadOf, InvOf, IsLocal, IsShown, LeadsTo, Name, NewOf, Of, Place, SeqOf, Sequential, ShowsRun, Tells, View, acts_in_view, anchor_memory, content_of, first_view, first_words, get_elem?, link_of, memory_of, memory_with, name_of, new_of, no_calls, opening, settled_at, settled_word, some, some-injective, some-ne-none, start_of, state_in, word_at, word_of, words_of}
-use Rattle.uni_model.specs.Places.Content.{CellName, Number, Link, Settled}
-use Rattle.uni_model.proofs.Written.{lt_cases}
-use Rattle.uni_model.proofs.Bounded.{HelpingInvariant-opened_world}
-use Rattle.uni_model.proofs.Counted.{CountsSteps-opened_world}
-use Rattle.uni_words.specs.Run.{opened}
+use Rattle.uni_words.proofs.Vocabulary.{AfterOf, Anchor, Announced, BeforeOf, CellName, Contains, CountsSteps-opened_world, HeadOf, HelpingInvariant-opened_world, InvOf, IsLocal, IsShown, LeadsTo, Link, List, Name, NewOf, None, Number, Of, Option, Place, SeqOf, Sequential, Settled, ShowsRun, Some, Tells, View, [], acts_in_view, anchor_memory, ap, arith, content_of, div-mul-add, first_view, first_words, get_elem?, inl, inr, length, length-replicate, length-set, link_of, lt_cases, memory_of, memory_with, name_of, new_of, no_calls, opened, opening, option_map_or, refl, replicate, settled_at, settled_word, slice_get, slice_index, slice_set, some, some-injective, some-ne-none, start_of, state_in, subst, suc, sym, word_at, word_of, words_of, zero, ℕ, ◌*◌, ◌+◌, ◌<◌, ◌^◌, ◌∙◌, ◌∷◌, ◌≡◌}
 use Rattle.uni_words.proofs.Locality.{words_written}
 
 anchor_code : (s : ℕ) → settled_at Anchor (settled_word s 0) ≡ Some (s, None)

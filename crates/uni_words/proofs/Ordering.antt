@@ -1,23 +1,8 @@
 -- The calls that had returned stand in the log before those that were begun later.
-use Rattle.std.proofs.Common.{◌≡◌, ◌∙◌, ℕ, suc, ◌+◌, ◌<◌, inl, inr, refl, sym, ap, subst, List, [], ◌∷◌, ◌++◌, length, take, arith}
+use Rattle.uni_words.proofs.Vocabulary.{AcceptsAll, Act, AreAccepted, AreAccepted-split, Atomic, Entry, Event, HasSeen, Invoke, IsInOrder, IsPrefixOf, IsRun-opened_world, Linearize, List, Respond, Seen, Sequential, StandInLog, StandsAt, WorldOf, [], acts_by, ap, arith, at_start, begun_run, inl, inr, length, log_of_run, lt_cases, number_cases, opened, prefixes_run, refl, run_history, sequential_acts, set_at_elsewhere, set_at_same, subst, suc, sym, take, world_after_all, ℕ, ◌++◌, ◌+◌, ◌<◌, ◌∙◌, ◌∷◌, ◌≡◌}
 use Rattle.std.proofs.Math.Seq.{take-append_seam}
 use Rattle.std.proofs.lemmas.Option.{slice_get_within}
-use Rattle.uni_words.proofs.Names.{AreAccepted, Event, Seen, Sequential, WorldOf, world_after_all}
-use Rattle.uni_model.specs.AtomicObject.{Act, Atomic, AcceptsAll, at_start}
-use Rattle.uni_model.specs.AtomicObject.Act.{Invoke, Linearize, Respond}
-use Rattle.uni_model.specs.Chain.{Entry}
-use Rattle.uni_model.specs.Eras.{StandsAt}
-use Rattle.uni_model.specs.Growth.{IsPrefixOf}
-use Rattle.uni_model.specs.History.{log_of_run}
-use Rattle.uni_model.proofs.Joined.{IsRun-opened_world, begun_run, prefixes_run}
-use Rattle.uni_model.proofs.LawProofs.{set_at_elsewhere}
 use Rattle.uni_model.proofs.Linearized.{IsLinearizable-holds}
-use Rattle.uni_model.proofs.Simulation.{set_at_same}
-use Rattle.uni_model.proofs.Runs.{AreAccepted-split}
-use Rattle.uni_model.proofs.Written.{lt_cases, number_cases}
-use Rattle.uni_model.specs.ProcessCalls.{acts_by, sequential_acts}
-use Rattle.uni_words.specs.Log.{IsInOrder}
-use Rattle.uni_words.specs.Run.{StandInLog, opened, run_history, HasSeen}
 use Rattle.uni_words.proofs.Underway.{there_below}
 
 -- how many calls these acts begin

@@ -1,15 +1,5 @@
 -- The calls of a seat's process in the log are the seat's own calls.
-use Rattle.std.proofs.Common.{◌≡◌, ◌≢◌, ◌∙◌, ℕ, zero, suc, ◌+◌, ◌*◌, ◌<◌, ◌≤◌, inl, inr, refl, sym, ap, subst, List, [], ◌∷◌, length, map, slice_get, drop, Option, Some, None, arith, ◌==◌, cond}
-use Rattle.std.specs.Option.{option_map_or}
-use Rattle.std.proofs.lemmas.List.{drop_all}
-use Rattle.uni_words.proofs.Names.{Anchor, HasOutcome, IsShown, Name, Of, Sequential, State, View, WorldOf, after_of, calls_in_era, inv_of}
-use Rattle.uni_model.specs.Chain.{cells_from, entries_from, invoked_at, response_in}
-use Rattle.uni_model.specs.Counting.{era_calls}
-use Rattle.uni_model.specs.Invariant.{IsSound}
-use Rattle.uni_model.proofs.Ranges.{sum_below-bound}
-use Rattle.uni_model.proofs.Simulation.{enough}
-use Rattle.uni_model.proofs.Written.{lt_cases, number_cases}
-use Rattle.uni_words.specs.Log.{calls_by, log_of, replied}
+use Rattle.uni_words.proofs.Vocabulary.{Anchor, HasOutcome, IsShown, IsSound, List, Name, None, Of, Option, Sequential, Some, State, View, WorldOf, [], after_of, ap, arith, calls_by, calls_in_era, cells_from, cond, drop, drop_all, enough, entries_from, era_calls, inl, inr, inv_of, invoked_at, length, log_of, lt_cases, map, number_cases, option_map_or, refl, replied, response_in, slice_get, subst, suc, sum_below-bound, sym, zero, ℕ, ◌*◌, ◌+◌, ◌<◌, ◌==◌, ◌∙◌, ◌∷◌, ◌≡◌, ◌≢◌, ◌≤◌}
 use Rattle.uni_words.proofs.Closing.{log_is}
 use Rattle.uni_words.proofs.Underway.{there_below}
 

@@ -1,11 +1,5 @@
 -- The walk along the chain of closed words, cell by cell.
-use Rattle.std.proofs.Common.{◌≡◌, ◌≢◌, ◌∙◌, ℕ, zero, suc, ◌+◌, ◌-◌, ◌*◌, ◌/◌, ◌%◌, ◌<◌, ◌≤◌, inl, inr, refl, sym, ap, subst, List, [], ◌∷◌, ◌++◌, append_assoc, append-nil, slice_get, slice_index, Option, Some, None, arith, true, false}
-use Rattle.std.specs.Option.{option_map_or}
-use Rattle.uni_words.proofs.Names.{Anchor, Memory, Name, after_of, cells_of, get_elem?, link_of, name_of, seq_of, some, some-injective, some-ne-none, start_of}
-use Rattle.uni_model.specs.Chain.{Entry, cells_from, entries_from, invoked_at, response_in}
-use Rattle.uni_model.specs.AtomicObject.{Invoked}
-use Rattle.uni_model.proofs.Written.{lt_cases}
-use Rattle.uni_words.specs.Log.{AreCallCells, is_call_cell, log_of, told_memory}
+use Rattle.uni_words.proofs.Vocabulary.{Anchor, AreCallCells, Entry, Invoked, List, Memory, Name, None, Option, Some, [], after_of, ap, append-nil, append_assoc, arith, cells_from, cells_of, entries_from, false, get_elem?, inl, inr, invoked_at, is_call_cell, link_of, log_of, lt_cases, name_of, option_map_or, refl, response_in, seq_of, slice_get, slice_index, some, some-injective, some-ne-none, start_of, subst, suc, sym, told_memory, true, zero, ℕ, ◌%◌, ◌*◌, ◌++◌, ◌+◌, ◌-◌, ◌/◌, ◌<◌, ◌∙◌, ◌∷◌, ◌≡◌, ◌≢◌, ◌≤◌}
 use Rattle.uni_words.proofs.Allowed.{cell_word}
 use Rattle.uni_words.proofs.Columns.{index_in-there}
 

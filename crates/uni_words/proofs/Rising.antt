@@ -1,9 +1,5 @@
 -- The calls of one process stand in the chain in their order.
-use Rattle.std.proofs.Common.{◌≡◌, ◌∙◌, ℕ, suc, ◌<◌, ◌≤◌, sym, ap, Some, length, slice_get, arith}
-use Rattle.uni_words.proofs.Names.{IsShown, Of, Sequential, State, View, WorldOf, get_elem?, last_number, own_of, seq_of, some}
-use Rattle.uni_model.specs.History.{log}
-use Rattle.uni_model.proofs.Eras.{entry_at, number_of_entry}
-use Rattle.uni_words.specs.Log.{LastHasNumber, log_of}
+use Rattle.uni_words.proofs.Vocabulary.{IsShown, LastHasNumber, Of, Sequential, Some, State, View, WorldOf, ap, arith, entry_at, get_elem?, last_number, length, log, log_of, number_of_entry, own_of, seq_of, slice_get, some, suc, sym, ℕ, ◌<◌, ◌∙◌, ◌≡◌, ◌≤◌}
 use Rattle.uni_words.proofs.Closing.{log_of_world}
 use Rattle.uni_words.proofs.Underway.{there_below}
 

@@ -1,20 +1,6 @@
 -- A run with one more event, and what it tells of each process.
-use Rattle.std.proofs.Common.{◌≡◌, ◌≢◌, ◌∙◌, ℕ, suc, ◌+◌, ◌≤◌, inl, inr, ⊎_elim, refl, sym, ap, subst, List, [], ◌∷◌, ◌++◌, append_assoc, append-nil, length, drop, map, Contains, Option, Some, None, IsSome, arith, set}
-use Rattle.std.specs.Option.{option_map_or}
-use Rattle.uni_words.proofs.Names.{Event, IsAccepted, IsAmong, IsLocal, IsShown, Known, LeadsTo, Memory, Name, Of, Pending, Seen, Sequential, ShowsRun, State, View, WorldOf, acts_in_view, get_elem?, inv_of, pending_acts, pending_count, some, world_after, world_after_all, world_after_call, world_after_step}
-use Rattle.atomic_table.proofs.Lists.{at_set}
-use Rattle.uni_model.specs.AtomicObject.{Act, Invoked}
-use Rattle.uni_model.specs.AtomicObject.Act.{Invoke, Linearize, Respond}
-use Rattle.uni_model.specs.Chain.{invoked_at}
-use Rattle.uni_model.specs.Growth.{EndsNoEra, EndNoEra}
-use Rattle.uni_model.specs.History.{acts_of, calls_of, log, log_of_run, responses_of}
-use Rattle.uni_model.specs.Transition.{response_after}
-use Rattle.uni_model.specs.Worlds.Event.{Call, Step, Trim, Reshape}
-use Rattle.uni_model.proofs.Written.{number_cases}
-use Rattle.uni_model.specs.ProcessCalls.{ProcessCalls, acts_by, sequential_acts}
-use Rattle.uni_model.proofs.Runs.{world_after_all-snoc, AreAccepted-snoc, history_of-snoc}
-use Rattle.uni_words.specs.Laws.{Leads}
-use Rattle.uni_words.specs.Run.{opened, run_history, HasSeen}
+use Rattle.uni_words.proofs.Vocabulary.{Act, AreAccepted-snoc, Call, Contains, EndNoEra, EndsNoEra, Event, HasSeen, Invoke, Invoked, IsAccepted, IsAmong, IsLocal, IsShown, IsSome, Known, Leads, LeadsTo, Linearize, List, Memory, Name, None, Of, Option, Pending, ProcessCalls, Reshape, Respond, Seen, Sequential, ShowsRun, Some, State, Step, Trim, View, WorldOf, [], acts_by, acts_in_view, acts_of, ap, append-nil, append_assoc, arith, at_set, drop, get_elem?, history_of-snoc, inl, inr, inv_of, invoked_at, length, log, log_of_run, map, number_cases, opened, option_map_or, pending_acts, pending_count, refl, response_after, responses_of, run_history, sequential_acts, set, some, subst, suc, sym, world_after, world_after_all, world_after_all-snoc, world_after_call, world_after_step, ℕ, ⊎_elim, ◌++◌, ◌+◌, ◌∙◌, ◌∷◌, ◌≡◌, ◌≢◌, ◌≤◌}
+use Rattle.uni_model.specs.History.{calls_of}
 use Rattle.uni_words.proofs.Happens.{taken_apart}
 use Rattle.uni_words.proofs.Views.{Holds-kept, Holds-later, Holds-set}
 

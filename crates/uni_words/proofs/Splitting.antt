@@ -1,13 +1,5 @@
 -- A seat of several processes is cut in two.
-use Rattle.std.proofs.Common.{◌≡◌, ◌≢◌, ◌∙◌, ℕ, zero, suc, ◌<◌, ◌≤◌, ◌⊎◌, inl, inr, refl, sym, ap, subst, List, [], ◌∷◌, ◌++◌, length, Contains, arith, set, length-set}
-use Rattle.uni_words.proofs.Names.{Event, IsAmong, IsLocal, IsShown, LeadsTo, Sequential, ShowsRun, Splits, State, Tells, View, WorldOf, acts_in_view, first_alone, get_elem?, others, some, some-injective, some-ne-none}
-use Rattle.atomic_table.proofs.Lists.{at_set}
-use Rattle.uni_model.specs.AtomicObject.{set_at}
-use Rattle.uni_model.proofs.Simulation.{set_at_same}
-use Rattle.uni_model.proofs.LawProofs.{set_at_elsewhere}
-use Rattle.uni_model.specs.ProcessCalls.{ProcessCalls, acts_by, sequential_acts}
-use Rattle.uni_words.specs.Laws.{Leads, after_split}
-use Rattle.uni_words.specs.Run.{run_history, HasSeen}
+use Rattle.uni_words.proofs.Vocabulary.{Contains, Event, HasSeen, IsAmong, IsLocal, IsShown, Leads, LeadsTo, List, ProcessCalls, Sequential, ShowsRun, Splits, State, Tells, View, WorldOf, [], acts_by, acts_in_view, after_split, ap, arith, at_set, first_alone, get_elem?, inl, inr, length, length-set, others, refl, run_history, sequential_acts, set, set_at, set_at_elsewhere, set_at_same, some, some-injective, some-ne-none, subst, suc, sym, zero, ℕ, ◌++◌, ◌<◌, ◌∙◌, ◌∷◌, ◌≡◌, ◌≢◌, ◌≤◌, ◌⊎◌}
 use Rattle.uni_words.proofs.Happens.{taken_apart}
 use Rattle.uni_words.proofs.Running.{led, no_more}
 use Rattle.uni_words.proofs.Views.{Holds-kept, Holds-push}

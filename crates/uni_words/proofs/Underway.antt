@@ -1,10 +1,5 @@
 -- What a seat knows stays while the memory grows.
-use Rattle.std.proofs.Common.{◌≡◌, ◌∙◌, ℕ, zero, suc, ◌<◌, ◌≤◌, refl, sym, subst, List, [], ◌∷◌, length, slice_get, Option, Some, None, option_and_then, ap, arith}
-use Rattle.uni_words.proofs.Names.{Announce, DecideAfter, DecideNew, Finish, HasRead, HasOutcome, IsShared, IsUnderway, Memory, Name, Of, Pending, ReadAnnounce, ReadHelpSeq, Reading, ScanHead, ScanSeq, Stage, Test, WriteBefore, WriteHead, WriteScan, WriteSeq, last_number, new_of}
-use Rattle.uni_model.specs.Chain.{response_in}
-use Rattle.uni_model.specs.Transition.{place_of}
-use Rattle.uni_model.specs.Settled.{Grows}
-use Rattle.uni_words.specs.View.Reading.{Nothing, Invocation, Applied, Reply}
+use Rattle.uni_words.proofs.Vocabulary.{Announce, Applied, DecideAfter, DecideNew, Finish, Grows, HasOutcome, HasRead, Invocation, IsShared, IsUnderway, List, Memory, Name, None, Nothing, Of, Option, Pending, ReadAnnounce, ReadHelpSeq, Reading, Reply, ScanHead, ScanSeq, Some, Stage, Test, WriteBefore, WriteHead, WriteScan, WriteSeq, [], ap, arith, last_number, length, new_of, option_and_then, place_of, refl, response_in, slice_get, subst, suc, sym, zero, ℕ, ◌<◌, ◌∙◌, ◌∷◌, ◌≡◌, ◌≤◌}
 
 pub there_below : {A : Type 0} (l : List A) (i : ℕ) → i < length l → (a : A) × (slice_get l i ≡ Some a)
 there_below [] i h = absurd (omega arith)

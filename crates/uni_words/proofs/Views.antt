@@ -1,8 +1,5 @@
 -- What holds of each thing that the views tell.
-use Rattle.std.proofs.Common.{All, ◌≡◌, ◌⊎◌, ℕ, inl, inr, refl, sym, subst, List, [], ◌∷◌, ◌++◌, Contains, set, arith}
-use Rattle.std.proofs.lemmas.List.Elements.{Contains-append_cases, Contains-append_right, Contains-get_or, Contains-push_cases}
-use Rattle.uni_words.proofs.Names.{View, get_elem?, some}
-use Rattle.atomic_table.proofs.Lists.{at_set, at_snoc}
+use Rattle.uni_words.proofs.Vocabulary.{All, Contains, Contains-append_cases, Contains-append_right, Contains-get_or, Contains-push_cases, List, View, [], arith, at_set, at_snoc, get_elem?, inl, inr, refl, set, some, subst, sym, ℕ, ◌++◌, ◌∷◌, ◌≡◌, ◌⊎◌}
 
 -- an element of a list is its first, or among the others
 pub first_or : {A : Type 0} (x : A) (xs : List A) (c : A) → Contains (x ∷ xs) c → (x ≡ c) ⊎ Contains xs c

@@ -1,9 +1,5 @@
 -- What the words of a table that meets the rule can be.
-use Rattle.std.proofs.Common.{◌≡◌, ◌∙◌, ℕ, zero, suc, ◌*◌, ◌/◌, ◌%◌, ◌<◌, ◌≤◌, ◌^◌, ◌⊎◌, inl, inr, sym, ap, subst, slice_index, Some, arith}
-use Rattle.uni_words.proofs.Names.{AfterOf, Anchor, Announced, BeforeOf, HeadOf, InvOf, IsShown, IsWithin, Name, NewOf, Place, SeqOf, Sequential, State, View, WorldOf, after_of, announce_of, before_of, calls_in_era, cells_of, head_of, inv_of, link_of, name_of, new_of, seq_of, settled_at, state_in, word_of}
-use Rattle.uni_model.specs.Counting.{era_calls}
-use Rattle.uni_model.specs.Invariant.{Has, IsSound}
-use Rattle.uni_model.proofs.Ranges.{sum_below-bound, announced_cell, head_cell, after_cell, before_cell, seq_bound}
+use Rattle.uni_words.proofs.Vocabulary.{AfterOf, Anchor, Announced, BeforeOf, Has, HeadOf, InvOf, IsShown, IsSound, IsWithin, Name, NewOf, Place, SeqOf, Sequential, Some, State, View, WorldOf, after_cell, after_of, announce_of, announced_cell, ap, arith, before_cell, before_of, calls_in_era, cells_of, era_calls, head_cell, head_of, inl, inr, inv_of, link_of, name_of, new_of, seq_bound, seq_of, settled_at, slice_index, state_in, subst, suc, sum_below-bound, sym, word_of, zero, ℕ, ◌%◌, ◌*◌, ◌/◌, ◌<◌, ◌^◌, ◌∙◌, ◌≡◌, ◌≤◌, ◌⊎◌}
 use Rattle.uni_words.proofs.Columns.{index_in-there, process_below, head_below}
 use Rattle.uni_words.proofs.Locality.{word_here}
 

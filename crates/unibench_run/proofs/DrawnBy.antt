@@ -1,12 +1,6 @@
 -- What is drawn from words, and the seeds of jobs by their places.
-use Rattle.std.proofs.Common.{◌≡◌, ◌∙◌, ◌+◌, ◌<◌, ◌==◌, ℕ, zero, suc, List, [], ◌∷◌, ◌++◌, length, map, slice_get, slice_index_or, Some, None, false, cond, refl, sym, ap, subst, add-zero, zero-add, length-append, arith}
-use Rattle.std.specs.List.{count_by, range_with_len}
-use Rattle.std.proofs.lemmas.List.{map-append}
-use Rattle.std.proofs.lemmas.List.FromFn.{length-map-range_with_len, map-range_with_len_more}
-use Rattle.std.proofs.lemmas.List.Sums.{sum_by-cons}
+use Rattle.unibench_run.proofs.Vocabulary.{List, None, Some, [], add-zero, ap, arith, cond, count_by, drawn_by, drawn_from, false, length, length-append, length-map-range_with_len, map, map-append, map-range_with_len_more, range_with_len, refl, seed_of, seeded_word, slice_get, slice_get-index, slice_get-map, slice_index_or, subst, suc, sum_by-cons, sym, zero, zero-add, ℕ, ◌++◌, ◌+◌, ◌<◌, ◌==◌, ◌∙◌, ◌∷◌, ◌≡◌}
 use Rattle.std.proofs.lemmas.Bool.Decides.{nat_tests}
-use Rattle.uni_words.proofs.Comparing.{slice_get-index, slice_get-map}
-use Rattle.unibench_run.specs.Draws.{drawn_by, drawn_from, seed_of, seeded_word}
 
 -- one word more
 pub drawn-more : {I : Type 0} (read : ℕ → I) (word : ℕ → ℕ) (count : ℕ) → drawn_from read word (count + 1) ≡ drawn_from read word count ++ read (word count) ∷ []

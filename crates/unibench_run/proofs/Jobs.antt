@@ -1,7 +1,6 @@
 -- Jobs, and their results that are all Ok.
-use Rattle.std.proofs.Common.{◌≡◌, ◌<◌, List, map, Ok, Result, IfOk, sym, subst}
+use Rattle.unibench_run.proofs.Vocabulary.{IfOk, List, Ok, Result, get_or-map, length-map, map, subst, sym, ◌<◌, ◌≡◌}
 use Rattle.std.specs.List.{All}
-use Rattle.std.proofs.lemmas.List.{get_or-map, length-map}
 
 -- what holds of each result holds of each value
 pub All-IfOk : {A E : Type 0} (P : A → Type 0) (results : List (Result A E)) (values : List A) → results ≡ map Ok values → All (λ one. IfOk one P) results → All P values

@@ -1,3 +1,4 @@
+pub mod Vocabulary
 pub mod CommandLine
 pub mod Jobs
 pub mod PlanReads

@@ -1,16 +1,6 @@
 -- Threads under a lock whose calls are made: their seats, and what the record has.
-use Rattle.std.proofs.Common.{◌≡◌, ◌∙◌, ◌<◌, ◌≤◌, ℕ, zero, suc, List, length, map, slice_get, slice_index_or, Result, Ok, Err, IfOk, OnOk, Some, refl, sym, ap, subst, arith}
-use Rattle.std.specs.List.{All, range_with_len}
-use Rattle.std.specs.declared.alloc.AllocError.{AllocError}
-use Rattle.std.proofs.lemmas.List.{length-map}
-use Rattle.seq_object.specs.Sequential.{Sequential}
-use Rattle.uni_record.specs.Recorded.{IsPromised, Recording}
-use Rattle.uni_shared.specs.Agreement.{IsClosed}
-use Rattle.uni_shared.specs.Seat.{SeatOf, first_seat, first_seats}
-use Rattle.uni_words.proofs.Comparing.{slice_get-index, slice_get-map}
-use Rattle.unibench_run.specs.Draws.{drawn_by, seed_of}
-use Rattle.unibench_run.specs.Threads.{IsLockedRun, MakesCalls, asked_by}
-use Rattle.unibench_run.specs.declared.threads.Job.{Job}
+use Rattle.unibench_run.proofs.Vocabulary.{AllocError, Err, IfOk, IsClosed, IsLockedRun, IsPromised, Job, List, MakesCalls, Ok, OnOk, Recording, Result, SeatOf, Sequential, Some, ap, arith, asked_by, drawn_by, first_seat, first_seats, length, length-map, map, range_with_len, refl, seed_of, slice_get, slice_get-index, slice_get-map, slice_index_or, subst, suc, sym, zero, ℕ, ◌<◌, ◌∙◌, ◌≡◌, ◌≤◌}
+use Rattle.std.specs.List.{All}
 use Rattle.unibench_run.proofs.DrawnBy.{none_is, of_place}
 use Rattle.unibench_run.proofs.Told.{at_below}
 

@@ -1,25 +1,13 @@
 -- What words ask for has numbers that are in range.
-use Rattle.std.proofs.Common.{◌≡◌, ◌∙◌, ℕ, ◌≤◌, Bool, true, false, codes, List, Option, Some, None, option_map, option_and_then, if◌then◌else◌, refl, sym, subst, ap}
+use Rattle.unibench_run.proofs.Vocabulary.{Bool, Explained, IsHistory, IsPlan, IsThreadsPlan, Language, List, None, Option, Plan, Random, Replay, Request, Row, Some, Text, Threads, ap, codes, echo_in, false, first_of, form_named, if◌then◌else◌, number_in, object_named, object_of_word, option_and_then, option_map, options_of, plan_of, plan_with, random_of, random_with, refl, replay_in, request_in, subject_of, subst, sym, true, value_in-range, value_of, ℕ, ◌∙◌, ◌≡◌, ◌≤◌}
 use Rattle.std.specs.Str.{bytes_eq}
 use Rattle.std.specs.Str.Parse.{without_leading_plus}
-use Rattle.clap.specs.Words.{Row, Text, first_of}
-use Rattle.uni_script.specs.Grammar.{object_of_word}
-use Rattle.uni_record.specs.Recorded.{IsHistory}
-use Rattle.uni_script.specs.Schedules.{IsPlan}
 use Rattle.uni_script.specs.declared.options.Options.{Options}
 use Rattle.uni_script.specs.declared.grammar.ObjectName.{ObjectName}
 use Rattle.command_line.specs.Flags.{is_set}
-use Rattle.unibench_run.specs.CommandLine.{replay_in, request_in}
-use Rattle.command_line.specs.Numbers.{number_in, value_of}
-use Rattle.unibench_run.specs.Request.{form_named, echo_in, object_named, options_of, plan_of, plan_with, random_of, random_with, subject_of}
-use Rattle.unibench_run.specs.Threads.{IsThreadsPlan}
 use Rattle.unibench_run.specs.declared.request.Form.{Form}
 use Rattle.unibench_run.specs.declared.request.ThreadsObject.{ThreadsObject}
-use Rattle.unibench_run.specs.declared.request.Plan.{Plan}
 use Rattle.unibench_run.specs.declared.request.RandomPlan.{RandomPlan}
-use Rattle.unibench_run.specs.declared.request.Request.{Request}
-use Rattle.unibench_run.specs.declared.request.Request.TheVariants.{Replay, Explained, Random, Threads, Language}
-use Rattle.command_line.proofs.Digits.{value_in-range}
 
 read-range : (least most : ℕ) (text : Option Text) (n : ℕ) → option_and_then (number_in least most) text ≡ Some n → (least ≤ n) × (n ≤ most)
 read-range least most None n e = absurd (let bad : None ≡ Some n = e in cc)

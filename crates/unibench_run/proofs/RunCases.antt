@@ -1,22 +1,11 @@
 -- What a run comes to by what was asked for, and what refused memory leaves.
-use Rattle.std.proofs.Common.{◌≡◌, ◌∙◌, ℕ, List, Option, Some, Bool, false, inl, inr, refl, sym, subst, arith}
-use Rattle.std.specs.Io.KnownBytes.{Appends}
-use Rattle.uni_script.specs.Ends.{AppendsPrefix}
+use Rattle.unibench_run.proofs.Vocabulary.{Appends, AppendsPrefix, Bool, Explained, IsFaultOfScript, IsRunOf, Language, List, Memory, Option, Random, Replay, Request, Some, Tells, TellsThreadsFault, Threads, ThreadsFault, arith, false, inl, inr, refl, refusal_of, scripts, subst, sym, ℕ, ◌∙◌, ◌≡◌}
 use Rattle.uni_script.specs.Fault.{fault_line}
 use Rattle.uni_script.specs.declared.fault.BenchFault.{BenchFault}
 use Rattle.uni_script.specs.declared.fault.BenchFault.TheVariants as bench
 use Rattle.uni_script.proofs.Replaying.{IsPartOfReplay-start}
-use Rattle.unibench_run.specs.Runs.{IsRunOf}
-use Rattle.uni_script.specs.Replay.{IsFaultOfScript}
-use Rattle.uni_script.specs.Scripts.{scripts}
 use Rattle.uni_script.specs.Statuses.{IsStatusOf, TellsFault, TellsLine, status_of}
 use Rattle.script_advice.proofs.More.{told_more}
-use Rattle.unibench_run.specs.Statuses.{Tells, TellsThreadsFault}
-use Rattle.unibench_run.specs.Threads.{refusal_of}
-use Rattle.unibench_run.specs.declared.request.Request.{Request}
-use Rattle.unibench_run.specs.declared.request.Request.TheVariants.{Replay, Explained, Random, Threads, Language}
-use Rattle.unibench_run.specs.declared.threads.ThreadsFault.{ThreadsFault}
-use Rattle.unibench_run.specs.declared.threads.ThreadsFault.TheVariants.{Memory}
 
 -- refused memory is a run of anything that has read and written nothing
 pub run_of_memory : (r : Request) (left old : Option (List ℕ)) (failed : Bool) (status : ℕ) → failed ≡ false → status ≡ 4 → IsRunOf r left left old old failed status

@@ -1,13 +1,6 @@
 -- What threads come to, by the fault that ended them.
-use Rattle.std.proofs.Common.{◌≡◌, ◌≢◌, ◌⊎◌, ◌↔◌, ◌∙◌, ◌*◌, ℕ, Bool, true, false, List, Option, Some, None, IsSome, inl, inr, refl, sym, ap, arith, nat_lt, cond}
-use Rattle.std.specs.Io.KnownBytes.{Appends}
-use Rattle.uni_script.specs.Ends.{AppendsPrefix}
-use Rattle.unibench_run.specs.Runs.{IsThreadsRun}
-use Rattle.unibench_run.specs.Statuses.{IsStatusOfThreads, status_of_threads}
-use Rattle.unibench_run.specs.Threads.{OfAgreed, are_too_many, events_of, has_form, refusal_of}
+use Rattle.unibench_run.proofs.Vocabulary.{Appends, AppendsPrefix, Bool, IsSome, IsStatusOfThreads, IsThreadsRun, List, None, OfAgreed, Option, Plan, Some, ThreadsFault, ap, are_too_many, arith, cond, events_of, false, has_form, inl, inr, nat_lt, refl, refusal_of, status_of_threads, sym, true, ℕ, ◌*◌, ◌↔◌, ◌∙◌, ◌≡◌, ◌≢◌, ◌⊎◌}
 use Rattle.unibench_run.specs.declared.request.Form.TheVariants.{Words}
-use Rattle.unibench_run.specs.declared.request.Plan.{Plan}
-use Rattle.unibench_run.specs.declared.threads.ThreadsFault.{ThreadsFault}
 use Rattle.unibench_run.specs.declared.threads.ThreadsFault.TheVariants as fault
 
 -- a plan is refused for one of two reasons

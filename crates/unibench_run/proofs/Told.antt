@@ -1,23 +1,11 @@
 -- Threads whose calls are all made: their seats, and what they were told.
-use Rattle.std.proofs.Common.{◌≡◌, ◌∙◌, ℕ, zero, suc, ◌<◌, List, [], ◌∷◌, length, map, slice_get, slice_index_or, vec_len, All, Vec, Global, Result, Ok, IfOk, Some, None, refl, sym, ap, subst, arith}
-use Rattle.std.specs.List.{range_with_len}
-use Rattle.std.proofs.lemmas.List.{length-map}
-use Rattle.std.proofs.lemmas.List.Elements.{All-map}
-use Rattle.seq_object.specs.Sequential.{Sequential}
+use Rattle.unibench_run.proofs.Vocabulary.{Agrees, All, All-map, AllocError, AreAllSeats, AreDone, AreFirstSeats, Done, Global, IfOk, IsDoneOf, IsFreshSeat, IsRunOfThreads, IsSeatOf, Job, List, None, Ok, Result, Sequential, Some, Vec, [], ap, arith, asked_in, at_of_map, below_1000, drawn_by, length, length-map, map, own_calls, process_of, range_with_len, refl, row_of, seed_of, slice_get, slice_get-index, slice_get-map, slice_index_or, subst, suc, sym, told_to, vec_len, zero, ℕ, ◌<◌, ◌∙◌, ◌∷◌, ◌≡◌}
 use Rattle.uni_model.specs.Chain.{Entry}
-use Rattle.std.specs.declared.alloc.AllocError.{AllocError}
-use Rattle.uni_words.specs.Belongs.{AreAllSeats, AreFirstSeats, IsFreshSeat, IsSeatOf, calls_of, own_calls, process_of, processes_of, row_of}
-use Rattle.uni_words.specs.Compare.{Agrees}
+use Rattle.uni_words.specs.Belongs.{calls_of, processes_of}
 use Rattle.uni_words.specs.Run.{IsLogOfRun}
 use Rattle.uni_model.specs.ProcessCalls.{ProcessCalls}
 use Rattle.uni_words.specs.declared.log.WordLog.{WordLog}
 use Rattle.uni_words.specs.declared.seat.WordSeat.{WordSeat}
-use Rattle.uni_words.proofs.Agreeing.{at_of_map}
-use Rattle.uni_words.proofs.Comparing.{slice_get-index, slice_get-map}
-use Rattle.unibench_run.specs.Draws.{below_1000, drawn_by, seed_of}
-use Rattle.unibench_run.specs.Threads.{AreDone, IsDoneOf, IsRunOfThreads, asked_in, told_to}
-use Rattle.unibench_run.specs.declared.threads.Done.{Done}
-use Rattle.unibench_run.specs.declared.threads.Job.{Job}
 use Rattle.unibench_run.proofs.DrawnBy.{of_place}
 
 pub at_below : {A : Type 0} (l : List A) (i : ℕ) (a : A) → slice_get l i ≡ Some a → i < length l

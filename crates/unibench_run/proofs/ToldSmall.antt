@@ -1,27 +1,12 @@
 -- Threads on an object of several words whose calls are all made: their seats, and what they were told.
-use Rattle.std.proofs.Common.{◌≡◌, ◌∙◌, ℕ, zero, suc, ◌+◌, ◌*◌, ◌^◌, ◌<◌, ◌≤◌, List, [], ◌∷◌, ◌++◌, drop, length, map, slice_get, slice_index_or, vec_len, flat_map, All, Contains, Vec, Global, Result, Ok, IfOk, Some, None, refl, sym, ap, subst, arith}
-use Rattle.std.specs.List.{range_with_len, sum_by}
-use Rattle.std.proofs.lemmas.List.{length-map, map-append}
-use Rattle.std.proofs.lemmas.List.Elements.{All-map, Contains-append_left, Contains-append_right}
-use Rattle.std.proofs.lemmas.List.Sums.{sum_by-le}
-use Rattle.std.specs.declared.alloc.AllocError.{AllocError}
-use Rattle.small_objects.specs.Placed.{placed}
-use Rattle.small_objects.specs.Replay.{IsReplayed}
-use Rattle.small_objects.specs.declared.placed.InPlace.{InPlace}
-use Rattle.uni_small.specs.Belongs.{AreFirstSeats, IsSeatOf, calls_of, invocation_width_of, known_calls, processes_of, reply_width_of}
-use Rattle.uni_small.specs.Final.{IsFinal}
+use Rattle.unibench_run.proofs.Vocabulary.{All, All-map, AllocError, AreSmallDone, Contains, Contains-append_left, Contains-append_right, Done, Global, IfOk, InPlace, IsDrawnList, IsFinal, IsReplayed, IsSmallDone, IsSmallDoneOf, IsSmallJob, IsSmallRun, Job, List, None, Ok, Result, Some, Vec, [], ap, arith, at_of_map, calls_of, drawn_by, drop, flat_map, in_words_of, invocation_width_of, known_calls, length, length-map, map, map-append, placed, processes_of, range_with_len, read_in_place, refl, reply_width_of, seed_of, seeded_word, slice_get, slice_get-index, slice_get-map, slice_index_or, subst, suc, sum_by, sum_by-le, sym, vec_len, zero, ℕ, ◌*◌, ◌++◌, ◌+◌, ◌<◌, ◌^◌, ◌∙◌, ◌∷◌, ◌≡◌, ◌≤◌}
+use Rattle.uni_small.specs.Belongs.{AreFirstSeats, IsSeatOf}
 use Rattle.uni_small.specs.Image.{Meaning}
 use Rattle.uni_small.specs.View.{ProcessReturned, Returned}
 use Rattle.uni_small.specs.declared.log.SmallShared.{SmallShared}
 use Rattle.uni_small.specs.declared.seat.SmallSeat.{SmallSeat}
-use Rattle.uni_words.proofs.Agreeing.{at_of_map}
-use Rattle.uni_words.proofs.Comparing.{slice_get-index, slice_get-map}
 use Rattle.uni_words.proofs.Views.{first_there}
-use Rattle.unibench_run.specs.Draws.{drawn_by, seed_of, seeded_word}
-use Rattle.unibench_run.specs.Small.{AreSmallDone, IsDrawnList, IsSmallDone, IsSmallDoneOf, IsSmallJob, IsSmallRun, asked_in}
-use Rattle.unibench_run.specs.Small.{in_words_of, read_in_place}
-use Rattle.unibench_run.specs.declared.threads.Done.{Done}
-use Rattle.unibench_run.specs.declared.threads.Job.{Job}
+use Rattle.unibench_run.specs.Small.{asked_in}
 use Rattle.unibench_run.proofs.DrawnBy.{drawn-next, of_place}
 use Rattle.unibench_run.proofs.Told.{at_below}
 

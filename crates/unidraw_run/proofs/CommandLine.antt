@@ -1,23 +1,13 @@
 -- The command line that the program builds is the one of the definitions, and what refused memory leaves.
-use Rattle.std.proofs.Common.{◌≡◌, ◌∙◌, ◌++◌, ℕ, List, [], ◌∷◌, Option, None, Some, is_some, option_map, Bool, true, false, inl, inr, refl, ap, sym, subst, arith}
+use Rattle.unidraw_run.proofs.Vocabulary.{ArgumentConflict, Bool, Form, HasKind, IsDrawn, Kinds, List, None, Option, OutOfMemory, PictureFault, Script, Some, TellsFault, TellsPictureFault, [], ap, app_of, arith, false, faults_with, inl, inr, is_simple, is_simple_and_free, is_some, memory_of, option_map, picture_fault_line, refl, status_of_picture, subst, sym, true, unidraw, unless_faulty, ℕ, ◌++◌, ◌∙◌, ◌∷◌, ◌≡◌}
 use Rattle.std.proofs.lemmas.List.{append-nil}
 use Rattle.std.specs.Io.KnownBytes.{Appends}
 use Rattle.clap.specs.Values.{kind_of}
-use Rattle.clap.specs.Words.{HasKind, Kinds, app_of, is_simple_and_free, is_simple}
 use Rattle.clap.specs.declared.builder.command.Command.{Command}
 use Rattle.clap.specs.declared.error.Error.{Error}
-use Rattle.clap.specs.declared.error.kind.ErrorKind.TheVariants.{ArgumentConflict, OutOfMemory}
-use Rattle.command_line.proofs.ErrorKinds.{memory_of}
 use Rattle.uni_script.specs.Ends.{AppendsPrefix}
 use Rattle.uni_script.specs.Fault.{fault_line}
-use Rattle.uni_script.specs.Statuses.{TellsFault}
 use Rattle.script_advice.specs.Told.{TellsMore}
-use Rattle.run_layout.specs.declared.subject.PictureFault.{PictureFault}
-use Rattle.run_layout.specs.declared.subject.PictureFault.TheVariants.{Script}
-use Rattle.unidraw_run.specs.CommandLine.{faults_with, unidraw, unless_faulty}
-use Rattle.unidraw_run.specs.Drawn.{IsDrawn}
-use Rattle.unidraw_run.specs.Statuses.{TellsPictureFault, picture_fault_line, status_of_picture}
-use Rattle.unidraw_run.specs.declared.program.Form.{Form}
 use Rattle.unidraw_run.specs.declared.program.Request.{Request}
 
 pub is_simple_and_free-unidraw : (whole : Command) → app_of whole ≡ unidraw → is_simple_and_free (app_of whole) ≡ true

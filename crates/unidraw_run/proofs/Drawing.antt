@@ -1,16 +1,10 @@
 -- A run of the program that has drawn nothing, by its fault.
-use Rattle.std.proofs.Common.{◌≡◌, ◌∙◌, ◌≢◌, ◌≤◌, ℕ, List, Option, Result, Err, IsErrOf, inl, inr, refl, sym, ap, arith}
+use Rattle.unidraw_run.proofs.Vocabulary.{Err, Form, HasNoPicture, IsDrawn, IsErrOf, IsStatusOfPicture, List, Misdrawn, Option, PictureFault, Result, Script, TooManyEvents, ap, arith, inl, inr, refl, status_of, status_of_picture, sym, ℕ, ◌∙◌, ◌≡◌, ◌≢◌, ◌≤◌}
 use Rattle.uni_script.specs.Replay.{HasFault, IsFaultOfScript}
 use Rattle.uni_script.specs.Scripts.{scripts_of}
-use Rattle.uni_script.specs.Statuses.{status_of}
 use Rattle.uni_script.specs.declared.fault.BenchFault.{BenchFault}
 use Rattle.uni_script.specs.declared.fault.BenchFault.TheVariants.{NoHeader, BadHeader, TooLong, BadByte, BadLine, TooMany, Read, Write, Memory, Audit}
 use Rattle.run_layout.specs.Subject.{HasTooManyEvents}
-use Rattle.run_layout.specs.declared.subject.PictureFault.{PictureFault}
-use Rattle.run_layout.specs.declared.subject.PictureFault.TheVariants.{Script, TooManyEvents, Misdrawn}
-use Rattle.unidraw_run.specs.Drawn.{HasNoPicture, IsDrawn}
-use Rattle.unidraw_run.specs.Statuses.{status_of_picture, IsStatusOfPicture}
-use Rattle.unidraw_run.specs.declared.program.Form.{Form}
 
 -- no fault ends with 0, nor does refused memory for its text
 least_status : (f : BenchFault) → 2 ≤ status_of f

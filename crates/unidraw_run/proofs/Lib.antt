@@ -1,2 +1,3 @@
+pub mod Vocabulary
 pub mod Drawing
 pub mod CommandLine

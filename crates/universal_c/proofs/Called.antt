@@ -1,7 +1,5 @@
 -- Calls as C tells them, and as the lists with which the low crate compares a log.
-use Rattle.std.proofs.Common.{◌≡◌, ℕ, List, [], ◌∷◌, map, refl, ap}
-use Rattle.uni_words.specs.Log.{replied}
-use Rattle.universal_c.specs.Told.{told_call}
+use Rattle.universal_c.proofs.Vocabulary.{List, [], ap, map, refl, replied, told_call, ℕ, ◌∷◌, ◌≡◌}
 use Rattle.universal_c.specs.declared.Call.{Call}
 
 abbrev pub pair : Call → ℕ × ℕ

@@ -1,3 +1,4 @@
+pub mod Vocabulary
 pub mod Called
 pub mod Places
 pub mod Pointers

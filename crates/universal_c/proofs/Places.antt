@@ -1,21 +1,7 @@
 -- What a handle owns: nothing at null, and elsewhere a box, of which the pointer may be compared with null. Assumes `Logic`.
-use Rattle.std.proofs.Common.{◌≡◌, ℕ, List, ◌∷◌, refl}
-use seplogic.Ra.Ura.{Ura}
+use Rattle.universal_c.proofs.Vocabulary.{Global, Goal, Item, List, Logic, None, Option, Ptr, RattleType, Seq, Some, Testable, Ura, block_ptr, boxed, drop, ent, fact_use, fpick, fsplit, full_share, ghosts, given, guard, guard_i, learn, lies_at, lone, null_ptr, owned, refl, sem, snd∗, use1, via, ‵, ℕ, ◌$◌, ◌∷◌, ◌≡◌}
 use mir.Raw.{raw as bare}
-use base.Fraction.{full_share}
-use base.Logic.{ent, guard, guard_i, snd∗, via}
-use types.Logic.{Logic, sem}
-use types.Kit.{Item, Goal, Seq, ‵, given, ◌$◌, drop, fpick, fsplit, learn, use1}
-use contract.Monad.{fact_use}
-use denote.RattleType.{RattleType}
-use denote.Memory.{lone}
-use denote.RawPtr.{Ptr, Testable, block_ptr, null_ptr, lies_at}
-use Rattle.std.specs.declared.alloc.Global.{Global}
-use Rattle.std.specs.declared.option.Option.{Option}
-use Rattle.std.specs.declared.option.Option.TheVariants.{None, Some}
-use Rattle.std.specs.contracts.impls.GlobalAllocator.TheImpl.{ghosts}
 use Rattle.std.proofs.GlobalToken.{dealloc_token-Testable}
-use Rattle.universal_c.specs.Owned.{boxed, owned}
 
 module _ (R : RattleType) (heap : Global) where
   module _ {M : Type 1} {𝓤 : Ura M} (𝓛 : Logic 𝓤) (p : Ptr) (x : R.Denot) where

@@ -1,23 +1,6 @@
 -- A struct of a pointer and of the allocator that frees what lies there: what it owns, by its machine value. Assumes `Logic`.
-use Rattle.std.proofs.Common.{◌≡◌, ◌∙◌, List, [], ◌∷◌, ◌++◌, refl}
-use mathlib.Core.Bool.{true, ◌&&◌}
+use Rattle.universal_c.proofs.Vocabulary.{Al, Goal, Good, Item, Laws, List, Logic, Ptr, RattleType, RawPtr, Seq, Step, Struct, Ura, Val, Valss, WT, [], and_tt, block_ptr, dnil, drop, feq_i, feq_l, fjoin, fpack, fpick, fsplit, ftrue, handle_tells, has_ty, impl, layout, move, nothing, null_ptr, of_list, ptr_val, refl, step, tnil, true, vcons, vnil, vstruct, within, ‵, ◌$◌, ◌&&◌, ◌++◌, ◌∙◌, ◌∷◌, ◌≡◌}
 use lib.Dec.{T, lit<}
-use base.Fml.{ftrue}
-use seplogic.Ra.Ura.{Ura}
-use mir.Syntax.{impl, tnil, dnil}
-use mir.Val.{Val, vstruct, vcons, vnil, of_list, has_ty, WT}
-use types.Logic.{Logic}
-use types.Kit.{Item, Goal, Seq, Step, step, ‵, ◌$◌, move, drop, fsplit, fjoin, fpick, fpack, feq_i, feq_l}
-use denote.RattleType.{RattleType, Valss}
-use denote.Builtin.{RawPtr}
-use denote.RawPtr.{Ptr, block_ptr, null_ptr, ptr_val}
-use denote.Steps.{nothing}
-use denote.Param.{layout}
-use denote.Param.Laws.{Laws}
-use denote.Struct.Struct.{Struct, within}
-use Rattle.core.proofs.alloc.Calls.{Al, handle_tells}
-use Rattle.core.proofs.cell.Inside.{Good}
-use Rattle.std_alloc.proofs.ResultValues.{and_tt}
 
 -- the machine value of such a struct
 abbrev pub pointing : Ptr → Val → Val

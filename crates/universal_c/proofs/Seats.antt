@@ -1,13 +1,9 @@
 -- The seats that are left when the last one is given out.
-use Rattle.std.proofs.Common.{◌≡◌, ◌∙◌, ℕ, ◌+◌, ◌<◌, length, refl, sym, ap, subst, List, [], ◌∷◌, ◌++◌, length-append, arith}
-use Rattle.std.specs.Prelude.{slice_get, Some}
+use Rattle.universal_c.proofs.Vocabulary.{AreFirstSeats, IsFreshSeat, List, SmallShared, WordLog, [], ap, arith, get_or_append_left, get_or_push, length, length-append, refl, slice_get, subst, sym, ℕ, ◌++◌, ◌+◌, ◌<◌, ◌∙◌, ◌∷◌, ◌≡◌}
+use Rattle.std.specs.Prelude.{Some}
 use Rattle.std.proofs.lemmas.Option.{slice_get_within, get_or_from_slice_get, slice_get_read}
-use Rattle.std.proofs.lemmas.List.{get_or_append_left, get_or_push}
 use Rattle.uni_small.specs.Belongs.{AreFirstSeats as AreFirstPlaces, IsFreshSeat as IsFreshPlace}
-use Rattle.uni_small.specs.declared.log.SmallShared.{SmallShared}
 use Rattle.uni_small.specs.declared.seat.SmallSeat.{SmallSeat}
-use Rattle.uni_words.specs.Belongs.{AreFirstSeats, IsFreshSeat}
-use Rattle.uni_words.specs.declared.log.WordLog.{WordLog}
 use Rattle.uni_words.specs.declared.seat.WordSeat.{WordSeat}
 
 get_left : {X : Type 0} (xs ys : List X) (i : ℕ) (x : X) → slice_get xs i ≡ Some x → slice_get (xs ++ ys) i ≡ Some x

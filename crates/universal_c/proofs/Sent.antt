@@ -1,25 +1,14 @@
 -- What a handle holds may go to another thread, also the words of a closed log: rows of numbers, and the rights to free them by any thread.
-use mathlib.Core.Bool.{Bool, true, false}
-use Rattle.std.proofs.Common.{List, [], ◌∷◌}
-use base.Fml.{Fml}
-use base.Shift.{Keyless}
-use mir.Syntax.{Ty}
-use denote.Builtin.{u8, u64}
+use Rattle.universal_c.proofs.Vocabulary.{AllSend, Bool, Fml, IsSend, Keyless, List, Ptr, RattleType, Ty, [], block_ptr, enum_send, exits_of, false, ghosts, in_block, lies, null_ptr, owning_send, quiet, recorded_send, room_for, sendable, struct_send, true, u64, u8, ◌+ₚ◌, ◌∷◌}
 use denote.Enum.Declared as enum
-use denote.Param.Send.{AllSend, IsSend, enum_send, owning_send, recorded_send, sendable, struct_send}
-use denote.RattleType.{RattleType}
-use denote.RawPtr.{Ptr, block_ptr, null_ptr, room_for, in_block, ◌+ₚ◌}
 use denote.Struct.Declared as declared
 use denote.Struct.Owning as owning
-use denote.Struct.Struct.{exits_of}
 use Rattle.core.specs.Mem.Slots.Ownership.{bytes_of, slots}
 use Rattle.core.specs.contracts.slots.Slots as Slots
 use Rattle.core.specs.contracts.slots.Lease as Lease
 use Rattle.std.proofs.Crossing as crossing
 use Rattle.std.proofs.alloc.Global.TheSendSync as heap
 use Rattle.std.specs.contracts.alloc.Global as Heap
-use Rattle.std.specs.contracts.impls.GlobalAllocator.TheImpl.{ghosts}
-use Rattle.std_alloc.proofs.SendSync.{lies, quiet}
 use Rattle.atomic_table.specs.contracts.owned.Closed as Closed
 use Rattle.uni_words.specs.contracts.read.WordEntry as WordEntry
 use Rattle.uni_words.specs.contracts.words.Words as Words

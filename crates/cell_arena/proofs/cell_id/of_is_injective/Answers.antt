@@ -1,5 +1,4 @@
-use Rattle.std.proofs.Common.{arith}
-use Rattle.std.proofs.lemmas.Nat.{same_from_place}
+use Rattle.cell_arena.proofs.Vocabulary.{arith, same_from_place}
 use Rattle.cell_arena.proofs.cell_id.of_is_injective.Goals as goal
 
 pub returns-clause-injective : goal.returns-clause-injective

@@ -1,5 +1,4 @@
-use Rattle.std.proofs.Common.{◌≡◌, length}
-use Rattle.cell_arena.specs.Rows.{AreEmpty}
+use Rattle.cell_arena.proofs.Vocabulary.{AreEmpty, length, ◌≡◌}
 use Rattle.cell_arena.proofs.rows.empty_rows.Given as goal
 
 abbrev pub invariant-loop : goal.invariant-loop

@@ -1,5 +1,4 @@
-use Rattle.std.proofs.Common.{◌≡◌, ◌*◌, ◌≤◌, take}
-use Rattle.std.specs.Prelude.{sum}
+use Rattle.ready_objects.proofs.Vocabulary.{sum, take, ◌*◌, ◌≡◌, ◌≤◌}
 use Rattle.ready_objects.proofs.book.total.Given as goal
 
 abbrev pub invariant-loop-balance : goal.invariant-loop-balance

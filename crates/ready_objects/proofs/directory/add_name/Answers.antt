@@ -1,5 +1,4 @@
-use Rattle.std.proofs.Common.{subst}
-use Rattle.ready_objects.specs.SharedNames.{AddsName}
+use Rattle.ready_objects.proofs.Vocabulary.{AddsName, subst}
 use Rattle.ready_objects.proofs.DirectoryPlaces.{AddsName-inserted}
 use Rattle.ready_objects.proofs.directory.add_name.Goals as goal
 

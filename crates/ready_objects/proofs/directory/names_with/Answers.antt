@@ -1,7 +1,4 @@
-use Rattle.std.proofs.Common.{◌≡◌, position, Some}
-use Rattle.std.specs.Arc.{arc_value}
-use Rattle.std.specs.Str.{bytes_eq}
-use Rattle.std.proofs.lemmas.List.Elements.{same_from_all_zip}
+use Rattle.ready_objects.proofs.Vocabulary.{Some, arc_value, bytes_eq, position, same_from_all_zip, ◌≡◌}
 use Rattle.ready_objects.proofs.DirectoryPlaces.{AddsName-there}
 use Rattle.ready_objects.proofs.directory.names_with.Goals as goal
 

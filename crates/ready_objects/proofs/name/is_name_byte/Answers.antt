@@ -1,5 +1,4 @@
-use Rattle.std.proofs.Common.{arith}
-use Rattle.std.proofs.lemmas.Bool.Decides.{nat_tests}
+use Rattle.ready_objects.proofs.Vocabulary.{arith, nat_tests}
 use Rattle.ready_objects.proofs.name.is_name_byte.Goals as goal
 
 pub returns-then-byte-le122 : goal.returns-then-byte-le122

@@ -1,5 +1,4 @@
-use Rattle.std.proofs.Common.{◌≡◌, take}
-use Rattle.std.specs.Str.Parse.{digits_value}
+use Rattle.ready_objects.proofs.Vocabulary.{digits_value, take, ◌≡◌}
 use Rattle.ready_objects.proofs.number.digits_value.Given as goal
 
 abbrev pub invariant-loop-digit : goal.invariant-loop-digit

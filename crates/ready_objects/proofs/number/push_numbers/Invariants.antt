@@ -1,6 +1,4 @@
-use Rattle.std.proofs.Common.{◌≡◌, ◌++◌, drop}
-use Rattle.std.specs.Fmt.{decimal}
-use Rattle.ready_objects.specs.Words.{spaced_from}
+use Rattle.ready_objects.proofs.Vocabulary.{decimal, drop, spaced_from, ◌++◌, ◌≡◌}
 use Rattle.ready_objects.proofs.number.push_numbers.Given as goal
 
 -- the numbers so far, and those of the rest

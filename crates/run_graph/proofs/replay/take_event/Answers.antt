@@ -1,10 +1,4 @@
-use Rattle.std.proofs.Common.{◌∙◌, ap, arith, sym, Some}
-use Rattle.uni_model.specs.Places.{new_of}
-use Rattle.uni_model.specs.Places.Name.{Anchor}
-use Rattle.uni_model.specs.Worlds.{WorldOf}
-use Rattle.uni_model.specs.Worlds.Event.{Call, Step}
-use Rattle.uni_core.specs.World.{world_of}
-use Rattle.run_graph.specs.Schedule.{plan_of, call_in}
+use Rattle.run_graph.proofs.Vocabulary.{Anchor, Call, Some, Step, WorldOf, ap, arith, call_in, new_of, plan_of, sym, world_of, ◌∙◌}
 use Rattle.run_graph.proofs.Moves.{anchor_stays, moved-call}
 use Rattle.run_graph.proofs.replay.take_event.Goals as goal
 

@@ -1,9 +1,4 @@
-use Rattle.std.proofs.Common.{◌∙◌, ◌+◌, drop, ap, sym, Some, None, if◌then◌else◌}
-use Rattle.uni_model.specs.Places.{new_of}
-use Rattle.uni_model.specs.Places.Name.{Anchor}
-use Rattle.uni_model.specs.Worlds.{WorldOf}
-use Rattle.uni_core.specs.World.{world_of}
-use Rattle.run_graph.specs.Schedule.{plan_of, along}
+use Rattle.run_graph.proofs.Vocabulary.{Anchor, None, Some, WorldOf, along, ap, drop, if◌then◌else◌, new_of, plan_of, sym, world_of, ◌+◌, ◌∙◌}
 use Rattle.run_graph.proofs.Along.{along-none, along-taken, drop-past}
 use Rattle.run_graph.proofs.replay.world_at.Goals as goal
 

@@ -1,8 +1,4 @@
-use Rattle.std.proofs.Common.{◌≡◌, Some, None, drop}
-use Rattle.uni_model.specs.Places.{new_of}
-use Rattle.uni_model.specs.Places.Name.{Anchor}
-use Rattle.uni_core.specs.World.{world_of}
-use Rattle.run_graph.specs.Schedule.{plan_of, along, world_at}
+use Rattle.run_graph.proofs.Vocabulary.{Anchor, None, Some, along, drop, new_of, plan_of, world_at, world_of, ◌≡◌}
 use Rattle.run_graph.proofs.replay.world_at.Given as goal
 
 abbrev pub invariant-loop-p : goal.invariant-loop-p

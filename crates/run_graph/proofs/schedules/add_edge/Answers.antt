@@ -1,7 +1,4 @@
-use Rattle.std.proofs.Common.{sym, subst}
-use Rattle.run_graph.specs.AtHand.{IsTold}
-use Rattle.run_graph.specs.Schedule.{plan_of}
-use Rattle.run_graph.specs.Graph.{shown_at, IsPart}
+use Rattle.run_graph.proofs.Vocabulary.{IsPart, IsTold, plan_of, shown_at, subst, sym}
 use Rattle.run_graph.proofs.AtHand.{AreAtHand-kept}
 use Rattle.run_graph.proofs.Parts.{IsPart-edge}
 use Rattle.run_graph.proofs.schedules.add_edge.Goals as goal

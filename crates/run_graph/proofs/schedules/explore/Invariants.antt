@@ -1,7 +1,4 @@
-use Rattle.std.proofs.Common.{◌≡◌, ◌+◌, ◌*◌, ◌<◌, ◌≤◌, length}
-use Rattle.run_graph.specs.AtHand.{AreAtHand}
-use Rattle.run_graph.specs.Schedule.{plan_of}
-use Rattle.run_graph.specs.Graph.{IsPart}
+use Rattle.run_graph.proofs.Vocabulary.{AreAtHand, IsPart, length, plan_of, ◌*◌, ◌+◌, ◌<◌, ◌≡◌, ◌≤◌}
 use Rattle.run_graph.proofs.schedules.explore.Given as goal
 
 abbrev pub invariant-loop-i : goal.invariant-loop-i

@@ -1,8 +1,4 @@
-use Rattle.std.proofs.Common.{◌∙◌, ◌-◌, ap, arith, length, refl, slice_get, sym, Some}
-use Rattle.std.proofs.lemmas.Option.{slice_get_read}
-use Rattle.run_graph.specs.AtHand.{IsTold}
-use Rattle.run_graph.specs.Graph.{shown_at}
-use Rattle.run_graph.specs.Schedule.{plan_of, world_at}
+use Rattle.run_graph.proofs.Vocabulary.{IsTold, Some, ap, arith, length, plan_of, refl, shown_at, slice_get, slice_get_read, sym, world_at, ◌-◌, ◌∙◌}
 use Rattle.run_graph.proofs.AtHand.{IsTold-at, IsTold-replayed}
 use Rattle.run_graph.proofs.schedules.is_at.Goals as goal
 

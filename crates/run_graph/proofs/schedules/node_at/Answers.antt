@@ -1,9 +1,4 @@
-use Rattle.std.proofs.Common.{◌≡◌, ◌∙◌, ◌++◌, ◌∷◌, [], arith, refl, sym, subst, IsSome, Some}
-use Rattle.uni_core.specs.World.{world_of}
-use Rattle.uni_core.specs.Same.{without_counts}
-use Rattle.run_graph.specs.AtHand.{AreAtHand}
-use Rattle.run_graph.specs.Graph.{IsMore, shown_at}
-use Rattle.run_graph.specs.Schedule.{plan_of}
+use Rattle.run_graph.proofs.Vocabulary.{AreAtHand, IsMore, IsSome, Some, [], arith, plan_of, refl, shown_at, subst, sym, without_counts, world_of, ◌++◌, ◌∙◌, ◌∷◌, ◌≡◌}
 use Rattle.run_graph.proofs.AtHand.{AreAtHand-grown}
 use Rattle.run_graph.proofs.Parts.{IsMore-push, LeadsTo-push}
 use Rattle.run_graph.proofs.schedules.node_at.Goals as goal

@@ -1,6 +1,4 @@
-use Rattle.std.proofs.Common.{◌∙◌, ◌++◌, ◌∷◌, [], ap, sym, Some, None, if◌then◌else◌}
-use Rattle.uni_core.specs.World.{world_of}
-use Rattle.run_graph.specs.Schedule.{plan_of, shown}
+use Rattle.run_graph.proofs.Vocabulary.{None, Some, [], ap, if◌then◌else◌, plan_of, shown, sym, world_of, ◌++◌, ◌∙◌, ◌∷◌}
 use Rattle.run_graph.proofs.AtHand.{shown-taken}
 use Rattle.run_graph.proofs.Parts.{path_of-read}
 use Rattle.run_graph.proofs.schedules.target_of.Goals as goal

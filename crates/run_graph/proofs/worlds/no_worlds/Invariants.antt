@@ -1,5 +1,4 @@
-use Rattle.std.proofs.Common.{◌≡◌, ℕ, [], length}
-use Rattle.run_graph.specs.AtHand.{list_at}
+use Rattle.run_graph.proofs.Vocabulary.{[], length, list_at, ℕ, ◌≡◌}
 use Rattle.run_graph.proofs.worlds.no_worlds.Given as goal
 
 abbrev pub invariant-loop : goal.invariant-loop

@@ -1,7 +1,4 @@
-use Rattle.std.proofs.Common.{◌∙◌, ap, sym, subst, IfSome}
-use Rattle.run_graph.specs.AtHand.{IsTold}
-use Rattle.run_graph.specs.Graph.{shown_at}
-use Rattle.run_graph.specs.Schedule.{plan_of, world_at}
+use Rattle.run_graph.proofs.Vocabulary.{IfSome, IsTold, ap, plan_of, shown_at, subst, sym, world_at, ◌∙◌}
 use Rattle.run_graph.proofs.AtHand.{AreAtHand-taken, IsTold-taken, IsTold-replayed}
 use Rattle.run_graph.proofs.worlds.take_world.Goals as goal
 

@@ -1,7 +1,4 @@
-use Rattle.std.proofs.Common.{◌≡◌, ◌++◌, map}
-use Rattle.std.specs.List.{filter}
-use Rattle.run_replay.specs.MarksShown.{bar_shown}
-use Rattle.run_layout.specs.Choice.{bar_in, is_bar_in}
+use Rattle.run_layout.proofs.Vocabulary.{bar_in, bar_shown, filter, is_bar_in, map, ◌++◌, ◌≡◌}
 use Rattle.run_layout.proofs.choice.bars_in.Given as goal
 
 -- the bars so far, and those of the rest

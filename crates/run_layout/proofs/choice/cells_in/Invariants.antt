@@ -1,7 +1,4 @@
-use Rattle.std.proofs.Common.{◌≡◌, ◌++◌, map, not}
-use Rattle.std.specs.List.{filter, list_any}
-use Rattle.run_replay.specs.MarksShown.{cell_shown}
-use Rattle.run_layout.specs.Choice.{links_outside}
+use Rattle.run_layout.proofs.Vocabulary.{cell_shown, filter, links_outside, list_any, map, not, ◌++◌, ◌≡◌}
 use Rattle.run_layout.proofs.choice.cells_in.Given as goal
 
 -- the cells so far, and those of the rest

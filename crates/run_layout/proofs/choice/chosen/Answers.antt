@@ -1,8 +1,4 @@
-use Rattle.std.proofs.Common.{◌∙◌, ap, map, refl}
-use Rattle.std.specs.List.{filter}
-use Rattle.run_replay.specs.MarksShown.{marks_shown}
-use Rattle.run_replay.proofs.Replayed.{marks_are}
-use Rattle.run_layout.specs.Choice.{is_in, meets, step_in, dot_in, line_in, era_in}
+use Rattle.run_layout.proofs.Vocabulary.{ap, dot_in, era_in, filter, is_in, line_in, map, marks_are, marks_shown, meets, refl, step_in, ◌∙◌}
 use Rattle.run_layout.proofs.choice.chosen.Goals as goal
 
 pub returns-clause-chosen : goal.returns-clause-chosen

@@ -1,5 +1,4 @@
-use Rattle.std.proofs.Common.{◌≡◌, ◌≤◌, ◌+◌, ◌++◌, length}
-use Rattle.run_layout.specs.Choice.{chosen_remarks}
+use Rattle.run_layout.proofs.Vocabulary.{chosen_remarks, length, ◌++◌, ◌+◌, ◌≡◌, ◌≤◌}
 use Rattle.run_layout.proofs.choice.chosen_remarks.Given as goal
 
 -- the remarks so far, and those of the rest

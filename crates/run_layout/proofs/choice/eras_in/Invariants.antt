@@ -1,7 +1,4 @@
-use Rattle.std.proofs.Common.{◌≡◌, ◌++◌, map}
-use Rattle.std.specs.List.{filter}
-use Rattle.run_replay.specs.MarksShown.{era_shown}
-use Rattle.run_layout.specs.Choice.{meets, era_in}
+use Rattle.run_layout.proofs.Vocabulary.{era_in, era_shown, filter, map, meets, ◌++◌, ◌≡◌}
 use Rattle.run_layout.proofs.choice.eras_in.Given as goal
 
 -- the eras so far, and those of the rest

@@ -1,7 +1,4 @@
-use Rattle.std.proofs.Common.{◌∙◌, ◌+◌, ◌-◌, ◌++◌, ◌∷◌, [], map, ap, sym, arith}
-use Rattle.run_layout.specs.declared.marked.Mark.TheVariants.{Name}
-use Rattle.run_layout.specs.Marked.{at, sign_shown}
-use Rattle.run_layout.specs.Wording.{name_text}
+use Rattle.run_layout.proofs.Vocabulary.{Name, [], ap, arith, at, map, name_text, sign_shown, sym, ◌++◌, ◌+◌, ◌-◌, ◌∙◌, ◌∷◌}
 use Rattle.run_layout.proofs.Names.{names_from-more, names_from-none}
 use Rattle.run_layout.proofs.Pushing.{added_first, added_all}
 use Rattle.run_layout.proofs.marked.push_names.Goals as goal

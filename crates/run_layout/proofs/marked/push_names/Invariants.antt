@@ -1,5 +1,4 @@
-use Rattle.std.proofs.Common.{◌≡◌, ◌++◌, ◌-◌, map}
-use Rattle.run_layout.specs.Marked.{names_from, sign_shown}
+use Rattle.run_layout.proofs.Vocabulary.{map, names_from, sign_shown, ◌++◌, ◌-◌, ◌≡◌}
 use Rattle.run_layout.proofs.marked.push_names.Given as goal
 
 -- the names so far, and those of the processes from here on

@@ -1,6 +1,4 @@
-use Rattle.std.proofs.Common.{◌≡◌, ◌++◌, map, drop}
-use Rattle.run_replay.specs.MarksShown.{era_shown}
-use Rattle.run_layout.specs.Marked.{new_names, sign_shown}
+use Rattle.run_layout.proofs.Vocabulary.{drop, era_shown, map, new_names, sign_shown, ◌++◌, ◌≡◌}
 use Rattle.run_layout.proofs.marked.push_new_names.Given as goal
 
 -- the names so far, and those of the eras from here on

@@ -1,8 +1,4 @@
-use Rattle.std.proofs.Common.{◌≡◌, ◌++◌, map, take}
-use Rattle.std.specs.List.{flat_map}
-use Rattle.run_replay.specs.MarksShown.{bar_shown}
-use Rattle.run_layout.specs.Refusals.{told_shown}
-use Rattle.run_layout.specs.Marked.{sign_shown, line_sign, bar_sign, arrow_signs, step_sign, dot_sign, text_signs, refusal_signs}
+use Rattle.run_layout.proofs.Vocabulary.{arrow_signs, bar_shown, bar_sign, dot_sign, flat_map, line_sign, map, refusal_signs, sign_shown, step_sign, take, text_signs, told_shown, ◌++◌, ◌≡◌}
 use Rattle.run_layout.proofs.marked.signs_of.Given as goal
 
 -- each loop: the signs so far

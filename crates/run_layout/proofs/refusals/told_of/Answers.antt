@@ -1,7 +1,5 @@
-use Rattle.std.proofs.Common.{◌≡◌, ◌∙◌, ◌+◌, ◌++◌, ◌∷◌, [], ◌-◌, length, map, take, drop, ap, sym, rules}
-use Rattle.run_layout.specs.Refusals.{told_shown, label_after, times_after}
+use Rattle.run_layout.proofs.Vocabulary.{[], ap, drop, label_after, length, map, rules, sym, take, take_rest, times_after, told_shown, ◌++◌, ◌+◌, ◌-◌, ◌∙◌, ◌∷◌, ◌≡◌}
 use Rattle.run_layout.proofs.Telling.{labels_more, labels_none}
-use Rattle.std.proofs.lemmas.List.{take_rest}
 use Rattle.run_layout.proofs.Pushing.{added_first, added_all}
 use Rattle.run_layout.proofs.refusals.told_of.Goals as goal
 

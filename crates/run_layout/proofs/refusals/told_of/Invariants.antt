@@ -1,5 +1,4 @@
-use Rattle.std.proofs.Common.{◌≡◌, ◌≤◌, ◌++◌, length, map, drop}
-use Rattle.run_layout.specs.Refusals.{told_shown, labels_from, labels_of}
+use Rattle.run_layout.proofs.Vocabulary.{drop, labels_from, labels_of, length, map, told_shown, ◌++◌, ◌≡◌, ◌≤◌}
 use Rattle.run_layout.proofs.refusals.told_of.Given as goal
 
 -- the labels so far, and those of the rest

@@ -1,9 +1,6 @@
-use Rattle.std.proofs.Common.{◌∙◌, sym, ap}
+use Rattle.run_layout.proofs.Vocabulary.{ap, events_shown, marks_of_events, marks_of_record, spoken_of, state_text_of, sym, ◌∙◌}
 use Rattle.std.proofs.lemmas.Result.{IfOk-weaker}
-use Rattle.uni_record.specs.Event.{events_shown}
 use Rattle.uni_script.specs.declared.grammar.ObjectName.TheVariants as name
-use Rattle.uni_script.specs.Objects.{spoken_of}
-use Rattle.run_layout.specs.Subject.{marks_of_events, marks_of_record, state_text_of}
 use Rattle.run_layout.proofs.subject.marks_of_record.Goals as goal
 
 pub returns-in-Queue-clause-marks : goal.returns-in-Queue-clause-marks

@@ -1,7 +1,5 @@
-use Rattle.std.proofs.Common.{List, length, ◌≤◌, sym, subst}
+use Rattle.run_layout.proofs.Vocabulary.{List, PlacedRemark, length, spoken, subst, sym, ◌≤◌}
 use Rattle.run_layout.proofs.Scripts.{default_own_run, own_subject, own_few, own_remarks, own_more, IfOk-three}
-use Rattle.uni_script.specs.declared.remarks.PlacedRemark.{PlacedRemark}
-use Rattle.uni_script.specs.Objects.{spoken}
 use Rattle.run_layout.proofs.subject.subject_of_object.Goals as goal
 
 pub returns-clause-subject : goal.returns-clause-subject

@@ -1,9 +1,5 @@
-use Rattle.std.proofs.Common.{◌≡◌, ◌∙◌, ◌++◌, [], ap, sym, subst, None, Some, OnOk, map, get_or, append-nil}
-use Rattle.std.specs.List.{find}
-use Rattle.std.specs.Option.{option_map_or}
-use Rattle.std.proofs.lemmas.List.{map-id, get_or_default, drop_all}
-use Rattle.run_replay.specs.MarksShown.{cell_shown}
-use Rattle.run_layout.specs.Wording.{linker_text, is_help}
+use Rattle.run_layout.proofs.Vocabulary.{None, OnOk, Some, [], ap, cell_shown, drop_all, find, get_or, get_or_default, is_help, linker_text, map, map-id, option_map_or, subst, sym, ◌++◌, ◌∙◌, ◌≡◌}
+use Rattle.std.proofs.Common.{append-nil}
 use Rattle.run_layout.proofs.Finding.{found_here}
 use Rattle.run_layout.proofs.wording.push_helper.Goals as goal
 

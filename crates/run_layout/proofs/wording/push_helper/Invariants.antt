@@ -1,7 +1,4 @@
-use Rattle.std.proofs.Common.{◌≡◌, drop, map}
-use Rattle.std.specs.List.{find}
-use Rattle.run_replay.specs.MarksShown.{cell_shown}
-use Rattle.run_layout.specs.Wording.{is_help}
+use Rattle.run_layout.proofs.Vocabulary.{cell_shown, drop, find, is_help, map, ◌≡◌}
 use Rattle.run_layout.proofs.wording.push_helper.Given as goal
 
 -- none of the dots so far is one of help

@@ -1,5 +1,4 @@
-use Rattle.std.proofs.Common.{◌≡◌, ◌≤◌}
-use Rattle.run_layout.specs.Wrapping.{last_space}
+use Rattle.run_layout.proofs.Vocabulary.{last_space, ◌≡◌, ◌≤◌}
 use Rattle.run_layout.proofs.wrapping.last_space.Given as goal
 
 -- the last space is below the place

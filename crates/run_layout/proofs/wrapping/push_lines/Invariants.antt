@@ -1,5 +1,4 @@
-use Rattle.std.proofs.Common.{◌≡◌, ◌≤◌, ◌+◌, ◌++◌, ◌-◌, length, map}
-use Rattle.run_layout.specs.Wrapping.{lines_of}
+use Rattle.run_layout.proofs.Vocabulary.{length, lines_of, map, ◌++◌, ◌+◌, ◌-◌, ◌≡◌, ◌≤◌}
 use Rattle.run_layout.proofs.wrapping.push_lines.Given as goal
 
 -- the lines so far, and those of the rest

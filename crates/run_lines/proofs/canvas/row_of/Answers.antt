@@ -1,8 +1,4 @@
-use Rattle.std.proofs.Common.{rules, ◌≡◌, ◌∙◌, map, arith, replicate, get_or, ap}
-use Rattle.std.proofs.lemmas.Grind.{common_steps}
-use Rattle.std.proofs.lemmas.List.FromFn.{fill_by_all}
-use Rattle.std.proofs.lemmas.List.{take_all, get_or-replicate}
-use Rattle.run_lines.specs.Canvas.{stroke_shown, letter_at}
+use Rattle.run_lines.proofs.Vocabulary.{ap, arith, common_steps, fill_by_all, get_or, get_or-replicate, letter_at, map, replicate, rules, stroke_shown, take_all, ◌∙◌, ◌≡◌}
 use Rattle.run_lines.proofs.Painting.{letter_at_more}
 use Rattle.run_lines.proofs.canvas.row_of.Goals as goal
 use Rattle.run_lines.proofs.canvas.row_of.Goals.{then-is_in_row, else-is_in_row}

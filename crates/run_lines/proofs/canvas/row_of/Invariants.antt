@@ -1,5 +1,4 @@
-use Rattle.std.proofs.Common.{◌≡◌, ◌<◌, ℕ, length, map, take, get_or}
-use Rattle.run_lines.specs.Canvas.{stroke_shown, letter_at}
+use Rattle.run_lines.proofs.Vocabulary.{get_or, length, letter_at, map, stroke_shown, take, ℕ, ◌<◌, ◌≡◌}
 use Rattle.run_lines.proofs.canvas.row_of.Given as goal
 
 -- each letter is that of the strokes so far

@@ -1,8 +1,4 @@
-use Rattle.std.proofs.Common.{◌≡◌, ◌∙◌, ◌++◌, ◌∷◌, [], map, ap, arith, sym}
-use Rattle.std.specs.List.{range_with_len}
-use Rattle.std.proofs.lemmas.List.{map-append}
-use Rattle.std.proofs.lemmas.List.FromFn.{map-range_with_len_more}
-use Rattle.run_lines.specs.Canvas.{stroke_shown, row_of, rows_of}
+use Rattle.run_lines.proofs.Vocabulary.{[], ap, arith, map, map-append, map-range_with_len_more, range_with_len, row_of, rows_of, stroke_shown, sym, ◌++◌, ◌∙◌, ◌∷◌, ◌≡◌}
 use Rattle.run_lines.proofs.canvas.rows_of.Goals as goal
 
 pub loop-row-preserved : goal.loop-row-preserved

@@ -1,6 +1,4 @@
-use Rattle.std.proofs.Common.{◌≡◌, map}
-use Rattle.std.specs.List.{range_with_len}
-use Rattle.run_lines.specs.Canvas.{stroke_shown, row_of}
+use Rattle.run_lines.proofs.Vocabulary.{map, range_with_len, row_of, stroke_shown, ◌≡◌}
 use Rattle.run_lines.proofs.canvas.rows_of.Given as goal
 
 -- the rows so far

@@ -1,8 +1,4 @@
-use Rattle.std.proofs.Common.{◌≡◌, ◌++◌, map}
-use Rattle.std.specs.Prelude.{not}
-use Rattle.std.specs.List.{filter}
-use Rattle.run_layout.specs.Marked.{Sign, sign_shown}
-use Rattle.run_lines.specs.Parts.{is_arrow}
+use Rattle.run_lines.proofs.Vocabulary.{Sign, filter, is_arrow, map, not, sign_shown, ◌++◌, ◌≡◌}
 use Rattle.run_lines.proofs.parts.layered.Given as goal
 
 -- both so far, and those of the rest

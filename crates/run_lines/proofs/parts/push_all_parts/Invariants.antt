@@ -1,8 +1,4 @@
-use Rattle.std.proofs.Common.{◌≡◌, ◌++◌, map, take}
-use Rattle.std.specs.List.{flat_map}
-use Rattle.signs.specs.Signs.{meaning}
-use Rattle.run_layout.specs.Marked.{sign_shown}
-use Rattle.run_lines.specs.Parts.{parts_of}
+use Rattle.run_lines.proofs.Vocabulary.{flat_map, map, meaning, parts_of, sign_shown, take, ◌++◌, ◌≡◌}
 use Rattle.run_lines.proofs.parts.push_all_parts.Given as goal
 
 -- those so far

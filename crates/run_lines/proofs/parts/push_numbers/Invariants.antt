@@ -1,7 +1,4 @@
-use Rattle.std.proofs.Common.{◌≡◌, ◌≤◌, ◌++◌, map, drop}
-use Rattle.signs.specs.Signs.{meaning}
-use Rattle.run_lines.specs.Numbers.{no_notes}
-use Rattle.run_lines.specs.Parts.{numbers_from}
+use Rattle.run_lines.proofs.Vocabulary.{drop, map, meaning, no_notes, numbers_from, ◌++◌, ◌≡◌, ◌≤◌}
 use Rattle.run_lines.proofs.parts.push_numbers.Given as goal
 
 -- the numbers so far, and those of the rest

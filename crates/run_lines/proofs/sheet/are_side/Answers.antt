@@ -1,7 +1,6 @@
-use Rattle.std.proofs.Common.{List, rules}
+use Rattle.run_lines.proofs.Vocabulary.{AreSide, List, rules}
 use Rattle.signs.proofs.Rest.{more_at, none}
 use Rattle.run_lines.specs.declared.sheet.Block.{Block}
-use Rattle.run_lines.specs.Sheet.{AreSide}
 use Rattle.run_lines.proofs.sheet.are_side.Goals as goal
 
 pub loop-block-preserved : goal.loop-block-preserved

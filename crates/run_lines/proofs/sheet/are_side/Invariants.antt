@@ -1,5 +1,4 @@
-use Rattle.std.proofs.Common.{drop}
-use Rattle.run_lines.specs.Sheet.{AreSide}
+use Rattle.run_lines.proofs.Vocabulary.{AreSide, drop}
 use Rattle.run_lines.proofs.sheet.are_side.Given as goal
 
 -- what is seen of the rest is all that is missing

@@ -1,6 +1,4 @@
-use Rattle.std.proofs.Common.{◌≡◌, ◌∙◌, ◌++◌, ◌∷◌, [], List, ℕ, ap, map, take, sym, append-nil, append_assoc}
-use Rattle.std.proofs.lemmas.List.{drop_all, take-map}
-use Rattle.run_lines.specs.Sheet.{bottom_row, rows_text, block_text}
+use Rattle.run_lines.proofs.Vocabulary.{List, [], ap, append-nil, append_assoc, block_text, bottom_row, drop_all, map, rows_text, sym, take, take-map, ℕ, ◌++◌, ◌∙◌, ◌∷◌, ◌≡◌}
 use Rattle.run_lines.proofs.sheet.push_block.Goals as goal
 
 pub returns : goal.returns

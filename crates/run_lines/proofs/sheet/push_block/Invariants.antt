@@ -1,5 +1,4 @@
-use Rattle.std.proofs.Common.{◌≡◌, ◌++◌, map, drop}
-use Rattle.run_lines.specs.Sheet.{rows_text}
+use Rattle.run_lines.proofs.Vocabulary.{drop, map, rows_text, ◌++◌, ◌≡◌}
 use Rattle.run_lines.proofs.sheet.push_block.Given as goal
 
 -- the rows so far, and the rest

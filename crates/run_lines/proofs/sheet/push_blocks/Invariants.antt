@@ -1,6 +1,4 @@
-use Rattle.std.proofs.Common.{◌≡◌, ◌++◌, map, take}
-use Rattle.std.specs.List.{flat_map}
-use Rattle.run_lines.specs.Sheet.{block_text}
+use Rattle.run_lines.proofs.Vocabulary.{block_text, flat_map, map, take, ◌++◌, ◌≡◌}
 use Rattle.run_lines.proofs.sheet.push_blocks.Given as goal
 
 -- the blocks so far

@@ -1,6 +1,5 @@
-use Rattle.std.proofs.Common.{◌∙◌}
+use Rattle.run_lines.proofs.Vocabulary.{row_text, ◌∙◌}
 use Rattle.std.proofs.lemmas.Result.{on_ok_weaker}
-use Rattle.run_lines.specs.Sheet.{row_text}
 use Rattle.run_lines.proofs.sheet.push_row.Goals as goal
 
 pub returns : goal.returns

@@ -1,5 +1,4 @@
-use Rattle.std.proofs.Common.{◌≡◌, ◌≤◌, ◌+◌, ◌==◌, length, take}
-use Rattle.std.specs.List.{suffix_len}
+use Rattle.run_lines.proofs.Vocabulary.{length, suffix_len, take, ◌+◌, ◌==◌, ◌≡◌, ◌≤◌}
 use Rattle.run_lines.proofs.sheet.trimmed.Given as goal
 
 -- the blanks so far, and those before them

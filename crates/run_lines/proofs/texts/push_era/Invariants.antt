@@ -1,7 +1,4 @@
-use Rattle.std.proofs.Common.{◌≡◌, ◌++◌, map, take}
-use Rattle.std.specs.List.{flat_map}
-use Rattle.run_replay.specs.MarksShown.{cell_shown}
-use Rattle.run_lines.specs.Sheet.{cell_text}
+use Rattle.run_lines.proofs.Vocabulary.{cell_shown, cell_text, flat_map, map, take, ◌++◌, ◌≡◌}
 use Rattle.run_lines.proofs.texts.push_era.Given as goal
 
 -- the cells so far

@@ -1,6 +1,4 @@
-use Rattle.std.proofs.Common.{◌≡◌, ◌++◌, map, drop}
-use Rattle.run_replay.specs.MarksShown.{era_shown}
-use Rattle.run_lines.specs.Sheet.{eras_from}
+use Rattle.run_lines.proofs.Vocabulary.{drop, era_shown, eras_from, map, ◌++◌, ◌≡◌}
 use Rattle.run_lines.proofs.texts.push_eras.Given as goal
 
 -- the eras so far, and those of the rest

@@ -1,5 +1,4 @@
-use Rattle.std.proofs.Common.{◌≡◌, ◌++◌, take}
-use Rattle.run_lines.specs.Sheet.{headings_text}
+use Rattle.run_lines.proofs.Vocabulary.{headings_text, take, ◌++◌, ◌≡◌}
 use Rattle.run_lines.proofs.texts.push_headings.Given as goal
 
 -- the headings so far

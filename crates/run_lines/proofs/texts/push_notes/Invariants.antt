@@ -1,6 +1,4 @@
-use Rattle.std.proofs.Common.{◌≡◌, ◌≤◌, ◌++◌, drop}
-use Rattle.run_lines.specs.Numbers.{no_notes}
-use Rattle.run_lines.specs.Sheet.{notes_from}
+use Rattle.run_lines.proofs.Vocabulary.{drop, no_notes, notes_from, ◌++◌, ◌≡◌, ◌≤◌}
 use Rattle.run_lines.proofs.texts.push_notes.Given as goal
 
 -- the notes so far, and those of the rest

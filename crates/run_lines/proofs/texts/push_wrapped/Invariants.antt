@@ -1,6 +1,4 @@
-use Rattle.std.proofs.Common.{◌≡◌, ◌++◌, map, take}
-use Rattle.std.specs.List.{flat_map}
-use Rattle.run_lines.specs.Sheet.{ended}
+use Rattle.run_lines.proofs.Vocabulary.{ended, flat_map, map, take, ◌++◌, ◌≡◌}
 use Rattle.run_lines.proofs.texts.push_wrapped.Given as goal
 
 -- the lines so far

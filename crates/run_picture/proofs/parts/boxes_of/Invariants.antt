@@ -1,7 +1,4 @@
-use Rattle.std.proofs.Common.{◌≡◌, ◌++◌, map, drop}
-use Rattle.signs.specs.Signs.{meaning}
-use Rattle.run_replay.specs.MarksShown.{era_shown}
-use Rattle.run_picture.specs.Parts.{eras_from}
+use Rattle.run_picture.proofs.Vocabulary.{drop, era_shown, eras_from, map, meaning, ◌++◌, ◌≡◌}
 use Rattle.run_picture.proofs.parts.boxes_of.Given as goal
 
 -- those so far, and those of the eras from here on

@@ -1,8 +1,5 @@
-use Rattle.std.proofs.Common.{◌≡◌, map, take}
-use Rattle.std.specs.List.{flat_map}
-use Rattle.signs.specs.Signs.{meaning}
+use Rattle.run_picture.proofs.Vocabulary.{flat_map, map, meaning, parts_of, take, ◌≡◌}
 use Rattle.run_layout.specs.Marked.{sign_shown}
-use Rattle.run_picture.specs.Parts.{parts_of}
 use Rattle.run_picture.proofs.parts.parts_of.Given as goal
 
 -- those so far

@@ -1,7 +1,5 @@
-use Rattle.std.proofs.Common.{◌≡◌, ◌++◌, ◌∷◌, [], map}
+use Rattle.run_picture.proofs.Vocabulary.{[], anywhere, box_parts, map, meaning, ◌++◌, ◌∷◌, ◌≡◌}
 use Rattle.signs.specs.declared.sign.Look.TheVariants.{Bar, Text}
-use Rattle.signs.specs.Signs.{meaning}
-use Rattle.run_picture.specs.Parts.{anywhere, box_parts}
 use Rattle.run_picture.proofs.parts.push_box.Given as goal
 
 -- those so far, and those of the rest

@@ -1,8 +1,4 @@
-use Rattle.std.proofs.Common.{◌≡◌, ◌++◌, map, take}
-use Rattle.std.specs.List.{flat_map}
-use Rattle.signs.specs.Signs.{meaning}
-use Rattle.run_replay.specs.MarksShown.{cell_shown}
-use Rattle.run_picture.specs.Parts.{cell_parts}
+use Rattle.run_picture.proofs.Vocabulary.{cell_parts, cell_shown, flat_map, map, meaning, take, ◌++◌, ◌≡◌}
 use Rattle.run_picture.proofs.parts.push_era.Given as goal
 
 -- those so far

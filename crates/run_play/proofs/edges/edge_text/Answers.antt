@@ -1,15 +1,6 @@
-use Rattle.std.proofs.Common.{◌∙◌, ◌/◌, ◌%◌, ap, arith, codes, length, sym, subst, option_map}
-use Rattle.std.proofs.lemmas.Result.{IfOk-weaker}
-use Rattle.std.specs.Prelude.{option_and_then}
-use Rattle.std.specs.Option.{option_map_or}
-use Rattle.uni_core.specs.World.{world_of}
-use Rattle.run_graph.specs.AtHand.{AreAtHand, IsTold}
-use Rattle.run_graph.specs.Graph.{shown_at}
-use Rattle.run_graph.specs.Schedule.{event_of, moved, plan_of}
+use Rattle.run_play.proofs.Vocabulary.{AreAtHand, IfOk-weaker, IsTold, ap, arith, edge_text, event_of, frame_of, frame_shown, frame_text, length, moved, option_and_then, option_map, option_map_or, plan_of, shown_at, subst, sym, world_of, ◌%◌, ◌/◌, ◌∙◌}
+use Rattle.std.proofs.Common.{codes}
 use Rattle.run_graph.proofs.AtHand.{AreAtHand-kept}
-use Rattle.run_replay.specs.Frames.{frame_of}
-use Rattle.run_replay.specs.ScenesShown.{frame_shown}
-use Rattle.run_play.specs.Edges.{edge_text, frame_text}
 use Rattle.run_play.proofs.Telling.{edge_told, shown-target, target_below, OnOk-all}
 use Rattle.run_play.proofs.edges.edge_text.Goals as goal
 

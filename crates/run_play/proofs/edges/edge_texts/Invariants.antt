@@ -1,7 +1,4 @@
-use Rattle.std.proofs.Common.{◌≡◌, ◌<◌, ℕ, None, length, slice_index_or}
-use Rattle.run_graph.specs.AtHand.{AreAtHand}
-use Rattle.run_graph.specs.Schedule.{plan_of}
-use Rattle.run_play.specs.Edges.{edge_text, text_at}
+use Rattle.run_play.proofs.Vocabulary.{AreAtHand, None, edge_text, length, plan_of, slice_index_or, text_at, ℕ, ◌<◌, ◌≡◌}
 use Rattle.run_play.proofs.edges.edge_texts.Given as goal
 
 -- the texts so far

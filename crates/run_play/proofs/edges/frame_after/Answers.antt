@@ -1,10 +1,5 @@
-use Rattle.std.proofs.Common.{◌∙◌, ap, arith, is_some, sym, Some}
-use Rattle.uni_model.specs.Places.{new_of}
+use Rattle.run_play.proofs.Vocabulary.{Call, Some, Step, WorldOf, ap, arith, call_in, is_some, new_of, plan_of, sym, world_of, ◌∙◌}
 use Rattle.uni_model.specs.Places.Name.{Anchor}
-use Rattle.uni_model.specs.Worlds.{WorldOf}
-use Rattle.uni_model.specs.Worlds.Event.{Call, Step}
-use Rattle.uni_core.specs.World.{world_of}
-use Rattle.run_graph.specs.Schedule.{call_in, plan_of}
 use Rattle.run_graph.proofs.Moves.{anchor_stays, moved-call}
 use Rattle.run_play.proofs.Telling.{none_mapped, some_mapped}
 use Rattle.run_play.proofs.edges.frame_after.Goals as goal

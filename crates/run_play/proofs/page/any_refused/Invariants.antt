@@ -1,5 +1,4 @@
-use Rattle.std.proofs.Common.{◌≡◌, drop}
-use Rattle.run_play.specs.Play.{any_refused}
+use Rattle.run_play.proofs.Vocabulary.{any_refused, drop, ◌≡◌}
 use Rattle.run_play.proofs.page.any_refused.Given as goal
 
 -- none so far

@@ -1,8 +1,4 @@
-use Rattle.std.proofs.Common.{◌∙◌, ap, map, sym}
-use Rattle.run_tell.specs.Json.{object_text}
-use Rattle.uni_record.specs.Event.{events_shown}
-use Rattle.run_play.specs.Play.{graph_members, text_between}
-use Rattle.run_play.specs.declared.viewer.TheConstants.{START, END}
+use Rattle.run_play.proofs.Vocabulary.{END, START, ap, events_shown, graph_members, map, object_text, sym, text_between, ◌∙◌}
 use Rattle.run_play.proofs.Paging.{IsPageOf-plan}
 use Rattle.run_play.proofs.page.page_of_record.Goals as goal
 

@@ -1,7 +1,4 @@
-use Rattle.std.proofs.Common.{sym, subst}
-use Rattle.std.proofs.lemmas.Result.{IfOk-weaker}
-use Rattle.uni_script.specs.ScriptRun.{session_of_record}
-use Rattle.run_play.specs.Play.{IsPageOfSession}
+use Rattle.run_play.proofs.Vocabulary.{IfOk-weaker, IsPageOfSession, session_of_record, subst, sym}
 use Rattle.run_play.proofs.Paging.{IsPageOf-named}
 use Rattle.run_play.proofs.page.page_of_run.Goals as goal
 

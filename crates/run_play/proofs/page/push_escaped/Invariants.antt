@@ -1,6 +1,5 @@
-use Rattle.std.proofs.Common.{◌≡◌, ◌++◌, take}
+use Rattle.run_play.proofs.Vocabulary.{escaped_byte, take, ◌++◌, ◌≡◌}
 use Rattle.std.specs.List.{flat_map}
-use Rattle.run_play.specs.Play.{escaped_byte}
 use Rattle.run_play.proofs.page.push_escaped.Given as goal
 
 -- the bytes so far

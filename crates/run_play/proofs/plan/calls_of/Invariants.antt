@@ -1,6 +1,4 @@
-use Rattle.std.proofs.Common.{◌≡◌, ◌++◌}
-use Rattle.uni_record.specs.Event.{events_shown}
-use Rattle.run_play.specs.Plans.{calls_of}
+use Rattle.run_play.proofs.Vocabulary.{calls_of, events_shown, ◌++◌, ◌≡◌}
 use Rattle.run_play.proofs.plan.calls_of.Given as goal
 
 -- the calls so far, and those that are left

@@ -1,6 +1,4 @@
-use Rattle.std.proofs.Common.{◌≡◌}
-use Rattle.uni_record.specs.Event.{events_shown}
-use Rattle.run_play.specs.Plans.{has_one_era}
+use Rattle.run_play.proofs.Vocabulary.{events_shown, has_one_era, ◌≡◌}
 use Rattle.run_play.proofs.plan.has_one_era.Given as goal
 
 -- what is left has one era where all has

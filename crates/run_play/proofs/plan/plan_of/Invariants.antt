@@ -1,7 +1,4 @@
-use Rattle.std.proofs.Common.{◌≡◌, ◌<◌, ℕ, [], length, slice_get}
-use Rattle.std.specs.Option.{option_map_or}
-use Rattle.uni_record.specs.Event.{events_shown}
-use Rattle.run_play.specs.Plans.{calls_of}
+use Rattle.run_play.proofs.Vocabulary.{[], calls_of, events_shown, length, option_map_or, slice_get, ℕ, ◌<◌, ◌≡◌}
 use Rattle.run_play.proofs.plan.plan_of.Given as goal
 
 -- the calls of the processes so far

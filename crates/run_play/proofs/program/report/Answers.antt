@@ -1,5 +1,4 @@
-use Rattle.std.proofs.Common.{refl}
-use Rattle.run_play.specs.declared.fault.PlayFault.TheVariants.{Script, Refused, Eras, TooManyWorlds}
+use Rattle.run_play.proofs.Vocabulary.{Eras, Refused, Script, TooManyWorlds, refl}
 use Rattle.run_play.proofs.program.report.Goals as goal
 
 pub returns-in-Script-clause-told : goal.returns-in-Script-clause-told

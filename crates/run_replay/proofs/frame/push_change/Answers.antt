@@ -1,6 +1,4 @@
-use Rattle.std.proofs.Common.{◌∙◌, ◌++◌, ◌∷◌, [], ap, map}
-use Rattle.std.proofs.lemmas.List.{map-append}
-use Rattle.run_replay.specs.ScenesShown.{change_shown, field_shown}
+use Rattle.run_replay.proofs.Vocabulary.{[], ap, change_shown, field_shown, map, map-append, ◌++◌, ◌∙◌, ◌∷◌}
 use Rattle.run_replay.proofs.Telling.{changed_one}
 use Rattle.run_replay.proofs.frame.push_change.Goals as goal
 

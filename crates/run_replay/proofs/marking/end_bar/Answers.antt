@@ -1,7 +1,4 @@
-use Rattle.std.proofs.Common.{◌≢◌, ◌∙◌, sym}
-use Rattle.std.proofs.lemmas.Bool.{ne_eqb}
-use Rattle.run_replay.specs.Marks.{End}
-use Rattle.run_replay.specs.MarksShown.{bar_shown}
+use Rattle.run_replay.proofs.Vocabulary.{End, bar_shown, ne_eqb, sym, ◌∙◌, ◌≢◌}
 use Rattle.run_replay.proofs.Ends.{bar_ended-ended, bar_ended-other}
 use Rattle.run_replay.proofs.marking.end_bar.Goals.{else-is_none-via-then-is_none+else-process-from, else-is_none-via-else-is_none}
 use Rattle.run_replay.proofs.marking.end_bar.Goals as goal

@@ -1,7 +1,4 @@
-use Rattle.std.proofs.Common.{◌≡◌, ◌<◌, ◌≤◌, ◌∙◌, ap, map, length, arith}
-use Rattle.run_replay.specs.MarksShown.{bar_shown}
-use Rattle.run_replay.specs.Marking.{bar_ended}
-use Rattle.run_replay.specs.Marks.{Called}
+use Rattle.run_replay.proofs.Vocabulary.{Called, ap, arith, bar_ended, bar_shown, length, map, ◌<◌, ◌∙◌, ◌≡◌, ◌≤◌}
 use Rattle.run_replay.proofs.Walked.{changed-more, changed-end, written_back}
 use Rattle.run_replay.proofs.marking.end_bars.Goals as goal
 

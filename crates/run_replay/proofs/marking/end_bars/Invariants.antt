@@ -1,6 +1,4 @@
-use Rattle.std.proofs.Common.{◌≡◌, ◌++◌, map, take, drop}
-use Rattle.run_replay.specs.MarksShown.{bar_shown}
-use Rattle.run_replay.specs.Marking.{bar_ended}
+use Rattle.run_replay.proofs.Vocabulary.{bar_ended, bar_shown, drop, map, take, ◌++◌, ◌≡◌}
 use Rattle.run_replay.proofs.marking.end_bars.Given as goal
 
 abbrev pub invariant-loop-bar : goal.invariant-loop-bar

@@ -1,12 +1,4 @@
-use Rattle.std.proofs.Common.{◌≡◌, ◌∙◌, ◌++◌, ◌∷◌, [], sym, ap, subst, None, length, map, arith}
-use Rattle.std.proofs.lemmas.List.{length-map}
-use Rattle.uni_model.specs.Worlds.{opened_world, world_after}
-use Rattle.uni_core.specs.World.{world_of}
-use Rattle.uni_record.specs.Event.{event_lent, event_shown, events_shown}
-use Rattle.uni_script.specs.Objects.{SpokenObject}
-use Rattle.run_replay.specs.Marks.{RunMarks, era_of}
-use Rattle.run_replay.specs.MarksShown.{marks_shown, bar_shown, era_shown}
-use Rattle.run_replay.specs.Marking.{marks_with}
+use Rattle.run_replay.proofs.Vocabulary.{None, RunMarks, SpokenObject, [], ap, arith, bar_shown, era_of, era_shown, event_lent, event_shown, events_shown, length, length-map, map, marks_shown, marks_with, opened_world, subst, sym, world_after, world_of, ◌++◌, ◌∙◌, ◌∷◌, ◌≡◌}
 use Rattle.run_replay.proofs.Replayed.{marks_are}
 use Rattle.run_replay.proofs.WholeMarks.{marks_then, marks_then-taken, marks_then-none}
 use Rattle.run_replay.proofs.marking.marks_of.Goals as goal

@@ -1,9 +1,4 @@
-use Rattle.std.proofs.Common.{◌≡◌, ◌+◌, length}
-use Rattle.uni_model.specs.Worlds.{opened_world}
-use Rattle.uni_core.specs.World.{world_of}
-use Rattle.uni_record.specs.Event.{events_shown}
-use Rattle.run_replay.specs.Marks.{marks_of_run}
-use Rattle.run_replay.specs.MarksShown.{marks_shown}
+use Rattle.run_replay.proofs.Vocabulary.{events_shown, length, marks_of_run, marks_shown, opened_world, world_of, ◌+◌, ◌≡◌}
 use Rattle.run_replay.proofs.WholeMarks.{marks_then}
 use Rattle.run_replay.proofs.marking.marks_of.Given as goal
 

@@ -1,6 +1,4 @@
-use Rattle.std.proofs.Common.{◌∙◌, ◌++◌, ap, sym, arith}
-use Rattle.uni_core.specs.World.{world_of}
-use Rattle.uni_model.specs.History.{log}
+use Rattle.run_replay.proofs.Vocabulary.{ap, arith, log, sym, world_of, ◌++◌, ◌∙◌}
 use Rattle.run_replay.proofs.Walked.{walked-more, walked-end}
 use Rattle.run_replay.proofs.Dots.{dot_of_entry, dots_of-entries}
 use Rattle.run_replay.proofs.marking.push_dots.Goals as goal

@@ -1,12 +1,5 @@
-use Rattle.std.proofs.Common.{◌≡◌, ◌∙◌, ◌+◌, ◌++◌, ◌∷◌, [], ap, refl, sym, map, drop, option_map, append_assoc}
-use Rattle.std.proofs.lemmas.List.{map-append, append-nil, drop_all}
-use Rattle.uni_model.specs.History.{log}
-use Rattle.uni_model.specs.Places.{seq_of}
-use Rattle.uni_core.specs.World.{world_of, name_in}
-use Rattle.uni_log.specs.Entry.{entry_shown}
-use Rattle.uni_log.specs.Log.{state_settled_at}
-use Rattle.run_replay.specs.Marks.{EraMarks, box_of, boxes_from, era_of}
-use Rattle.run_replay.specs.MarksShown.{cell_shown, era_shown}
+use Rattle.run_replay.proofs.Vocabulary.{EraMarks, [], ap, append-nil, append_assoc, box_of, boxes_from, cell_shown, drop, drop_all, entry_shown, era_of, era_shown, log, map, map-append, name_in, refl, seq_of, state_settled_at, sym, world_of, ◌++◌, ◌+◌, ◌∙◌, ◌∷◌, ◌≡◌}
+use Rattle.std.proofs.Common.{option_map}
 use Rattle.run_replay.proofs.Boxed.{boxes_more}
 use Rattle.run_replay.proofs.Replayed.{era_is}
 use Rattle.run_replay.proofs.marking.push_era.Goals as goal

@@ -1,8 +1,4 @@
-use Rattle.std.proofs.Common.{◌≡◌, ◌+◌, ◌++◌, map, drop}
-use Rattle.uni_core.specs.World.{world_of}
-use Rattle.uni_log.specs.Entry.{entry_shown}
-use Rattle.run_replay.specs.Marks.{boxes_from}
-use Rattle.run_replay.specs.MarksShown.{cell_shown}
+use Rattle.run_replay.proofs.Vocabulary.{boxes_from, cell_shown, drop, entry_shown, map, world_of, ◌++◌, ◌+◌, ◌≡◌}
 use Rattle.run_replay.proofs.marking.push_era.Given as goal
 
 -- the boxes so far, and those of the rest

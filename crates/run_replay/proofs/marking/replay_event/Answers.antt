@@ -1,10 +1,4 @@
-use Rattle.std.proofs.Common.{rules, ◌∙◌, ap, sym}
-use Rattle.uni_model.specs.Worlds.{world_after}
-use Rattle.uni_core.specs.World.{world_of}
-use Rattle.uni_record.specs.Event.{event_lent, event_shown}
-use Rattle.uni_script.specs.Objects.{SpokenObject}
-use Rattle.run_replay.specs.MarksShown.{marks_shown}
-use Rattle.run_replay.specs.Marking.{marks_with}
+use Rattle.run_replay.proofs.Vocabulary.{SpokenObject, ap, event_lent, event_shown, marks_shown, marks_with, rules, sym, world_after, world_of, ◌∙◌}
 use Rattle.run_replay.proofs.marking.replay_event.Goals as goal
 
 pub returns-in_ok-replay_call-in-Call-clause-world : goal.returns-in_ok-replay_call-in-Call-clause-world

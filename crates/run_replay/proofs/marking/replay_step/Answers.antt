@@ -1,10 +1,5 @@
-use Rattle.std.proofs.Common.{◌≡◌, ◌∙◌, ◌-◌, ◌++◌, refl, sym, ap, length, map}
-use Rattle.uni_model.specs.History.{log, calls_of}
-use Rattle.uni_core.specs.World.{world_of}
-use Rattle.uni_script.specs.Objects.{SpokenObject}
+use Rattle.run_replay.proofs.Vocabulary.{End, SpokenObject, ap, bar_shown, calls_of, length, log, map, refl, sym, world_of, ◌++◌, ◌-◌, ◌∙◌, ◌≡◌}
 use Rattle.uni_script.proofs.Stepping.{some-from_Done}
-use Rattle.run_replay.specs.Marks.{End}
-use Rattle.run_replay.specs.MarksShown.{bar_shown}
 use Rattle.run_replay.proofs.Replayed.{marks_are, steps_by-taken, length-calls_of, dots_by-step, end_of_step-none, end_of_step-some, bars_with-none, bars_with-some, none-from_other}
 use Rattle.run_replay.proofs.marking.replay_step.Goals as goal
 

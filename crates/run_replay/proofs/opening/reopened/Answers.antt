@@ -1,5 +1,4 @@
-use Rattle.std.proofs.Common.{◌∙◌, ap}
-use Rattle.uni_model.specs.Worlds.{opened_world}
+use Rattle.run_replay.proofs.Vocabulary.{ap, opened_world, ◌∙◌}
 use Rattle.run_replay.proofs.opening.reopened.Goals as goal
 
 pub returns-in-Ok-clause-world : goal.returns-in-Ok-clause-world

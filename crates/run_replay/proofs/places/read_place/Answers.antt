@@ -1,8 +1,4 @@
-use Rattle.std.proofs.Common.{◌∙◌, sym, ap}
-use Rattle.std.proofs.lemmas.Result.{IfOk-weaker}
-use Rattle.uni_core.specs.Readers.{place_named}
-use Rattle.uni_core.specs.World.{name_in, world_of}
-use Rattle.run_replay.specs.Held.{held}
+use Rattle.run_replay.proofs.Vocabulary.{IfOk-weaker, ap, held, name_in, place_named, sym, world_of, ◌∙◌}
 use Rattle.run_replay.proofs.places.read_place.Goals as goal
 
 pub returns-in-Announced : goal.returns-in-Announced

@@ -1,6 +1,4 @@
-use Rattle.std.proofs.Common.{◌∙◌, Some, ap, codes}
-use Rattle.uni_core.specs.World.{world_of}
-use Rattle.run_replay.specs.Held.{alone, field_name}
+use Rattle.run_replay.proofs.Vocabulary.{Some, alone, ap, codes, field_name, world_of, ◌∙◌}
 use Rattle.run_replay.proofs.Telling.{begun_is, call_is}
 use Rattle.run_replay.proofs.scenes.begun_of.Goals as goal
 

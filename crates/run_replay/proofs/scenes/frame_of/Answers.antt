@@ -1,8 +1,4 @@
-use Rattle.std.proofs.Common.{◌∙◌, Some, sym, ap}
-use Rattle.uni_model.specs.Worlds.{world_after}
-use Rattle.uni_core.specs.World.{world_of}
-use Rattle.uni_record.specs.Event.{event_lent, event_shown}
-use Rattle.run_replay.specs.Frames.{Begins, frame_of}
+use Rattle.run_replay.proofs.Vocabulary.{Begins, Some, ap, event_lent, event_shown, frame_of, sym, world_after, world_of, ◌∙◌}
 use Rattle.run_replay.proofs.Telling.{steps_told}
 use Rattle.run_replay.proofs.scenes.frame_of.Goals as goal
 

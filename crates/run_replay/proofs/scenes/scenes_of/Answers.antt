@@ -1,11 +1,5 @@
-use Rattle.std.proofs.Common.{◌≡◌, ◌∙◌, ◌++◌, ◌∷◌, [], Some, sym, ap, subst, map, append-nil}
-use Rattle.std.proofs.lemmas.List.{map-append}
-use Rattle.uni_model.specs.Worlds.{opened_world, world_after}
-use Rattle.uni_core.specs.World.{world_of}
-use Rattle.uni_record.specs.Event.{event_lent, event_shown, events_shown}
-use Rattle.run_replay.specs.Frames.{frame_of}
-use Rattle.run_replay.specs.Scenes.{scenes_from}
-use Rattle.run_replay.specs.ScenesShown.{frame_shown, scene_shown}
+use Rattle.run_replay.proofs.Vocabulary.{Some, [], ap, event_lent, event_shown, events_shown, frame_of, frame_shown, map, map-append, opened_world, scene_shown, scenes_from, subst, sym, world_after, world_of, ◌++◌, ◌∙◌, ◌∷◌, ◌≡◌}
+use Rattle.std.proofs.Common.{append-nil}
 use Rattle.run_replay.specs.declared.frame.Scene.{Scene}
 use Rattle.run_replay.proofs.Telling.{scenes_taken}
 use Rattle.run_replay.proofs.scenes.scenes_of.Goals as goal

@@ -1,9 +1,4 @@
-use Rattle.std.proofs.Common.{◌≡◌, ◌++◌, map, Some}
-use Rattle.uni_model.specs.Worlds.{opened_world}
-use Rattle.uni_core.specs.World.{world_of}
-use Rattle.uni_record.specs.Event.{events_shown}
-use Rattle.run_replay.specs.Scenes.{scenes_from}
-use Rattle.run_replay.specs.ScenesShown.{scene_shown}
+use Rattle.run_replay.proofs.Vocabulary.{Some, events_shown, map, opened_world, scene_shown, scenes_from, world_of, ◌++◌, ◌≡◌}
 use Rattle.run_replay.proofs.scenes.scenes_of.Given as goal
 
 -- the scenes so far, and those of the events that are left

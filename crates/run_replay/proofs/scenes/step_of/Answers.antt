@@ -1,7 +1,4 @@
-use Rattle.std.proofs.Common.{◌∙◌, ap}
-use Rattle.std.specs.Prelude.{option_map}
-use Rattle.uni_model.specs.Worlds.{response_of_step}
-use Rattle.uni_core.specs.World.{world_of}
+use Rattle.run_replay.proofs.Vocabulary.{ap, option_map, response_of_step, world_of, ◌∙◌}
 use Rattle.run_replay.proofs.Telling.{answered-progress, stepped_is}
 use Rattle.run_replay.proofs.scenes.step_of.Goals as goal
 

@@ -1,5 +1,4 @@
-use Rattle.std.proofs.Common.{◌∙◌, ◌<◌, sym, subst}
-use Rattle.uni_core.specs.World.{world_of}
+use Rattle.run_replay.proofs.Vocabulary.{subst, sym, world_of, ◌<◌, ◌∙◌}
 use Rattle.run_replay.proofs.Staying.{AreNoOthers, AreThere, there_still, same_calls, same_processes}
 use Rattle.run_replay.proofs.scenes.take_step.Goals as goal
 

@@ -1,9 +1,4 @@
-use Rattle.std.proofs.Common.{◌∙◌, None, ap}
-use Rattle.std.proofs.lemmas.Result.{IfOk-weaker}
-use Rattle.uni_model.specs.Worlds.{WorldOf}
-use Rattle.uni_core.specs.World.{world_of}
-use Rattle.uni_core.specs.Ends.{last_number}
-use Rattle.run_replay.specs.Frames.{ended}
+use Rattle.run_replay.proofs.Vocabulary.{IfOk-weaker, None, WorldOf, ap, ended, last_number, world_of, ◌∙◌}
 use Rattle.run_replay.proofs.scenes.trimmed.Goals as goal
 
 pub returns-clause-end : goal.returns-clause-end

@@ -1,9 +1,4 @@
-use Rattle.std.proofs.Common.{◌∙◌, ◌++◌, map, ap, sym}
-use Rattle.std.specs.List.{flat_map}
-use Rattle.uni_core.specs.World.{world_of}
-use Rattle.run_replay.specs.Held.{held}
-use Rattle.run_replay.specs.ScenesShown.{held_shown}
-use Rattle.run_replay.specs.Whole.{cells_below, cells_of, fields_of}
+use Rattle.run_replay.proofs.Vocabulary.{ap, cells_below, cells_of, fields_of, flat_map, held, held_shown, map, sym, world_of, ◌++◌, ◌∙◌}
 use Rattle.run_replay.proofs.PlacesMore.{fields_more, rows_more}
 use Rattle.run_replay.proofs.whole.push_cells.Goals as goal
 

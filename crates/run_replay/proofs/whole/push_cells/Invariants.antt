@@ -1,9 +1,4 @@
-use Rattle.std.proofs.Common.{◌≡◌, ◌++◌, map}
-use Rattle.std.specs.List.{flat_map}
-use Rattle.uni_core.specs.World.{world_of}
-use Rattle.run_replay.specs.Held.{held}
-use Rattle.run_replay.specs.ScenesShown.{held_shown}
-use Rattle.run_replay.specs.Whole.{cells_below, fields_of}
+use Rattle.run_replay.proofs.Vocabulary.{cells_below, fields_of, flat_map, held, held_shown, map, world_of, ◌++◌, ◌≡◌}
 use Rattle.run_replay.proofs.whole.push_cells.Given as goal
 
 -- the cells of the processes so far

@@ -1,10 +1,4 @@
-use Rattle.std.proofs.Common.{◌≡◌, ◌∙◌, ◌+◌, ◌-◌, ◌++◌, ◌∷◌, [], map, ap, sym, refl, arith}
-use Rattle.std.specs.List.{flat_map, range_with_len}
-use Rattle.uni_model.specs.Places.Name.{Of}
-use Rattle.uni_core.specs.World.{name_in, world_of}
-use Rattle.run_replay.specs.Held.{held}
-use Rattle.run_replay.specs.ScenesShown.{held_shown}
-use Rattle.run_replay.specs.Whole.{fields_of}
+use Rattle.run_replay.proofs.Vocabulary.{Of, [], ap, arith, fields_of, flat_map, held, held_shown, map, name_in, range_with_len, refl, sym, world_of, ◌++◌, ◌+◌, ◌-◌, ◌∙◌, ◌∷◌, ◌≡◌}
 use Rattle.run_replay.proofs.PlacesMore.{cells_more, fields_more}
 use Rattle.run_replay.proofs.whole.push_cells_of.Goals as goal
 

@@ -1,10 +1,4 @@
-use Rattle.std.proofs.Common.{◌≡◌, ◌++◌, map}
-use Rattle.std.specs.List.{flat_map, range_with_len}
-use Rattle.uni_model.specs.Places.Name.{Of}
-use Rattle.uni_core.specs.World.{world_of}
-use Rattle.run_replay.specs.Held.{held}
-use Rattle.run_replay.specs.ScenesShown.{held_shown}
-use Rattle.run_replay.specs.Whole.{fields_of}
+use Rattle.run_replay.proofs.Vocabulary.{Of, fields_of, flat_map, held, held_shown, map, range_with_len, world_of, ◌++◌, ◌≡◌}
 use Rattle.run_replay.proofs.whole.push_cells_of.Given as goal
 
 -- the cells so far

@@ -1,8 +1,4 @@
-use Rattle.std.proofs.Common.{map}
-use Rattle.uni_model.specs.Places.Place.{HeadOf}
-use Rattle.uni_core.specs.World.{world_of}
-use Rattle.run_replay.specs.Held.{held}
-use Rattle.run_replay.specs.ScenesShown.{held_shown}
+use Rattle.run_replay.proofs.Vocabulary.{HeadOf, held, held_shown, map, world_of}
 use Rattle.run_replay.proofs.PlacesMore.{place_more}
 use Rattle.run_replay.proofs.whole.push_heads.Goals as goal
 

@@ -1,9 +1,4 @@
-use Rattle.std.proofs.Common.{◌≡◌, ◌++◌, map}
-use Rattle.std.specs.List.{range_with_len}
-use Rattle.uni_model.specs.Places.Place.{HeadOf}
-use Rattle.uni_core.specs.World.{world_of}
-use Rattle.run_replay.specs.Held.{held}
-use Rattle.run_replay.specs.ScenesShown.{held_shown}
+use Rattle.run_replay.proofs.Vocabulary.{HeadOf, held, held_shown, map, range_with_len, world_of, ◌++◌, ◌≡◌}
 use Rattle.run_replay.proofs.whole.push_heads.Given as goal
 
 -- the entries so far

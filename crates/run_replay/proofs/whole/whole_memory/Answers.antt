@@ -1,11 +1,4 @@
-use Rattle.std.proofs.Common.{◌∙◌, ◌++◌, map, ap}
-use Rattle.std.specs.List.{flat_map, range_with_len}
-use Rattle.uni_model.specs.Places.Name.{Anchor}
-use Rattle.uni_model.specs.Places.Place.{Announced, HeadOf}
-use Rattle.uni_core.specs.World.{name_in, world_of}
-use Rattle.run_replay.specs.Held.{held}
-use Rattle.run_replay.specs.ScenesShown.{held_shown}
-use Rattle.run_replay.specs.Whole.{cells_below, fields_of}
+use Rattle.run_replay.proofs.Vocabulary.{Anchor, Announced, HeadOf, ap, cells_below, fields_of, flat_map, held, held_shown, map, name_in, range_with_len, world_of, ◌++◌, ◌∙◌}
 use Rattle.run_replay.proofs.PlacesMore.{whole_is}
 use Rattle.run_replay.proofs.whole.whole_memory.Goals as goal
 

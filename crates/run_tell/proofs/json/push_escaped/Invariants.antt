@@ -1,5 +1,4 @@
-use Rattle.std.proofs.Common.{◌≡◌, ◌++◌, take}
-use Rattle.std.specs.List.{flat_map}
+use Rattle.run_tell.proofs.Vocabulary.{flat_map, take, ◌++◌, ◌≡◌}
 use Rattle.run_tell.specs.Json.{escaped_byte}
 use Rattle.run_tell.proofs.json.push_escaped.Given as goal
 

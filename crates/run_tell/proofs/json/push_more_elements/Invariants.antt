@@ -1,6 +1,4 @@
-use Rattle.std.proofs.Common.{◌≡◌, ◌++◌, map, take}
-use Rattle.std.specs.List.{flat_map}
-use Rattle.run_tell.specs.Json.{after_comma}
+use Rattle.run_tell.proofs.Vocabulary.{after_comma, flat_map, map, take, ◌++◌, ◌≡◌}
 use Rattle.run_tell.proofs.json.push_more_elements.Given as goal
 
 -- the elements so far

@@ -1,6 +1,4 @@
-use Rattle.std.proofs.Common.{◌≡◌, ◌++◌, map, take}
-use Rattle.std.specs.List.{flat_map}
-use Rattle.run_tell.specs.Json.{after_comma, member_text}
+use Rattle.run_tell.proofs.Vocabulary.{after_comma, flat_map, map, member_text, take, ◌++◌, ◌≡◌}
 use Rattle.run_tell.specs.JsonShown.{member_shown}
 use Rattle.run_tell.proofs.json.push_more_members.Given as goal
 

@@ -1,6 +1,4 @@
-use Rattle.std.proofs.Common.{◌≡◌, ◌++◌, Some, map, drop}
-use Rattle.run_replay.specs.ScenesShown.{scene_shown}
-use Rattle.run_tell.specs.Order.{told_from}
+use Rattle.run_tell.proofs.Vocabulary.{Some, drop, map, scene_shown, told_from, ◌++◌, ◌≡◌}
 use Rattle.run_tell.proofs.order.push_events.Given as goal
 
 -- the text so far, and those of the rest

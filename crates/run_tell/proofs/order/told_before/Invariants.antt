@@ -1,5 +1,4 @@
-use Rattle.std.proofs.Common.{◌≡◌, ◌+◌, drop}
-use Rattle.run_tell.specs.Order.{told_before}
+use Rattle.run_tell.proofs.Vocabulary.{drop, told_before, ◌+◌, ◌≡◌}
 use Rattle.run_tell.proofs.order.told_before.Given as goal
 
 -- those so far, and those of the rest

@@ -1,6 +1,5 @@
-use Rattle.run_layout.proofs.Scripts.{default_run, HasTooManyEvents-run}
+use Rattle.run_tell.proofs.Vocabulary.{HasTooManyEvents-run, IsPage, default_run, page_between}
 use Rattle.run_tell.proofs.Tellings.{IsToldBy-run, IfOk-two}
-use Rattle.run_tell.specs.Page.{IsPage, page_between}
 use Rattle.run_tell.specs.declared.viewer.TheConstants.{START, MIDDLE, END}
 use Rattle.run_tell.proofs.page.page_of.Goals as goal
 

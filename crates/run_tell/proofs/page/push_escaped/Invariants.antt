@@ -1,6 +1,4 @@
-use Rattle.std.proofs.Common.{◌≡◌, ◌++◌, take}
-use Rattle.std.specs.List.{flat_map}
-use Rattle.run_tell.specs.Page.{escaped_byte}
+use Rattle.run_tell.proofs.Vocabulary.{escaped_byte, flat_map, take, ◌++◌, ◌≡◌}
 use Rattle.run_tell.proofs.page.push_escaped.Given as goal
 
 -- the bytes so far

@@ -1,7 +1,4 @@
-use Rattle.std.proofs.Common.{◌≡◌, ◌++◌, codes, map, take}
-use Rattle.std.specs.List.{flat_map}
-use Rattle.run_replay.specs.ScenesShown.{change_shown}
-use Rattle.run_tell.specs.Sentences.{change_words}
+use Rattle.run_tell.proofs.Vocabulary.{change_shown, change_words, codes, flat_map, map, take, ◌++◌, ◌≡◌}
 use Rattle.run_tell.proofs.rows.changed_words.Given as goal
 
 -- the lines so far

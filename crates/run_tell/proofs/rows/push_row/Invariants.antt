@@ -1,5 +1,4 @@
-use Rattle.std.proofs.Common.{◌≡◌, ◌++◌, map, take}
-use Rattle.std.specs.List.{flat_map}
+use Rattle.run_tell.proofs.Vocabulary.{flat_map, map, take, ◌++◌, ◌≡◌}
 use Rattle.run_tell.specs.Rows.{cell}
 use Rattle.run_tell.proofs.rows.push_row.Given as goal
 

@@ -1,5 +1,4 @@
-use Rattle.std.proofs.Common.{◌∙◌, ◌++◌, ap, append_assoc, codes, sym}
-use Rattle.run_tell.specs.Sentences.{number_words}
+use Rattle.run_tell.proofs.Vocabulary.{ap, append_assoc, codes, number_words, sym, ◌++◌, ◌∙◌}
 use Rattle.run_tell.proofs.StepPieces.{text_between}
 use Rattle.run_tell.proofs.sentences.push_left.Goals as goal
 

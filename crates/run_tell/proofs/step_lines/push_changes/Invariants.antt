@@ -1,7 +1,5 @@
-use Rattle.std.proofs.Common.{◌≡◌, ◌++◌, codes, map, take}
-use Rattle.std.specs.List.{flat_map}
-use Rattle.run_replay.specs.ScenesShown.{change_shown}
-use Rattle.run_tell.specs.Sentences.{change_words, line_text}
+use Rattle.run_tell.proofs.Vocabulary.{change_shown, change_words, codes, flat_map, map, take, ◌++◌, ◌≡◌}
+use Rattle.run_tell.specs.Sentences.{line_text}
 use Rattle.run_tell.proofs.step_lines.push_changes.Given as goal
 
 -- the lines so far

@@ -1,6 +1,4 @@
-use Rattle.std.proofs.Common.{◌≡◌, ◌++◌, map, take}
-use Rattle.std.specs.List.{flat_map}
-use Rattle.run_tell.specs.Sentences.{indented}
+use Rattle.run_tell.proofs.Vocabulary.{flat_map, indented, map, take, ◌++◌, ◌≡◌}
 use Rattle.run_tell.proofs.step_lines.push_indented.Given as goal
 
 -- the lines so far

@@ -1,5 +1,4 @@
-use Rattle.run_layout.proofs.Scripts.{default_run, HasTooManyEvents-run}
-use Rattle.run_tell.specs.Told.{text_of_session}
+use Rattle.run_tell.proofs.Vocabulary.{HasTooManyEvents-run, default_run, text_of_session}
 use Rattle.run_tell.proofs.Tellings.{IsToldBy-run, IfOk-two}
 use Rattle.run_tell.proofs.told.told_of.Goals as goal
 

@@ -1,8 +1,5 @@
-use Rattle.std.proofs.Common.{◌∙◌, ap}
-use Rattle.uni_script.specs.ScriptRun.{session_of_record}
+use Rattle.run_tell.proofs.Vocabulary.{ap, session_of_record, told_text, trace_of_session, ◌∙◌}
 use Rattle.run_tell.specs.Opened.{Trace, trace_shown}
-use Rattle.run_tell.specs.Order.{told_text}
-use Rattle.run_tell.specs.Told.{trace_of_session}
 use Rattle.run_tell.proofs.told.told_of_run.Goals as goal
 
 pub returns-clause-text : goal.returns-clause-text

@@ -1,11 +1,6 @@
-use Rattle.std.proofs.Common.{◌∙◌, sym, ap, subst}
-use Rattle.std.proofs.lemmas.Result.{IfOk-weaker}
+use Rattle.run_tell.proofs.Vocabulary.{IfOk-weaker, IsLinearizableSession, ap, session_of_record, spoken_of, state_text_of, subst, sym, trace_of_events, trace_of_session, ◌∙◌}
 use Rattle.uni_record.specs.Event.{events_shown}
-use Rattle.uni_script.specs.ScriptRun.{session_of_record}
 use Rattle.uni_script.specs.declared.grammar.ObjectName.TheVariants as name
-use Rattle.uni_script.specs.Objects.{spoken_of}
-use Rattle.run_layout.specs.Subject.{state_text_of}
-use Rattle.run_tell.specs.Told.{IsLinearizableSession, trace_of_events, trace_of_session}
 use Rattle.run_tell.proofs.told.trace_of_script.Goals as goal
 
 pub returns-in-Queue-clause-trace : goal.returns-in-Queue-clause-trace

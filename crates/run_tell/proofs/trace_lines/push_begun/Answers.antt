@@ -1,5 +1,4 @@
-use Rattle.std.proofs.Common.{◌∙◌, refl}
-use Rattle.std.proofs.lemmas.Result.{on_ok_weaker}
+use Rattle.run_tell.proofs.Vocabulary.{on_ok_weaker, refl, ◌∙◌}
 use Rattle.run_tell.proofs.trace_lines.push_begun.Goals as goal
 
 pub returns : goal.returns

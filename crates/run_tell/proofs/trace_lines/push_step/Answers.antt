@@ -1,5 +1,4 @@
-use Rattle.run_replay.specs.ScenesShown.{step_shown}
-use Rattle.std.proofs.lemmas.Result.{on_ok_weaker}
+use Rattle.run_tell.proofs.Vocabulary.{on_ok_weaker, step_shown}
 use Rattle.run_tell.proofs.TracePieces.{step_parts}
 use Rattle.run_tell.proofs.trace_lines.push_step.Goals as goal
 

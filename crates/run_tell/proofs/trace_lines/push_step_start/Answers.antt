@@ -1,6 +1,4 @@
-use Rattle.std.proofs.Common.{◌∙◌, refl}
-use Rattle.std.proofs.lemmas.Result.{on_ok_weaker}
-use Rattle.run_tell.specs.TraceMembers.{step_start}
+use Rattle.run_tell.proofs.Vocabulary.{on_ok_weaker, refl, step_start, ◌∙◌}
 use Rattle.run_tell.proofs.trace_lines.push_step_start.Goals as goal
 
 pub returns : goal.returns

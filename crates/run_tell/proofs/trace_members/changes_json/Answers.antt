@@ -1,6 +1,4 @@
-use Rattle.run_tell.specs.Json.{object_text}
-use Rattle.run_replay.specs.ScenesShown.{change_shown}
-use Rattle.run_tell.specs.TraceMembers.{change_members}
+use Rattle.run_tell.proofs.Vocabulary.{change_members, change_shown, object_text}
 use Rattle.run_tell.proofs.TracePieces.{map_more}
 use Rattle.run_tell.proofs.trace_members.changes_json.Goals as goal
 

@@ -1,7 +1,4 @@
-use Rattle.std.proofs.Common.{◌≡◌, map, take}
-use Rattle.run_tell.specs.Json.{object_text}
-use Rattle.run_replay.specs.ScenesShown.{change_shown}
-use Rattle.run_tell.specs.TraceMembers.{change_members}
+use Rattle.run_tell.proofs.Vocabulary.{change_members, change_shown, map, object_text, take, ◌≡◌}
 use Rattle.run_tell.proofs.trace_members.changes_json.Given as goal
 
 -- the texts so far

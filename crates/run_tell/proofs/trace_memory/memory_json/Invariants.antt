@@ -1,7 +1,4 @@
-use Rattle.std.proofs.Common.{◌≡◌, map, take}
-use Rattle.std.specs.List.{flat_map}
-use Rattle.run_replay.specs.ScenesShown.{held_shown}
-use Rattle.run_tell.specs.TraceMembers.{field_text, held_fields}
+use Rattle.run_tell.proofs.Vocabulary.{field_text, flat_map, held_fields, held_shown, map, take, ◌≡◌}
 use Rattle.run_tell.proofs.trace_memory.memory_json.Given as goal
 
 -- the texts so far

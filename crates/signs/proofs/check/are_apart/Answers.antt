@@ -1,6 +1,5 @@
-use Rattle.std.proofs.Common.{List}
+use Rattle.signs.proofs.Vocabulary.{AreApartFrom, List}
 use Rattle.signs.specs.declared.sign.Span.{Span}
-use Rattle.signs.specs.Signs.{AreApartFrom}
 use Rattle.signs.proofs.Rest.{more_at, none}
 use Rattle.signs.proofs.check.are_apart.Goals as goal
 

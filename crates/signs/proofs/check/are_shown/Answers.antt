@@ -1,6 +1,4 @@
-use Rattle.std.proofs.Common.{List, [], ◌≤◌, length, map, drop, rules}
-use Rattle.signs.specs.declared.sign.Part.{Part}
-use Rattle.signs.specs.Signs.{AreShown, done, meaning, places_shown}
+use Rattle.signs.proofs.Vocabulary.{AreShown, List, Part, [], done, drop, length, map, meaning, places_shown, rules, ◌≤◌}
 use Rattle.signs.proofs.Rest.{more, none}
 use Rattle.signs.proofs.check.are_shown.Goals as goal
 

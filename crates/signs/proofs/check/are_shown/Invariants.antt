@@ -1,5 +1,4 @@
-use Rattle.std.proofs.Common.{map, drop}
-use Rattle.signs.specs.Signs.{AreShown, meaning, places_shown}
+use Rattle.signs.proofs.Vocabulary.{AreShown, drop, map, meaning, places_shown}
 use Rattle.signs.proofs.check.are_shown.Given as goal
 
 -- what is seen of the rest is all that is missing

@@ -1,7 +1,4 @@
-use Rattle.std.proofs.Common.{List, map, rules}
-use Rattle.svg_text.specs.declared.shape.Shape.{Shape}
-use Rattle.svg_text.specs.Figures.{figure}
-use Rattle.signs.specs.Signs.{AreWithin, IsWithin, outline_of}
+use Rattle.signs.proofs.Vocabulary.{AreWithin, IsWithin, List, Shape, figure, map, outline_of, rules}
 use Rattle.signs.proofs.Rest.{more, none}
 use Rattle.signs.proofs.check.are_within.Goals as goal
 

@@ -1,6 +1,4 @@
-use Rattle.std.proofs.Common.{map, drop}
-use Rattle.svg_text.specs.Figures.{figure}
-use Rattle.signs.specs.Signs.{AreWithin}
+use Rattle.signs.proofs.Vocabulary.{AreWithin, drop, figure, map}
 use Rattle.signs.proofs.check.are_within.Given as goal
 
 -- what is seen of the rest is all that is missing

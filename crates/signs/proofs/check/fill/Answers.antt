@@ -1,7 +1,4 @@
-use Rattle.std.proofs.Common.{◌≡◌, List, map, sym, subst, rules}
-use Rattle.svg_text.specs.declared.shape.Shape.{Shape}
-use Rattle.svg_text.specs.Figures.{figure}
-use Rattle.signs.specs.Signs.{Fills}
+use Rattle.signs.proofs.Vocabulary.{Fills, List, Shape, figure, map, rules, subst, sym, ◌≡◌}
 use Rattle.signs.proofs.Rest.{more, none}
 use Rattle.signs.proofs.check.fill.Goals as goal
 

@@ -1,6 +1,4 @@
-use Rattle.std.proofs.Common.{List, ◌∷◌, map, sym, rules}
-use Rattle.signs.specs.declared.sign.Part.{Part}
-use Rattle.signs.specs.Signs.{AreShown, plain, shown, Shows, meaning, places_shown}
+use Rattle.signs.proofs.Vocabulary.{AreShown, List, Part, Shows, map, meaning, places_shown, plain, rules, shown, sym, ◌∷◌}
 use Rattle.signs.proofs.Rest.{more}
 use Rattle.signs.proofs.check.told.Goals as goal
 

@@ -1,5 +1,5 @@
-use Rattle.ready_objects.specs.Book.{book, book_start}
-use Rattle.small_objects.specs.Book.{call_in, reply_words}
+use Rattle.small_objects.proofs.Vocabulary.{book, book_start, call_in}
+use Rattle.small_objects.specs.Book.{reply_words}
 use Rattle.small_objects.proofs.Reached.{after_in}
 use Rattle.small_objects.proofs.book.small_book_follows_plain.Goals as goal
 

@@ -1,6 +1,4 @@
-use Rattle.std.proofs.Common.{◌∙◌, ap, map, refl}
-use Rattle.seq_object.specs.History.{state_after}
-use Rattle.small_objects.specs.Encoding.{encoded}
+use Rattle.small_objects.proofs.Vocabulary.{ap, encoded, map, refl, state_after, ◌∙◌}
 use Rattle.small_objects.proofs.Reached.{after_in, follows_plain}
 use Rattle.small_objects.proofs.encoded.encoded_follows_plain.Goals as goal
 

@@ -1,5 +1,4 @@
-use Rattle.std.proofs.Common.{◌≡◌, take, vec_len}
-use Rattle.std.specs.List.{sum_by}
+use Rattle.small_objects.proofs.Vocabulary.{sum_by, take, vec_len, ◌≡◌}
 use Rattle.small_objects.proofs.order.calls_in.Given as goal
 
 abbrev pub invariant-loop-own : goal.invariant-loop-own

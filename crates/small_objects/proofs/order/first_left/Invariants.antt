@@ -1,5 +1,4 @@
-use Rattle.std.proofs.Common.{◌≡◌, ◌<◌, ℕ, None, map}
-use Rattle.small_objects.specs.Replay.{next_of}
+use Rattle.small_objects.proofs.Vocabulary.{None, map, next_of, ℕ, ◌<◌, ◌≡◌}
 use Rattle.small_objects.proofs.order.first_left.Given as goal
 
 -- the processes before this one have no call left

@@ -1,5 +1,4 @@
-use Rattle.std.proofs.Common.{◌∙◌, ◌+◌, map, replicate, refl, sym, ap, subst, inl, slice_index, slice_set, arith}
-use Rattle.std.proofs.lemmas.List.{length-map}
+use Rattle.small_objects.proofs.Vocabulary.{ap, arith, inl, length-map, map, refl, replicate, slice_index, slice_set, subst, sym, ◌+◌, ◌∙◌}
 use Rattle.small_objects.proofs.Left.{next_below, sum_of_lists}
 use Rattle.small_objects.proofs.Replaying.{IsUnderway, underway-all, underway-differs, underway-further, underway-left, underway-none, underway-start}
 use Rattle.small_objects.proofs.order.make_calls.Goals as goal

@@ -1,5 +1,4 @@
-use Rattle.std.proofs.Common.{map, arith}
-use Rattle.std.proofs.lemmas.List.{length-map}
+use Rattle.small_objects.proofs.Vocabulary.{arith, length-map, map}
 use Rattle.small_objects.proofs.Left.{next_below}
 use Rattle.small_objects.proofs.order.next_at.Goals as goal
 

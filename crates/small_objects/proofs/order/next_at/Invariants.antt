@@ -1,6 +1,4 @@
-use Rattle.std.proofs.Common.{◌≡◌, ◌≢◌, ◌<◌, ℕ, Some, map}
-use Rattle.small_objects.specs.Replay.{next_of}
-use Rattle.small_objects.specs.declared.placed.InPlace.{InPlace}
+use Rattle.small_objects.proofs.Vocabulary.{InPlace, Some, map, next_of, ℕ, ◌<◌, ◌≡◌, ◌≢◌}
 use Rattle.small_objects.proofs.order.next_at.Given as goal
 
 -- the next calls of the processes before this one were told other places

@@ -1,6 +1,4 @@
-use Rattle.std.proofs.Common.{◌∙◌, append_assoc}
-use Rattle.std.proofs.lemmas.Result.{on_ok_weaker}
-use Rattle.svg_text.specs.Svg.{attribute_text}
+use Rattle.svg_text.proofs.Vocabulary.{append_assoc, attribute_text, on_ok_weaker, ◌∙◌}
 use Rattle.svg_text.proofs.Outcomes.{same_outcome}
 use Rattle.svg_text.proofs.svg.push_attribute.Goals as goal
 

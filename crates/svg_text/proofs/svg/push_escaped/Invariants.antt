@@ -1,6 +1,4 @@
-use Rattle.std.proofs.Common.{◌≡◌, ◌++◌, take}
-use Rattle.std.specs.List.{flat_map}
-use Rattle.svg_text.specs.Svg.{escaped_byte}
+use Rattle.svg_text.proofs.Vocabulary.{escaped_byte, flat_map, take, ◌++◌, ◌≡◌}
 use Rattle.svg_text.proofs.svg.push_escaped.Given as goal
 
 -- the bytes so far are written

@@ -1,6 +1,4 @@
-use Rattle.std.proofs.Common.{◌≡◌, ◌∙◌, ◌++◌, ap, ap₂}
-use Rattle.std.proofs.lemmas.Result.{on_ok_weaker}
-use Rattle.svg_text.specs.Svg.{size_text, title_text, paper_text}
+use Rattle.svg_text.proofs.Vocabulary.{ap, ap₂, on_ok_weaker, paper_text, size_text, title_text, ◌++◌, ◌∙◌, ◌≡◌}
 use Rattle.svg_text.proofs.Pieces.{three_pieces}
 use Rattle.svg_text.proofs.svg.push_opening.Goals as goal
 

@@ -1,6 +1,4 @@
-use Rattle.std.proofs.Common.{◌≡◌, ◌++◌, map, take}
-use Rattle.svg_text.specs.Figures.{figure}
-use Rattle.svg_text.specs.Svg.{figures_text}
+use Rattle.svg_text.proofs.Vocabulary.{figure, figures_text, map, take, ◌++◌, ◌≡◌}
 use Rattle.svg_text.proofs.svg.push_shapes.Given as goal
 
 -- the shapes so far are written

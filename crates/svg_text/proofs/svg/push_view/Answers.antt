@@ -1,5 +1,4 @@
-use Rattle.std.proofs.Common.{◌∙◌, append_assoc}
-use Rattle.std.proofs.lemmas.Result.{on_ok_weaker}
+use Rattle.svg_text.proofs.Vocabulary.{append_assoc, on_ok_weaker, ◌∙◌}
 use Rattle.svg_text.proofs.svg.push_view.Goals as goal
 
 pub returns : goal.returns

@@ -1,5 +1,4 @@
-use Rattle.std.proofs.Common.{arith}
-use Rattle.std.proofs.lemmas.List.{ext_get_or}
+use Rattle.uni_core.proofs.Vocabulary.{arith, ext_get_or}
 use Rattle.uni_core.proofs.shared.same_names.Goals as goal
 
 pub returns : goal.returns

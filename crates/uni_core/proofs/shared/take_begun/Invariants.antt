@@ -1,5 +1,4 @@
-use Rattle.std.proofs.Common.{ℕ, ◌≡◌, ◌<◌, slice_index_or, length}
-use Rattle.uni_core.specs.Local.{new_local}
+use Rattle.uni_core.proofs.Vocabulary.{length, new_local, slice_index_or, ℕ, ◌<◌, ◌≡◌}
 use Rattle.uni_core.proofs.shared.take_begun.Given as goal
 
 abbrev pub invariant-loop-p : goal.invariant-loop-p

@@ -1,5 +1,4 @@
-use Rattle.std.proofs.Common.{refl}
-use Rattle.std.proofs.lemmas.Bool.{lt-ltb, le-ltb}
+use Rattle.uni_core.proofs.Vocabulary.{le-ltb, lt-ltb, refl}
 use Rattle.uni_core.proofs.transition.after_comparing.Goals as goal
 use Rattle.uni_core.proofs.transition.after_comparing.Goals.{then-best-head, else-best-head}
 

@@ -1,8 +1,4 @@
-use Rattle.std.proofs.Common.{◌≡◌, ◌∙◌, [], refl, sym, ap}
-use Rattle.std.proofs.lemmas.List.{append-nil}
-use Rattle.std.proofs.lemmas.Result.{IfOk-weaker}
-use Rattle.uni_record.specs.Verdict.{first, entries_verdict, returns_verdict, verdict_of}
-use Rattle.uni_record.specs.declared.verdict.Verdict.TheVariants.{Agrees}
+use Rattle.uni_record.proofs.Vocabulary.{Agrees, IfOk-weaker, [], ap, append-nil, entries_verdict, first, refl, returns_verdict, sym, verdict_of, ◌∙◌, ◌≡◌}
 use Rattle.uni_record.proofs.Faults.{first-fault, first-last}
 use Rattle.uni_record.proofs.Meaning.{agrees_means}
 use Rattle.uni_record.proofs.checker.audit.Goals as goal

@@ -1,7 +1,4 @@
-use Rattle.std.proofs.Common.{◌≡◌, ◌∙◌, ◌+◌, [], ◌∷◌, ◌++◌, take, refl, sym, ap, subst}
-use Rattle.std.proofs.lemmas.List.{at_drop_all, take_all, take_more}
-use Rattle.uni_record.specs.Verdict.{entries_verdict}
-use Rattle.uni_record.specs.CallPlaces.{HasGoneOver}
+use Rattle.uni_record.proofs.Vocabulary.{HasGoneOver, [], ap, at_drop_all, entries_verdict, refl, subst, sym, take, take_all, take_more, ◌++◌, ◌+◌, ◌∙◌, ◌∷◌, ◌≡◌}
 use Rattle.uni_record.proofs.Replay.{bad_entry_at, good_entry_at}
 use Rattle.uni_record.proofs.checker.check_entries.Goals as goal
 

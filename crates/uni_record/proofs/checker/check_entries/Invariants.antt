@@ -1,7 +1,4 @@
-use Rattle.std.proofs.Common.{◌≡◌, List, [], ◌++◌, take, drop}
-use Rattle.uni_log.specs.declared.entry.Entry.{Entry}
-use Rattle.uni_record.specs.Verdict.{entries_verdict}
-use Rattle.uni_record.specs.CallPlaces.{HasGoneOver}
+use Rattle.uni_record.proofs.Vocabulary.{Entry, HasGoneOver, List, [], drop, entries_verdict, take, ◌++◌, ◌≡◌}
 use Rattle.uni_record.proofs.checker.check_entries.Given as goal
 
 abbrev pub invariant-loop-entry : goal.invariant-loop-entry

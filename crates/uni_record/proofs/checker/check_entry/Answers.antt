@@ -1,6 +1,4 @@
-use Rattle.std.proofs.Common.{◌≡◌, ◌∙◌, ℕ, ◌==◌, [], ◌∷◌, ◌++◌, if◌then◌else◌, length, sym, ap, subst, arith}
-use Rattle.std.proofs.lemmas.List.{length-map, map-append}
-use Rattle.uni_record.specs.CallPlaces.{row_of}
+use Rattle.uni_record.proofs.Vocabulary.{[], ap, arith, if◌then◌else◌, length, length-map, map-append, row_of, subst, sym, ℕ, ◌++◌, ◌==◌, ◌∙◌, ◌∷◌, ◌≡◌}
 use Rattle.uni_record.proofs.Table.{table_more}
 use Rattle.uni_record.proofs.checker.check_entry.Goals as goal
 

@@ -1,7 +1,4 @@
-use Rattle.std.proofs.Common.{◌≡◌, ◌∙◌, ◌+◌, [], ◌∷◌, ◌++◌, length, take, sym, ap, subst}
-use Rattle.std.proofs.lemmas.List.{at_drop_all, take_at, take_more}
-use Rattle.uni_record.specs.Verdict.{returns_verdict}
-use Rattle.uni_record.specs.CallPlaces.{AreMarked}
+use Rattle.uni_record.proofs.Vocabulary.{AreMarked, [], ap, at_drop_all, length, returns_verdict, subst, sym, take, take_at, take_more, ◌++◌, ◌+◌, ◌∙◌, ◌∷◌, ◌≡◌}
 use Rattle.uni_record.proofs.Replay.{bad_return_at, good_return_at}
 use Rattle.uni_record.proofs.checker.check_returns.Goals as goal
 

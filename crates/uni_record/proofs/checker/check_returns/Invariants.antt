@@ -1,7 +1,4 @@
-use Rattle.std.proofs.Common.{◌≡◌, List, [], length, take, drop}
-use Rattle.uni_log.specs.declared.entry.Entry.{Entry}
-use Rattle.uni_record.specs.Verdict.{returns_verdict}
-use Rattle.uni_record.specs.CallPlaces.{AreMarked, HasGoneOver}
+use Rattle.uni_record.proofs.Vocabulary.{AreMarked, Entry, HasGoneOver, List, [], drop, length, returns_verdict, take, ◌≡◌}
 use Rattle.uni_record.proofs.checker.check_returns.Given as goal
 
 abbrev pub invariant-loop-returned : goal.invariant-loop-returned

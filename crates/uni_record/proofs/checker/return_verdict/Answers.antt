@@ -1,7 +1,4 @@
-use Rattle.std.proofs.Common.{◌≡◌, ◌∙◌, Some, None, true, false, if◌then◌else◌, sym, ap}
-use Rattle.std.proofs.lemmas.Bool.{not-false, not-true}
-use Rattle.uni_record.specs.declared.verdict.Verdict.TheVariants.{Agrees, BadReturn}
-use Rattle.uni_record.specs.CallPlaces.{entry_place}
+use Rattle.uni_record.proofs.Vocabulary.{Agrees, BadReturn, None, Some, ap, entry_place, false, if◌then◌else◌, not-false, not-true, sym, true, ◌∙◌, ◌≡◌}
 use Rattle.uni_record.proofs.Table.{marked_more, verdict_unmarked, verdict_unplaced}
 use Rattle.uni_record.proofs.checker.return_verdict.Goals as goal
 

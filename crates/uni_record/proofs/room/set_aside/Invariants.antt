@@ -1,7 +1,4 @@
-use Rattle.std.proofs.Common.{◌≡◌, ◌+◌, ◌*◌, ◌-◌, ◌≤◌}
-use Rattle.uni_model.specs.Worlds.{sum_below}
-use Rattle.uni_core.specs.World.{world_of}
-use Rattle.uni_record.specs.Recorded.{owed_by}
+use Rattle.uni_record.proofs.Vocabulary.{owed_by, sum_below, world_of, ◌*◌, ◌+◌, ◌-◌, ◌≡◌, ◌≤◌}
 use Rattle.uni_record.proofs.room.set_aside.Given as goal
 
 abbrev pub invariant-loop-p : goal.invariant-loop-p

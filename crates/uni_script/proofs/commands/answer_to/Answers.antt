@@ -1,6 +1,4 @@
-use Rattle.std.proofs.Common.{◌≡◌, sym, subst, OnOk}
-use Rattle.uni_script.specs.Objects.{SpokenObject, spoken}
-use Rattle.uni_script.specs.Meaning.{session_of, session_after, result_of_command}
+use Rattle.uni_script.proofs.Vocabulary.{OnOk, SpokenObject, result_of_command, session_after, session_of, spoken, subst, sym, ◌≡◌}
 use Rattle.uni_script.proofs.commands.answer_to.Goals as goal
 
 pub returns-in-Call-clause-session : goal.returns-in-Call-clause-session

@@ -1,10 +1,5 @@
-use Rattle.std.proofs.Common.{◌≡◌, ◌∙◌, sym, ap, subst}
-use Rattle.uni_record.specs.Recorded.{IsBeginRefused, standing_of}
+use Rattle.uni_script.proofs.Vocabulary.{Busy, CommandResult, History, IsBeginRefused, Process, Row, SpokenObject, ap, called_text, session_after, session_of, standing_of, subst, sym, ◌∙◌, ◌≡◌}
 use Rattle.uni_record.specs.declared.event.Event.TheVariants as stored
-use Rattle.uni_script.specs.declared.answer.Refusal.TheVariants.{Process, Busy, Row, History}
-use Rattle.uni_script.specs.Answer.{called_text}
-use Rattle.uni_script.specs.Objects.{SpokenObject}
-use Rattle.uni_script.specs.Meaning.{session_of, session_after, CommandResult}
 use Rattle.uni_script.proofs.Stepping.{session_of-event}
 use Rattle.uni_script.proofs.Results.{refusal_of_call-BadProcess, refusal_of_call-Busy, refusal_of_call-RowFull, refusal_of_call-HistoryFull, refusal_of_call-none, session_after-refused, result_of_call-begun, result_of_call-refused}
 use Rattle.uni_script.proofs.commands.call.Goals as goal

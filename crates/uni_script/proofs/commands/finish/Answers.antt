@@ -1,9 +1,4 @@
-use Rattle.std.proofs.Common.{◌≡◌, ◌∙◌, ap, subst, OnOk, IfOk}
-use Rattle.uni_core.specs.World.{world_of}
-use Rattle.uni_script.specs.Commands.{answer_text}
-use Rattle.uni_script.specs.Objects.{SpokenObject, spoken}
-use Rattle.uni_model.specs.Bound.{most_steps}
-use Rattle.uni_script.specs.Meaning.{session_of, session_after, result_of_steps}
+use Rattle.uni_script.proofs.Vocabulary.{IfOk, OnOk, SpokenObject, answer_text, ap, most_steps, result_of_steps, session_after, session_of, spoken, subst, world_of, ◌∙◌, ◌≡◌}
 use Rattle.uni_script.proofs.commands.finish.Goals as goal
 
 pub returns-clause-session : goal.returns-clause-session

@@ -1,7 +1,4 @@
-use Rattle.std.proofs.Common.{◌≡◌, ◌∙◌, ◌++◌, ap, subst}
-use Rattle.uni_core.specs.World.{world_of}
-use Rattle.uni_script.specs.Commands.{answer_text}
-use Rattle.uni_script.specs.Objects.{spoken}
+use Rattle.uni_script.proofs.Vocabulary.{answer_text, ap, spoken, subst, world_of, ◌++◌, ◌∙◌, ◌≡◌}
 use Rattle.uni_script.proofs.commands.make.Goals as goal
 
 pub returns-clause-text : goal.returns-clause-text

@@ -1,5 +1,4 @@
-use Rattle.std.proofs.Common.{ap}
-use Rattle.uni_record.specs.Event.{events_shown}
+use Rattle.uni_script.proofs.Vocabulary.{ap, events_shown}
 use Rattle.uni_script.proofs.Stepping.{session_is}
 use Rattle.uni_script.proofs.commands.open.Goals as goal
 

@@ -1,12 +1,6 @@
-use Rattle.std.proofs.Common.{◌≡◌, ◌∙◌, ◌+◌, ◌++◌, Some, None, map, slice_get, sym, ap, arith}
+use Rattle.uni_script.proofs.Vocabulary.{None, Some, all-taken, ap, arith, concat, entry_text, log, map, slice_get, sym, text_of_words, within-at, world_of, ◌++◌, ◌+◌, ◌∙◌, ◌≡◌}
 use Rattle.std.proofs.lemmas.List.{append-nil}
-use Rattle.std.specs.List.{concat}
-use Rattle.uni_core.specs.World.{world_of}
 use Rattle.uni_log.specs.Entry.{entry_shown}
-use Rattle.uni_log.proofs.Along.{within-at, all-taken}
-use Rattle.uni_model.specs.History.{log}
-use Rattle.ready_objects.specs.Words.{text_of_words}
-use Rattle.uni_script.specs.Answer.{entry_text}
 use Rattle.uni_script.proofs.LogLines.{lines-one_more}
 use Rattle.uni_script.proofs.commands.push_log.Goals as goal
 

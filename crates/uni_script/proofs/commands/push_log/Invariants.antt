@@ -1,9 +1,4 @@
-use Rattle.std.proofs.Common.{◌≡◌, ◌-◌, ◌++◌, length, map, take}
-use Rattle.std.specs.List.{concat}
-use Rattle.uni_core.specs.World.{world_of}
-use Rattle.uni_model.specs.History.{log}
-use Rattle.ready_objects.specs.Words.{text_of_words}
-use Rattle.uni_script.specs.Answer.{entry_text}
+use Rattle.uni_script.proofs.Vocabulary.{concat, entry_text, length, log, map, take, text_of_words, world_of, ◌++◌, ◌-◌, ◌≡◌}
 use Rattle.uni_script.proofs.commands.push_log.Given as goal
 
 abbrev pub invariant-loop-entry : goal.invariant-loop-entry

@@ -1,7 +1,4 @@
-use Rattle.std.proofs.Common.{◌≡◌, ◌++◌}
-use Rattle.uni_model.specs.Places.{head_seq}
-use Rattle.uni_core.specs.World.{world_of}
-use Rattle.uni_script.specs.Answer.{numbers_text}
+use Rattle.uni_script.proofs.Vocabulary.{head_seq, numbers_text, world_of, ◌++◌, ◌≡◌}
 use Rattle.uni_script.proofs.commands.push_numbers.Given as goal
 
 abbrev pub invariant-loop-process : goal.invariant-loop-process

@@ -1,10 +1,5 @@
-use Rattle.std.proofs.Common.{◌∙◌, sym, ap, subst}
-use Rattle.uni_record.specs.Recorded.{IsReshapeRefused, standing_of}
+use Rattle.uni_script.proofs.Vocabulary.{CommandResult, Count, History, IsReshapeRefused, Pending, Sequence, SpokenObject, ap, reshaped_text, session_after, session_of, standing_of, subst, sym, ◌∙◌}
 use Rattle.uni_record.specs.declared.event.Event.TheVariants as stored
-use Rattle.uni_script.specs.declared.answer.Refusal.TheVariants.{Pending, Sequence, History, Count}
-use Rattle.uni_script.specs.Answer.{reshaped_text}
-use Rattle.uni_script.specs.Objects.{SpokenObject}
-use Rattle.uni_script.specs.Meaning.{session_of, session_after, CommandResult}
 use Rattle.uni_script.proofs.Stepping.{session_of-event}
 use Rattle.uni_script.proofs.Results.{refusal_of_end-Pending, refusal_of_end-SeqFull, refusal_of_end-HistoryFull, refusal_of_end-none, refusal_of_reshape-count, refusal_of_reshape-BadCount, session_after-refused, result_of_reshape-ended, result_of_reshape-refused}
 use Rattle.uni_script.proofs.commands.reshape.Goals as goal

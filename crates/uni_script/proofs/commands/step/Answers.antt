@@ -1,8 +1,4 @@
-use Rattle.std.proofs.Common.{◌≡◌, ◌∙◌, ◌<◌, refl, sym, ap, subst, None, Some}
-use Rattle.uni_core.specs.World.{world_of, current_of}
-use Rattle.uni_script.specs.declared.answer.Refusal.TheVariants.{Idle}
-use Rattle.uni_script.specs.Objects.{SpokenObject}
-use Rattle.uni_script.specs.Meaning.{session_of, session_after, CommandResult, last_step}
+use Rattle.uni_script.proofs.Vocabulary.{CommandResult, Idle, None, Some, SpokenObject, ap, current_of, last_step, refl, session_after, session_of, subst, sym, world_of, ◌<◌, ◌∙◌, ◌≡◌}
 use Rattle.uni_script.proofs.Results.{refusal_of_step-idle, refusal_of_step-none, result_of_steps-refused, result_of_steps-taken, session_after-refused}
 use Rattle.uni_script.proofs.commands.step.Goals as goal
 

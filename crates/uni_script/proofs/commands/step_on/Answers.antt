@@ -1,10 +1,5 @@
-use Rattle.std.proofs.Common.{◌≡◌, ◌∙◌, arith, refl, sym, ap, subst, option_map}
-use Rattle.uni_model.specs.Worlds.{WorldOf, world_after}
-use Rattle.uni_model.specs.Worlds.Event.{Step}
-use Rattle.uni_core.specs.World.{world_of}
+use Rattle.uni_script.proofs.Vocabulary.{LastStep, SpokenObject, Step, WorldOf, ap, arith, option_map, refl, session_of, subst, sym, world_after, world_of, ◌∙◌, ◌≡◌}
 use Rattle.uni_record.specs.declared.event.Event.TheVariants as stored
-use Rattle.uni_script.specs.Objects.{SpokenObject}
-use Rattle.uni_script.specs.Meaning.{session_of, LastStep}
 use Rattle.uni_script.proofs.Helped.{IsReached-IsRecording, n-world_after_step}
 use Rattle.uni_script.proofs.Stepping.{session_of-event, none-from_Going, some-from_Done, IsOnTheWay-start, IsOnTheWay-going, last_step-done, session-done, last_step-stopped, session-stopped, IsOnTheWay-few}
 use Rattle.uni_script.proofs.commands.step_on.Goals as goal

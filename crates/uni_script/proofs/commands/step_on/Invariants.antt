@@ -1,5 +1,4 @@
-use Rattle.std.proofs.Common.{◌≡◌}
-use Rattle.uni_script.specs.Meaning.{session_of}
+use Rattle.uni_script.proofs.Vocabulary.{session_of, ◌≡◌}
 use Rattle.uni_script.proofs.Stepping.{IsOnTheWay}
 use Rattle.uni_script.proofs.commands.step_on.Given as goal
 

@@ -1,11 +1,5 @@
-use Rattle.std.proofs.Common.{◌∙◌, sym, ap, subst}
-use Rattle.uni_core.specs.World.{world_of}
-use Rattle.uni_record.specs.Recorded.{IsEndRefused, standing_of}
+use Rattle.uni_script.proofs.Vocabulary.{CommandResult, History, IsEndRefused, Pending, Sequence, SpokenObject, ap, session_after, session_of, standing_of, subst, sym, trimmed_text, world_of, ◌∙◌}
 use Rattle.uni_record.specs.declared.event.Event.TheVariants as stored
-use Rattle.uni_script.specs.declared.answer.Refusal.TheVariants.{Pending, Sequence, History}
-use Rattle.uni_script.specs.Answer.{trimmed_text}
-use Rattle.uni_script.specs.Objects.{SpokenObject}
-use Rattle.uni_script.specs.Meaning.{session_of, session_after, CommandResult}
 use Rattle.uni_script.proofs.Stepping.{session_of-event}
 use Rattle.uni_script.proofs.Results.{refusal_of_end-Pending, refusal_of_end-SeqFull, refusal_of_end-HistoryFull, refusal_of_end-none, session_after-refused, result_of_trim-ended, result_of_trim-refused}
 use Rattle.uni_script.proofs.commands.trim.Goals as goal

@@ -1,15 +1,4 @@
-use Rattle.std.proofs.Common.{rules, ◌≡◌, ◌∙◌, inr, Ok, Some, Err, refl, sym, ap, subst}
-use Rattle.uni_script.specs.declared.fault.BenchFault.TheVariants.{Write}
-use Rattle.uni_script.specs.Meaning.{session_of}
-use Rattle.uni_script.specs.Objects.{spoken}
-use Rattle.uni_script.specs.Outcome.{outcome_of_end}
-use Rattle.uni_script.specs.Promises.{IsPromised}
-use Rattle.uni_script.specs.ScriptRun.{IsSummaryOf}
-use Rattle.uni_script.specs.Scripts.{IsAbout}
-use Rattle.uni_script.specs.Summary.{summary_of}
-use Rattle.uni_script.specs.Ends.{AppendsPrefix, Moves}
-use Rattle.uni_script.specs.Lines.Stop.{End}
-use Rattle.uni_script.specs.Lines.{HasRun, HasEnded, GoesOn, WritesAs}
+use Rattle.uni_script.proofs.Vocabulary.{AppendsPrefix, End, Err, GoesOn, HasEnded, HasRun, IsAbout, IsPromised, IsSummaryOf, Moves, Ok, Some, Write, WritesAs, ap, inr, outcome_of_end, refl, rules, session_of, spoken, subst, summary_of, sym, ◌∙◌, ◌≡◌}
 use Rattle.uni_script.proofs.RunningOn.{stays_false, IfOk-with, text_written, text_part, ReadsOn-taken, ReadsOn-stopped, HasRun-moved, HasEnded-early, HasEnded-fault, HasEnded-unwritten, HasEnded-end}
 use Rattle.uni_script.proofs.driver.run_commands.Goals as goal
 

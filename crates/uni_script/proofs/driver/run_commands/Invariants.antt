@@ -1,10 +1,4 @@
-use Rattle.std.proofs.Common.{◌≡◌, ◌-◌, false, [], Some, List, ℕ, Option}
-use Rattle.uni_script.specs.Remarks.{Heard}
-use Rattle.uni_script.specs.Meaning.{Session, session_of}
-use Rattle.uni_script.specs.Objects.{spoken}
-use Rattle.uni_script.specs.Outcome.{Kind}
-use Rattle.uni_script.specs.Scripts.{IsAbout}
-use Rattle.uni_script.specs.Lines.{IsHeld, HasRun}
+use Rattle.uni_script.proofs.Vocabulary.{HasRun, Heard, IsAbout, IsHeld, Kind, List, Option, Session, Some, [], false, session_of, spoken, ℕ, ◌-◌, ◌≡◌}
 use Rattle.uni_script.proofs.driver.run_commands.Given as goal
 
 -- the lines that were taken so far were run

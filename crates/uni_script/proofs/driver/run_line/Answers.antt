@@ -1,13 +1,4 @@
-use Rattle.std.proofs.Common.{◌≡◌, ◌∙◌, ◌-◌, ◌++◌, inr, Some, length, option_map, replicate, refl, sym, ap, subst, append-nil}
-use Rattle.std.proofs.lemmas.List.{length-map}
-use Rattle.ready_objects.specs.Words.{bytes_of, words_of_text}
-use Rattle.uni_record.specs.Event.{event_shown}
-use Rattle.uni_script.specs.Grammar.{command_of_words}
-use Rattle.uni_script.specs.Objects.{SpokenObject, spoken}
-use Rattle.uni_script.specs.Meaning.{session_of, session_after, result_of_command}
-use Rattle.uni_script.specs.Outcome.{Outcome}
-use Rattle.uni_script.specs.Remarks.{HeardGrows, heard_remarks, heard_events, remarks_after, remarks_of_note}
-use Rattle.uni_script.specs.Remarks.RemarkText.{Refused}
+use Rattle.uni_script.proofs.Vocabulary.{HeardGrows, Outcome, Refused, Some, SpokenObject, ap, append-nil, bytes_of, command_of_words, event_shown, heard_events, heard_remarks, inr, length, length-map, option_map, refl, remarks_after, remarks_of_note, replicate, result_of_command, session_after, session_of, spoken, subst, sym, words_of_text, ◌++◌, ◌-◌, ◌∙◌, ◌≡◌}
 use Rattle.uni_script.proofs.Running.{outcome_of_short_line-made, outcome_of_short_line-bad}
 use Rattle.uni_script.proofs.RunningOn.{HeardGrows-trans}
 use Rattle.uni_script.proofs.Sharing.{answered-some, answered-none, refusal_of_words-some}

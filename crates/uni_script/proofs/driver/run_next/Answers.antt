@@ -1,8 +1,4 @@
-use Rattle.std.proofs.Common.{rules, ◌≡◌, ◌∙◌, ◌++◌, ◌∷◌, inl, [], Some, Err, refl, sym, ap, subst}
-use Rattle.uni_script.specs.declared.fault.BenchFault.TheVariants.{Memory}
-use Rattle.uni_script.specs.Meaning.{session_of}
-use Rattle.uni_script.specs.Outcome.{echo_of, outcome_of_short_line}
-use Rattle.uni_script.specs.Lines.{HasTaken, TakesOn, GoesOn}
+use Rattle.uni_script.proofs.Vocabulary.{Err, GoesOn, HasTaken, Memory, Some, TakesOn, [], ap, echo_of, inl, outcome_of_short_line, refl, rules, session_of, subst, sym, ◌++◌, ◌∙◌, ◌∷◌, ◌≡◌}
 use Rattle.uni_script.proofs.Running.{is_short}
 use Rattle.uni_script.proofs.RunningOn.{is_short-line, HasRun-line, ReadsOn-before, FaultsAfter-line, FaultsAfter-take}
 use Rattle.uni_script.proofs.driver.run_next.Goals as goal

@@ -1,11 +1,5 @@
-use Rattle.std.proofs.Common.{rules, ◌≡◌, inl, [], Some, Err, refl, sym, subst}
-use Rattle.uni_script.specs.declared.fault.BenchFault.TheVariants.{Memory}
+use Rattle.uni_script.proofs.Vocabulary.{Err, HasEnded, HasRun, IsAbout, IsRanAs, IsSummaryOf, Memory, Some, [], inl, refl, rules, session_of, spoken, subst, sym, ◌≡◌}
 use Rattle.uni_script.specs.declared.options.Dialect.{Dialect}
-use Rattle.uni_script.specs.Meaning.{session_of}
-use Rattle.uni_script.specs.Objects.{spoken}
-use Rattle.uni_script.specs.Lines.{HasRun, HasEnded}
-use Rattle.uni_script.specs.ScriptRun.{IsRanAs, IsSummaryOf}
-use Rattle.uni_script.specs.Scripts.{IsAbout}
 use Rattle.uni_script.proofs.RunningOn.{ReadsOn-taken, text_written, HasEnded-early, HasEnded-map, HasEnded-err}
 use Rattle.uni_script.proofs.Written.{AppendsPrefix-all}
 use Rattle.uni_script.proofs.driver.run_object.Goals as goal

@@ -1,5 +1,4 @@
-use Rattle.std.proofs.Common.{rules, ◌≡◌, Err, sym, subst}
-use Rattle.uni_script.specs.Lines.{HasEnded}
+use Rattle.uni_script.proofs.Vocabulary.{Err, HasEnded, rules, subst, sym, ◌≡◌}
 use Rattle.uni_script.proofs.driver.run_script.Goals as goal
 
 pub returns-in_err-header-clause-run : goal.returns-in_err-header-clause-run

@@ -1,9 +1,4 @@
-use Rattle.std.proofs.Common.{rules, ◌≡◌, ◌∙◌, ◌+◌, ◌++◌, ◌∷◌, inl, [], None, Some, is_none, Err, IfErr, refl, sym, ap, subst, append-nil}
-use Rattle.uni_script.specs.declared.fault.BenchFault.TheVariants.{NoHeader, Memory}
-use Rattle.uni_script.specs.Outcome.{echo_of, outcome_of_fault}
-use Rattle.uni_script.specs.Lines.{HasTaken, TakesOn, HasEnded}
-use Rattle.uni_script.specs.Lines.Stop.{End}
-use Rattle.uni_script.specs.Remarks.{HeardGrows}
+use Rattle.uni_script.proofs.Vocabulary.{End, Err, HasEnded, HasTaken, HeardGrows, IfErr, Memory, NoHeader, None, Some, TakesOn, [], ap, append-nil, echo_of, inl, is_none, outcome_of_fault, refl, rules, subst, sym, ◌++◌, ◌+◌, ◌∙◌, ◌∷◌, ◌≡◌}
 use Rattle.uni_script.proofs.Written.{AppendsPrefix-all}
 use Rattle.uni_script.proofs.Running.{is_short}
 use Rattle.uni_script.proofs.RunningOn.{stays_false, HeardGrows-nil, is_short-line, of_some, of_none, text_written, text_part, ReadsOn-taken, HasRun-start, HasRun-quiet, HasRun-moved, ReadsOn-before, FaultsAfter-header, FaultsAfter-stop, FaultsAfter-take, HasEnded-early, HasEnded-fault}

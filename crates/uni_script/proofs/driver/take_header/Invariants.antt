@@ -1,5 +1,4 @@
-use Rattle.std.proofs.Common.{◌≡◌, ◌-◌, false, [], None, List, ℕ}
-use Rattle.uni_script.specs.Lines.{IsHeld, HasRun}
+use Rattle.uni_script.proofs.Vocabulary.{HasRun, IsHeld, List, None, [], false, ℕ, ◌-◌, ◌≡◌}
 use Rattle.uni_script.proofs.driver.take_header.Given as goal
 
 -- the lines that were taken so far are notes

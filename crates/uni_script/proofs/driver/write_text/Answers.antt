@@ -1,6 +1,4 @@
-use Rattle.std.proofs.Common.{◌∙◌, ◌++◌, sym, ap, subst, append-nil}
-use Rattle.std.specs.Io.KnownBytes.{Appends}
-use Rattle.uni_script.specs.Ends.{AppendsPrefix}
+use Rattle.uni_script.proofs.Vocabulary.{Appends, AppendsPrefix, ap, append-nil, subst, sym, ◌++◌, ◌∙◌}
 use Rattle.uni_script.proofs.driver.write_text.Goals as goal
 
 pub returns-in-Ok-clause-moved : goal.returns-in-Ok-clause-moved

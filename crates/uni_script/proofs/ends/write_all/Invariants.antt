@@ -1,5 +1,4 @@
-use Rattle.std.proofs.Common.{◌≡◌, length}
-use Rattle.uni_script.specs.Ends.{IsWritten}
+use Rattle.uni_script.proofs.Vocabulary.{IsWritten, length, ◌≡◌}
 use Rattle.uni_script.proofs.ends.write_all.Given as goal
 
 abbrev pub invariant-loop-rest : goal.invariant-loop-rest

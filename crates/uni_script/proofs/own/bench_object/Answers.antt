@@ -1,10 +1,4 @@
-use Rattle.std.proofs.Common.{◌≡◌, Ok, Err, refl, ap}
-use Rattle.uni_script.specs.declared.fault.BenchFault.TheVariants.{Read, Audit}
-use Rattle.uni_script.specs.Objects.{spoken}
-use Rattle.uni_script.specs.Promises.{IsPromised}
-use Rattle.uni_script.specs.ScriptRun.{IsOwnRan}
-use Rattle.uni_script.specs.Scripts.{own_scripts}
-use Rattle.uni_script.specs.Summary.{summary_of}
+use Rattle.uni_script.proofs.Vocabulary.{Audit, Err, IsOwnRan, IsPromised, Ok, Read, ap, own_scripts, refl, spoken, summary_of, ◌≡◌}
 use Rattle.uni_script.proofs.RunningOn.{one_fault}
 use Rattle.uni_script.proofs.Replaying.{HasEnded-replayed, HasEnded-leaves, HasEnded-audited, HasEnded-bad, HasEnded-part, HasEnded-read}
 use Rattle.uni_script.proofs.own.bench_object.Goals as goal

@@ -1,9 +1,4 @@
-use Rattle.std.proofs.Common.{◌≡◌, ◌∙◌, ◌++◌, ◌≤◌, Ok, Err, length, map, sym, ap, arith}
-use Rattle.std.proofs.lemmas.List.{length-map}
-use Rattle.uni_script.specs.Objects.{spoken}
-use Rattle.uni_script.specs.ScriptRun.{IsOwnRan}
-use Rattle.uni_script.specs.Scripts.{own_scripts}
-use Rattle.uni_script.specs.Remarks.{Heard, remark_at, heard_of_script}
+use Rattle.uni_script.proofs.Vocabulary.{Err, Heard, IsOwnRan, Ok, ap, arith, heard_of_script, length, length-map, map, own_scripts, remark_at, spoken, sym, ◌++◌, ◌∙◌, ◌≡◌, ◌≤◌}
 use Rattle.uni_script.proofs.Replaying.{HasEnded-whole, HasEnded-all_read, HasEnded-bad}
 use Rattle.uni_script.proofs.own.run_of_object.Goals as goal
 

@@ -1,5 +1,4 @@
-use Rattle.std.proofs.Common.{arith, ◌≡◌, ◌<◌, ℕ, List, [], ◌∷◌, length, refl}
-use Rattle.uni_script.specs.Remarks.{without}
+use Rattle.uni_script.proofs.Vocabulary.{List, [], arith, length, refl, without, ℕ, ◌<◌, ◌∷◌, ◌≡◌}
 use Rattle.uni_script.proofs.remarks.without.Goals as goal
 
 without-none : (b : ℕ) (text : List ℕ) → length text < 1 → text ≡ without b text

@@ -1,9 +1,4 @@
-use Rattle.std.proofs.Common.{◌≡◌, Ok, Err, refl, ap}
-use Rattle.uni_script.specs.declared.fault.BenchFault.TheVariants.{Read, Audit}
-use Rattle.uni_script.specs.Promises.{IsPromisedSession}
-use Rattle.uni_script.specs.ScriptRun.{IsRan}
-use Rattle.uni_script.specs.Scripts.{scripts}
-use Rattle.uni_script.specs.Summary.{summary_of_session}
+use Rattle.uni_script.proofs.Vocabulary.{Audit, Err, IsPromisedSession, IsRan, Ok, Read, ap, refl, scripts, summary_of_session, ◌≡◌}
 use Rattle.uni_script.proofs.RunningOn.{one_fault}
 use Rattle.uni_script.proofs.Replaying.{HasEnded-replayed, HasEnded-leaves, HasEnded-audited, HasEnded-bad, HasEnded-part, HasEnded-read}
 use Rattle.uni_script.proofs.replay.bench.Goals as goal

@@ -1,6 +1,4 @@
-use Rattle.std.proofs.Common.{◌≡◌, ◌++◌, OnOk, sym, subst}
-use Rattle.uni_script.specs.Objects.{spoken_of}
-use Rattle.uni_script.specs.Schedules.{event_lines}
+use Rattle.uni_script.proofs.Vocabulary.{OnOk, event_lines, spoken_of, subst, sym, ◌++◌, ◌≡◌}
 use Rattle.uni_script.proofs.schedules.push_drawn.Goals as goal
 
 pub returns-in-Queue-clause-text : goal.returns-in-Queue-clause-text

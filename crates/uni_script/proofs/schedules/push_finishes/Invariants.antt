@@ -1,5 +1,4 @@
-use Rattle.std.proofs.Common.{◌≡◌, ◌++◌}
-use Rattle.uni_script.specs.Schedules.{finish_lines}
+use Rattle.uni_script.proofs.Vocabulary.{finish_lines, ◌++◌, ◌≡◌}
 use Rattle.uni_script.proofs.schedules.push_finishes.Given as goal
 
 abbrev pub invariant-loop-process : goal.invariant-loop-process

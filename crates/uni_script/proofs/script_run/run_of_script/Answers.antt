@@ -1,8 +1,4 @@
-use Rattle.std.proofs.Common.{◌≡◌, ◌∙◌, ◌++◌, ◌≤◌, Err, length, map, sym, ap, arith}
-use Rattle.std.proofs.lemmas.List.{length-map}
-use Rattle.uni_script.specs.ScriptRun.{IsRan}
-use Rattle.uni_script.specs.Scripts.{scripts}
-use Rattle.uni_script.specs.Remarks.{Heard, remark_at, heard_of_script}
+use Rattle.uni_script.proofs.Vocabulary.{Err, Heard, IsRan, ap, arith, heard_of_script, length, length-map, map, remark_at, scripts, sym, ◌++◌, ◌∙◌, ◌≡◌, ◌≤◌}
 use Rattle.uni_script.proofs.Replaying.{HasEnded-whole, HasEnded-bad}
 use Rattle.uni_script.proofs.script_run.run_of_script.Goals as goal
 

@@ -1,5 +1,4 @@
-use Rattle.std.proofs.Common.{refl}
-use Rattle.uni_script.specs.declared.fault.BenchFault.TheVariants.{Read, Write, Memory}
+use Rattle.uni_script.proofs.Vocabulary.{Memory, Read, Write, refl}
 use Rattle.uni_script.proofs.statuses.report_fault.Goals as goal
 
 pub returns-in-Read-clause-told : goal.returns-in-Read-clause-told

@@ -1,5 +1,4 @@
-use Rattle.std.proofs.Common.{refl}
-use Rattle.uni_script.specs.declared.fault.BenchFault.TheVariants.{Memory}
+use Rattle.uni_script.proofs.Vocabulary.{Memory, refl}
 use Rattle.uni_script.proofs.statuses.report_line.Goals as goal
 
 pub returns-clause-told : goal.returns-clause-told

@@ -1,7 +1,4 @@
-use Rattle.std.proofs.Common.{◌≡◌, ◌∙◌, ◌<◌, ℕ, refl, sym, subst, get_or}
-use Rattle.std.specs.List.{All}
-use Rattle.uni_core.specs.World.{world_of}
-use Rattle.uni_shared.specs.Agreement.{seats_of}
+use Rattle.uni_shared.proofs.Vocabulary.{All, get_or, refl, seats_of, subst, sym, world_of, ℕ, ◌<◌, ◌∙◌, ◌≡◌}
 use Rattle.uni_shared.proofs.Closing.{IsBusy-none}
 use Rattle.uni_shared.proofs.agreement.first_fault.Goals as goal
 

@@ -1,7 +1,4 @@
-use Rattle.std.proofs.Common.{◌≡◌, ◌<◌, refl, subst, get_or, arith}
-use borrow.Author.Count.{below_more}
-use Rattle.std.specs.List.{All}
-use Rattle.uni_shared.specs.Agreement.{SeatAgrees}
+use Rattle.uni_shared.proofs.Vocabulary.{All, SeatAgrees, arith, below_more, get_or, refl, subst, ◌<◌, ◌≡◌}
 use Rattle.uni_shared.proofs.agreement.first_mismatch.Goals as goal
 
 pub loop-p-preserved : goal.loop-p-preserved

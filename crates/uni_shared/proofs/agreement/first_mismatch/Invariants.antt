@@ -1,6 +1,4 @@
-use Rattle.std.proofs.Common.{◌≡◌, ◌<◌, ℕ}
-use Rattle.std.specs.List.{All}
-use Rattle.uni_shared.specs.Agreement.{SeatAgrees}
+use Rattle.uni_shared.proofs.Vocabulary.{All, SeatAgrees, ℕ, ◌<◌, ◌≡◌}
 use Rattle.uni_shared.proofs.agreement.first_mismatch.Given as goal
 
 abbrev pub invariant-loop-p : goal.invariant-loop-p

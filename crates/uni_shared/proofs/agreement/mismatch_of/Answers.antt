@@ -1,9 +1,4 @@
-use Rattle.std.proofs.Common.{◌≡◌, ◌∙◌, sym, refl, map}
-use Rattle.std.specs.List.{filter_map}
-use Rattle.std.proofs.lemmas.Option.{IfSome_then}
-use Rattle.uni_record.specs.Event.{completed_in, events_shown}
-use Rattle.uni_record.specs.Recorded.{meaning, opening}
-use Rattle.uni_shared.specs.Agreement.{completed_of, completed_of_process, invocation_by}
+use Rattle.uni_shared.proofs.Vocabulary.{IfSome_then, completed_in, completed_of, completed_of_process, events_shown, filter_map, invocation_by, map, meaning, opening, refl, sym, ◌∙◌, ◌≡◌}
 use Rattle.uni_shared.proofs.Differing.{DifferFirstAt-found, IsMismatchOf-differing}
 use Rattle.uni_shared.proofs.agreement.mismatch_of.Goals as goal
 

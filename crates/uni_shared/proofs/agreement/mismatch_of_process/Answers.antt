@@ -1,7 +1,4 @@
-use Rattle.std.proofs.Common.{◌≡◌, sym, subst}
-use Rattle.std.specs.List.{Contains}
-use Rattle.std.proofs.lemmas.List.Elements.{All-more, Contains-get_or}
-use Rattle.uni_shared.specs.Agreement.{SeatAgrees}
+use Rattle.uni_shared.proofs.Vocabulary.{All-more, Contains, Contains-get_or, SeatAgrees, subst, sym, ◌≡◌}
 use Rattle.uni_shared.proofs.Counting.{All-whole}
 use Rattle.uni_shared.proofs.agreement.mismatch_of_process.Goals as goal
 

@@ -1,6 +1,4 @@
-use Rattle.std.proofs.Common.{◌≡◌, take}
-use Rattle.std.specs.List.{All}
-use Rattle.uni_shared.specs.Agreement.{SeatAgrees}
+use Rattle.uni_shared.proofs.Vocabulary.{All, SeatAgrees, take, ◌≡◌}
 use Rattle.uni_shared.proofs.agreement.mismatch_of_process.Given as goal
 
 abbrev pub invariant-loop-seat : goal.invariant-loop-seat

@@ -1,7 +1,4 @@
-use Rattle.std.proofs.Common.{rules, ◌≡◌, ◌∙◌, sym, arith}
-use borrow.Author.Count.{below_more}
-use Rattle.std.proofs.lemmas.Option.{IfSome_then}
-use Rattle.uni_shared.specs.Agreement.{seats_of}
+use Rattle.uni_shared.proofs.Vocabulary.{IfSome_then, arith, below_more, rules, seats_of, sym, ◌∙◌, ◌≡◌}
 use Rattle.uni_shared.proofs.Closing.{IsLeast-missing, IsLeast-missing_own, IsMissing-none}
 use Rattle.uni_shared.proofs.agreement.missing_seat.Goals as goal
 

@@ -1,5 +1,4 @@
-use Rattle.std.proofs.Common.{◌≡◌, ◌<◌, ℕ}
-use Rattle.uni_shared.specs.Agreement.{seats_of}
+use Rattle.uni_shared.proofs.Vocabulary.{seats_of, ℕ, ◌<◌, ◌≡◌}
 use Rattle.uni_shared.proofs.agreement.missing_seat.Given as goal
 
 abbrev pub invariant-loop-p : goal.invariant-loop-p

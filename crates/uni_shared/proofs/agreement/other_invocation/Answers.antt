@@ -1,9 +1,4 @@
-use Rattle.std.proofs.Common.{◌∙◌, sym, ap, ◌++◌, [], ◌∷◌, map, take, arith}
-use Rattle.std.specs.List.{cons_option, filter_map}
-use Rattle.std.proofs.lemmas.List.{append_assoc, append-nil, take-map, length-map}
-use Rattle.std.proofs.lemmas.List.Elements.{filter_map-append}
-use Rattle.uni_record.specs.Event.{event_lent}
-use Rattle.uni_shared.specs.Agreement.{invocation_by}
+use Rattle.uni_shared.proofs.Vocabulary.{[], ap, append-nil, append_assoc, arith, cons_option, event_lent, filter_map, filter_map-append, invocation_by, length-map, map, sym, take, take-map, ◌++◌, ◌∙◌, ◌∷◌}
 use Rattle.uni_shared.proofs.Differing.{DiffersFirstAt-other, DiffersFirstAt-longer}
 use Rattle.uni_shared.proofs.agreement.other_invocation.Goals as goal
 

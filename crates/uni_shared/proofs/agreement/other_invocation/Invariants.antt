@@ -1,6 +1,4 @@
-use Rattle.std.proofs.Common.{◌≡◌, ◌≤◌, ◌++◌, length, map, take}
-use Rattle.std.specs.List.{filter_map}
-use Rattle.uni_shared.specs.Agreement.{invocation_by}
+use Rattle.uni_shared.proofs.Vocabulary.{filter_map, invocation_by, length, map, take, ◌++◌, ◌≡◌, ◌≤◌}
 use Rattle.uni_shared.proofs.agreement.other_invocation.Given as goal
 
 -- the receipts so far and the calls that are still to come are all calls

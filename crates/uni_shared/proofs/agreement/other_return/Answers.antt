@@ -1,8 +1,4 @@
-use Rattle.std.proofs.Common.{◌≡◌, ◌<◌, ◌≤◌, ◌+◌, ◌==◌, ◌∙◌, sym, ap, subst, ◌++◌, [], ◌∷◌, length, map, drop, get_or, arith}
-use Rattle.std.proofs.lemmas.List.{take-map, take_all, length-map}
-use Rattle.uni_record.specs.declared.verdict.Counts.{Counts}
-use Rattle.uni_record.specs.Event.{Completed}
-use Rattle.uni_shared.specs.Agreement.{completed_of_process, completed_of}
+use Rattle.uni_shared.proofs.Vocabulary.{Completed, Counts, [], ap, arith, completed_of, completed_of_process, drop, get_or, length, length-map, map, subst, sym, take-map, take_all, ◌++◌, ◌+◌, ◌<◌, ◌==◌, ◌∙◌, ◌∷◌, ◌≡◌, ◌≤◌}
 use Rattle.uni_shared.proofs.Counting.{filter-take_more, get_or-completed, get_or-within}
 use Rattle.uni_shared.proofs.Differing.{DiffersFirstAt-other, DiffersFirstAt-longer, filter-split, nat_eq-same}
 use Rattle.uni_shared.proofs.agreement.other_return.Goals as goal

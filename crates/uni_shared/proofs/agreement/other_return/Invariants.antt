@@ -1,6 +1,4 @@
-use Rattle.std.proofs.Common.{◌≡◌, ◌≤◌, List, length, map, take}
-use Rattle.uni_record.specs.Event.{Completed}
-use Rattle.uni_shared.specs.Agreement.{completed_of_process, completed_of}
+use Rattle.uni_shared.proofs.Vocabulary.{Completed, List, completed_of, completed_of_process, length, map, take, ◌≡◌, ◌≤◌}
 use Rattle.uni_shared.proofs.agreement.other_return.Given as goal
 
 abbrev pub invariant-loop-i : goal.invariant-loop-i

@@ -1,6 +1,4 @@
-use Rattle.std.proofs.Common.{◌<◌, ◌∙◌, ◌+◌, sym, subst, take, arith}
-use Rattle.std.proofs.lemmas.List.{take_all}
-use Rattle.std.proofs.lemmas.List.Elements.{All-more}
+use Rattle.uni_shared.proofs.Vocabulary.{All-more, arith, subst, sym, take, take_all, ◌+◌, ◌<◌, ◌∙◌}
 use Rattle.uni_shared.proofs.Closing.{IsLeastOther, IsLeastOther-start, IsLeastOther-same, IsLeastOther-more, IsLeast-other}
 use Rattle.uni_shared.proofs.Counting.{All-whole}
 use Rattle.uni_shared.proofs.agreement.other_seat.Goals.{then-p-n, else-p-n}

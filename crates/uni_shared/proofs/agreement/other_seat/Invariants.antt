@@ -1,5 +1,4 @@
-use Rattle.std.proofs.Common.{◌≡◌, ◌<◌, None, take}
-use Rattle.std.specs.List.{All}
+use Rattle.uni_shared.proofs.Vocabulary.{All, None, take, ◌<◌, ◌≡◌}
 use Rattle.uni_shared.proofs.Closing.{IsLeastOther}
 use Rattle.uni_shared.proofs.agreement.other_seat.Given as goal
 

@@ -1,7 +1,4 @@
-use Rattle.std.proofs.Common.{◌≡◌, ◌∙◌, ◌+◌, sym, subst, None, take, arith}
-use Rattle.std.proofs.lemmas.List.{take_all}
-use Rattle.std.proofs.lemmas.List.Elements.{All-more}
-use Rattle.uni_core.specs.World.{world_of}
+use Rattle.uni_shared.proofs.Vocabulary.{All-more, None, arith, subst, sym, take, take_all, world_of, ◌+◌, ◌∙◌, ◌≡◌}
 use Rattle.uni_shared.proofs.Closing.{IsLeastBusy, IsLeastBusy-start, IsLeastBusy-same, IsLeastBusy-more, IsLeast-busy}
 use Rattle.uni_shared.proofs.Counting.{All-whole, None-from_false}
 use Rattle.uni_shared.proofs.agreement.pending_seat.Goals.{then-pending, else-pending}

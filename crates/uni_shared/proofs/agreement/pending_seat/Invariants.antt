@@ -1,7 +1,4 @@
-use Rattle.std.proofs.Common.{◌≡◌, None, take}
-use Rattle.std.specs.List.{All}
-use Rattle.uni_model.specs.Worlds.{IsQuiescent}
-use Rattle.uni_core.specs.World.{world_of}
+use Rattle.uni_shared.proofs.Vocabulary.{All, IsQuiescent, None, take, world_of, ◌≡◌}
 use Rattle.uni_shared.proofs.Closing.{IsLeastBusy}
 use Rattle.uni_shared.proofs.agreement.pending_seat.Given as goal
 

@@ -1,5 +1,4 @@
-use Rattle.std.proofs.Common.{rules}
-use Rattle.uni_core.specs.World.{world_of}
+use Rattle.uni_shared.proofs.Vocabulary.{rules, world_of}
 use Rattle.uni_shared.proofs.Holding.{IsSome-place}
 use Rattle.uni_shared.proofs.held.begin_held.Goals as goal
 

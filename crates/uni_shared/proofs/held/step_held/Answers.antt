@@ -1,5 +1,4 @@
-use Rattle.std.proofs.Common.{refl, rules}
-use Rattle.uni_core.specs.World.{world_of}
+use Rattle.uni_shared.proofs.Vocabulary.{refl, rules, world_of}
 use Rattle.uni_shared.proofs.Holding.{current_of-past, world_after-same}
 use Rattle.uni_shared.proofs.held.step_held.Goals as goal
 

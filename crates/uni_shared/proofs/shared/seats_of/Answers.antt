@@ -1,7 +1,5 @@
-use Rattle.std.proofs.Common.{◌≡◌, sym, map, subst, arith}
-use Rattle.std.specs.List.{range_with_len}
+use Rattle.uni_shared.proofs.Vocabulary.{arith, first_seat, map, range_with_len, subst, sym, ◌≡◌}
 use Rattle.std.proofs.lemmas.List.FromFn.{map-range_with_len_more}
-use Rattle.uni_shared.specs.Seat.{first_seat}
 use Rattle.uni_shared.proofs.shared.seats_of.Goals as goal
 
 pub loop-p-preserved : goal.loop-p-preserved

@@ -1,6 +1,4 @@
-use Rattle.std.proofs.Common.{◌≡◌, map}
-use Rattle.std.specs.List.{range_with_len}
-use Rattle.uni_shared.specs.Seat.{first_seat}
+use Rattle.uni_shared.proofs.Vocabulary.{first_seat, map, range_with_len, ◌≡◌}
 use Rattle.uni_shared.proofs.shared.seats_of.Given as goal
 
 abbrev pub invariant-loop-p : goal.invariant-loop-p

@@ -1,9 +1,4 @@
-use Rattle.std.proofs.Common.{◌≡◌, ◌∙◌, ℕ, ◌+◌, ◌*◌, ◌%◌, ◌<◌, arith, ap, sym, subst, inl, inr, length, slice_index, get_or-set_same, get_or-set_other}
-use Rattle.std.specs.Mem.Slots.{slots_items}
-use Rattle.uni_model.proofs.Written.{number_cases}
-use Rattle.uni_small.specs.Board.{buffer_word, words_before}
-use Rattle.uni_small.specs.Image.{buffer_words, state_place}
-use Rattle.uni_small.specs.declared.sizes.Sizes.{Sizes}
+use Rattle.uni_small.proofs.Vocabulary.{Sizes, ap, arith, buffer_word, buffer_words, get_or-set_other, get_or-set_same, inl, inr, length, number_cases, slice_index, slots_items, state_place, subst, sym, words_before, ℕ, ◌%◌, ◌*◌, ◌+◌, ◌<◌, ◌∙◌, ◌≡◌}
 use Rattle.uni_small.proofs.Lists.{slice_index-get}
 use Rattle.uni_small.proofs.Words.{buffer_inside}
 use Rattle.uni_small.proofs.close.write_state.Goals as goal

@@ -1,5 +1,4 @@
-use Rattle.std.proofs.Common.{◌≡◌, ℕ, ◌+◌, ◌<◌, slice_index}
-use Rattle.std.specs.Mem.Slots.{slots_items}
+use Rattle.uni_small.proofs.Vocabulary.{slice_index, slots_items, ℕ, ◌+◌, ◌<◌, ◌≡◌}
 use Rattle.uni_small.proofs.close.write_state.Given as goal
 
 abbrev pub invariant-loop-i : goal.invariant-loop-i

@@ -1,5 +1,4 @@
-use Rattle.std.proofs.Common.{◌≡◌, ◌∙◌, ◌++◌, replicate, sym, ◌+◌, ◌*◌}
-use Rattle.std.proofs.lemmas.List.{with_items_is}
+use Rattle.uni_small.proofs.Vocabulary.{replicate, sym, with_items_is, ◌*◌, ◌++◌, ◌+◌, ◌∙◌, ◌≡◌}
 use Rattle.uni_small.proofs.Opening.{spell_first}
 use Rattle.uni_small.proofs.log.first_words.Goals as goal
 

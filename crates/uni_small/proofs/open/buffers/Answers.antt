@@ -1,5 +1,4 @@
-use Rattle.std.proofs.Common.{arith, refl, sym, ap, ◌≡◌, ◌∙◌, ◌++◌, List, ℕ, length}
-use Rattle.uni_small.specs.Image.{first_held, first_image, spell}
+use Rattle.uni_small.proofs.Vocabulary.{List, ap, arith, first_held, first_image, length, refl, spell, sym, ℕ, ◌++◌, ◌∙◌, ◌≡◌}
 use Rattle.uni_small.proofs.Opening.{held_length}
 use Rattle.uni_small.proofs.open.buffers.Goals as goal
 

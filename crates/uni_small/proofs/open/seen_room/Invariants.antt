@@ -1,5 +1,4 @@
-use Rattle.std.proofs.Common.{All, ◌≡◌, length}
-use Rattle.uni_small.specs.Belongs.{HasInvocation}
+use Rattle.uni_small.proofs.Vocabulary.{All, HasInvocation, length, ◌≡◌}
 use Rattle.uni_small.proofs.open.seen_room.Given as goal
 
 abbrev pub invariant-loop : goal.invariant-loop

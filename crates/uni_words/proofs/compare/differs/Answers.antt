@@ -1,6 +1,4 @@
-use Rattle.std.proofs.Common.{◌∙◌, ℕ, inl, inr, ap, sym, subst, refl, map, length, Some, arith}
-use Rattle.uni_words.specs.Compare.{IsRight, IsFirstOther}
-use Rattle.uni_words.specs.Log.{entry_shown}
+use Rattle.uni_words.proofs.Vocabulary.{IsFirstOther, IsRight, Some, ap, arith, entry_shown, inl, inr, length, map, refl, subst, sym, ℕ, ◌∙◌}
 use Rattle.uni_words.proofs.Comparing.{listed-start, listed-further, agrees-all, other-differs, slice_get-map, slice_get-index, length-mapped}
 use Rattle.uni_words.proofs.compare.differs.Given.{Over}
 use Rattle.uni_words.proofs.compare.differs.Goals as goal

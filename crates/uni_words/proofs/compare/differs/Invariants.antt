@@ -1,6 +1,4 @@
-use Rattle.std.proofs.Common.{ℕ, map, length}
-use Rattle.uni_words.specs.Compare.{IsRight}
-use Rattle.uni_words.specs.Log.{entry_shown}
+use Rattle.uni_words.proofs.Vocabulary.{IsRight, entry_shown, length, map, ℕ}
 use Rattle.uni_words.proofs.Comparing.{AreListed}
 use Rattle.uni_words.proofs.compare.differs.Given as goal
 

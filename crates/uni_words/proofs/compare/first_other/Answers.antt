@@ -1,5 +1,4 @@
-use Rattle.std.proofs.Common.{◌+◌, sym, subst, map, slice_index_or, arith}
-use Rattle.uni_words.specs.Log.{entry_shown}
+use Rattle.uni_words.proofs.Vocabulary.{arith, entry_shown, map, slice_index_or, subst, sym, ◌+◌}
 use Rattle.uni_words.proofs.Comparing.{AreTold, no_entry, told-start, told-more, told-all, told-other, told-next, told-otherwise, shown_here, length-mapped}
 use Rattle.uni_words.proofs.compare.first_other.Goals.{then-entry-process+else-not-is_told, else-entry-process}
 use Rattle.uni_words.proofs.compare.first_other.Goals as goal

@@ -1,5 +1,4 @@
-use Rattle.std.proofs.Common.{map}
-use Rattle.uni_words.specs.Log.{entry_shown}
+use Rattle.uni_words.proofs.Vocabulary.{entry_shown, map}
 use Rattle.uni_words.proofs.Comparing.{AreTold}
 use Rattle.uni_words.proofs.compare.first_other.Given as goal
 

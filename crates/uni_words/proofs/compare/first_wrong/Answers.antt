@@ -1,5 +1,4 @@
-use Rattle.std.proofs.Common.{◌+◌, sym, subst, refl, map, slice_index_or, arith}
-use Rattle.uni_words.specs.Log.{entry_shown}
+use Rattle.uni_words.proofs.Vocabulary.{arith, entry_shown, map, refl, slice_index_or, subst, sym, ◌+◌}
 use Rattle.uni_words.proofs.Comparing.{AreRightTo, no_entry, right-start, right-all, right-further, wrong-here, shown_here, length-mapped}
 use Rattle.uni_words.proofs.compare.first_wrong.Goals as goal
 

@@ -1,5 +1,4 @@
-use Rattle.std.proofs.Common.{◌≤◌, subst}
-use Rattle.uni_model.specs.Places.Name.{Of}
+use Rattle.uni_words.proofs.Vocabulary.{Of, subst, ◌≤◌}
 use Rattle.uni_words.proofs.Asking.{number_told, returned_numbered}
 use Rattle.uni_words.proofs.laws.returned_is_there.Goals as goal
 

@@ -1,7 +1,4 @@
-use Rattle.std.proofs.Common.{◌∙◌, ◌∷◌, [], ◌-◌, ap, sym, subst, map, arith, ◌+◌}
-use Rattle.std.proofs.lemmas.List.{map-append}
-use Rattle.uni_words.specs.Belongs.{count_in, row_in, words_in}
-use Rattle.uni_words.specs.Log.{entry_shown}
+use Rattle.uni_words.proofs.Vocabulary.{[], ap, arith, count_in, entry_shown, map, map-append, row_in, subst, sym, words_in, ◌+◌, ◌-◌, ◌∙◌, ◌∷◌}
 use Rattle.uni_words.proofs.Reading.{IsAlong, along-anchor, along-full, along-last, along-cell, along-next}
 use Rattle.uni_words.proofs.read.read_log.Goals as goal
 

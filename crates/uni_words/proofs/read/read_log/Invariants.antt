@@ -1,6 +1,4 @@
-use Rattle.std.proofs.Common.{map}
-use Rattle.uni_words.specs.Belongs.{count_in, row_in, words_in}
-use Rattle.uni_words.specs.Log.{entry_shown}
+use Rattle.uni_words.proofs.Vocabulary.{count_in, entry_shown, map, row_in, words_in}
 use Rattle.uni_words.proofs.Reading.{IsAlong}
 use Rattle.uni_words.proofs.read.read_log.Given as goal
 

@@ -1,8 +1,4 @@
-use Rattle.std.proofs.Common.{◌≡◌, ◌*◌, IfOk, OnOk, All, length, subst}
-use Rattle.uni_record.specs.Recorded.{IsPromised}
-use Rattle.uni_shared.specs.Agreement.{IsClosed}
-use Rattle.uni_shared.specs.Seat.{SeatOf}
-use Rattle.unibench_run.specs.declared.threads.ThreadsFault.TheVariants.{Audit, CallsTooMany, NoSuchObject, Write}
+use Rattle.unibench_run.proofs.Vocabulary.{All, Audit, CallsTooMany, IfOk, IsClosed, IsPromised, NoSuchObject, OnOk, SeatOf, Write, length, subst, ◌*◌, ◌≡◌}
 use Rattle.unibench_run.proofs.Locked.{on_ok}
 use Rattle.unibench_run.proofs.lock.close_and_audit.Goals as goal
 

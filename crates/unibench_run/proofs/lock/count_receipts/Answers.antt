@@ -1,7 +1,5 @@
-use Rattle.std.proofs.Common.{◌≡◌, ◌∙◌, ◌+◌, ◌*◌, ◌<◌, ◌≤◌, ℕ, List, length, slice_index_or, Some, ap, sym, subst, arith}
-use Rattle.uni_shared.specs.Seat.{SeatOf}
+use Rattle.unibench_run.proofs.Vocabulary.{List, SeatOf, Some, ap, arith, length, slice_get-index, slice_index_or, subst, sym, ℕ, ◌*◌, ◌+◌, ◌<◌, ◌∙◌, ◌≡◌, ◌≤◌}
 use borrow.Author.Count.{below_more}
-use Rattle.uni_words.proofs.Comparing.{slice_get-index}
 use Rattle.unibench_run.proofs.lock.count_receipts.Goals as goal
 
 -- what stands in for an element isn't asked for below the length

@@ -1,5 +1,4 @@
-use Rattle.std.proofs.Common.{◌≡◌, ◌<◌, ◌≤◌, ◌*◌, ℕ, length, slice_index_or}
-use Rattle.uni_shared.specs.Seat.{SeatOf}
+use Rattle.unibench_run.proofs.Vocabulary.{SeatOf, length, slice_index_or, ℕ, ◌*◌, ◌<◌, ◌≡◌, ◌≤◌}
 use Rattle.unibench_run.proofs.lock.count_receipts.Given as goal
 
 -- the seats so far have so many receipts each

@@ -1,8 +1,5 @@
-use Rattle.std.proofs.Common.{◌∙◌, ◌+◌, ◌∷◌, [], length, length-append, ap, sym, arith}
-use Rattle.uni_script.specs.Schedules.{xoshiro_word}
-use Rattle.uni_shared.specs.Seat.{HasEnded}
+use Rattle.unibench_run.proofs.Vocabulary.{HasEnded, [], ap, arith, drawn_by, length, length-append, sym, xoshiro_word, ◌+◌, ◌∙◌, ◌∷◌}
 use Rattle.uni_shared.specs.declared.receipt.Receipt.{Receipt}
-use Rattle.unibench_run.specs.Draws.{drawn_by}
 use Rattle.unibench_run.proofs.DrawnBy.{drawn-next, words-after}
 use Rattle.unibench_run.proofs.lock.make_locked_calls.Goals as goal
 

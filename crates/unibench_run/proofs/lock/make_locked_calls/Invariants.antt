@@ -1,7 +1,4 @@
-use Rattle.std.proofs.Common.{◌≡◌, ◌+◌, ℕ, length}
-use Rattle.uni_script.specs.Schedules.{xoshiro_word}
-use Rattle.unibench_run.specs.Draws.{drawn_by, seeded_word}
-use Rattle.unibench_run.specs.Threads.{asked_by}
+use Rattle.unibench_run.proofs.Vocabulary.{asked_by, drawn_by, length, seeded_word, xoshiro_word, ℕ, ◌+◌, ◌≡◌}
 use Rattle.unibench_run.proofs.lock.make_locked_calls.Given as goal
 
 -- the calls so far are as they were drawn, and the words are those that come next

@@ -1,11 +1,4 @@
-use Rattle.std.proofs.Common.{◌≡◌, ◌≤◌, ◌*◌, ◌∙◌, ℕ, List, [], All, map, length, refl, sym, ap, subst, arith}
-use Rattle.std.specs.List.{range_with_len}
-use Rattle.std.proofs.lemmas.List.{length-map}
-use Rattle.std.proofs.lemmas.List.Elements.{All-map, All-same}
-use Rattle.std.proofs.lemmas.List.FromFn.{length-map-range_with_len}
-use Rattle.uni_shared.specs.Seat.{SeatOf, first_seat}
-use Rattle.unibench_run.specs.Threads.{IsThreadsPlan}
-use Rattle.unibench_run.specs.declared.threads.Job.{Job}
+use Rattle.unibench_run.proofs.Vocabulary.{All, All-map, All-same, IsThreadsPlan, Job, List, SeatOf, [], ap, arith, first_seat, length, length-map, length-map-range_with_len, map, range_with_len, refl, subst, sym, ℕ, ◌*◌, ◌∙◌, ◌≡◌, ◌≤◌}
 use Rattle.unibench_run.proofs.Jobs.{All-of_map}
 use Rattle.unibench_run.proofs.Locked.{all_called, locked_run, no_more, on_ok_of, seat_of}
 use Rattle.unibench_run.proofs.lock.run_under_lock.Goals as goal

@@ -1,6 +1,4 @@
-use Rattle.std.proofs.Common.{rules, subst, Some}
-use Rattle.uni_script.specs.Replay.{IsReplay}
-use Rattle.uni_script.specs.Scripts.{scripts}
+use Rattle.unibench_run.proofs.Vocabulary.{IsReplay, Some, rules, scripts, subst}
 use Rattle.unibench_run.proofs.RunCases.{is_of_script}
 use Rattle.unibench_run.proofs.program.replay_explained.Goals as goal
 

@@ -1,7 +1,4 @@
-use Rattle.std.proofs.Common.{◌≡◌, Some, refl, sym, arith, rules}
-use Rattle.unibench_run.specs.Statuses.{EndsThreads}
-use Rattle.unibench_run.specs.Threads.{line_of_fault}
-use Rattle.unibench_run.specs.declared.threads.ThreadsFault.TheVariants.{Memory}
+use Rattle.unibench_run.proofs.Vocabulary.{EndsThreads, Memory, Some, arith, line_of_fault, refl, rules, sym, ◌≡◌}
 use Rattle.unibench_run.proofs.RunCases.{TellsLine-bytes}
 use Rattle.unibench_run.proofs.program.report_closing.Goals as goal
 

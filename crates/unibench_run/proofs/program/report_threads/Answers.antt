@@ -1,5 +1,4 @@
-use Rattle.std.proofs.Common.{Some, refl, ap, arith}
-use Rattle.unibench_run.specs.declared.threads.ThreadsFault.TheVariants.{NoSuchObject, CallsTooMany, Memory, Write}
+use Rattle.unibench_run.proofs.Vocabulary.{CallsTooMany, Memory, NoSuchObject, Some, Write, ap, arith, refl}
 use Rattle.unibench_run.proofs.program.report_threads.Goals as goal
 
 pub returns-in-NoSuchObject-clause-told : goal.returns-in-NoSuchObject-clause-told

@@ -1,11 +1,6 @@
-use Rattle.std.proofs.Common.{◌≡◌, [], Some, map, inl, inr, sym, subst, rules}
-use Rattle.clap.specs.Words.{HasKind, subcommand_of}
+use Rattle.unibench_run.proofs.Vocabulary.{Explained, HasKind, IsRunOf, IsThreadsPlan, Language, Random, Replay, Some, Threads, [], asked_of, faults_of_words, inl, inr, map, rules, subcommand_of, subst, sym, unibench, ◌≡◌}
 use Rattle.clap.specs.declared.error.kind.ErrorKind.TheVariants.{DisplayHelp, DisplayVersion}
 use Rattle.command_line.proofs.ErrorKinds.{memory_of, not_of_kind}
-use Rattle.unibench_run.specs.CommandLine.{asked_of, faults_of_words, unibench}
-use Rattle.unibench_run.specs.Runs.{IsRunOf}
-use Rattle.unibench_run.specs.Threads.{IsThreadsPlan}
-use Rattle.unibench_run.specs.declared.request.Request.TheVariants.{Replay, Explained, Random, Threads, Language}
 use Rattle.unibench_run.proofs.RandomPlans.{IsHistory-asked, IsHistory-explained, IsPlan-asked, IsThreadsPlan-asked}
 use Rattle.unibench_run.proofs.RunCases.{run_of_asked, run_of_memory, told_by_memory, told_of_asked}
 use Rattle.unibench_run.proofs.program.run.Goals as goal

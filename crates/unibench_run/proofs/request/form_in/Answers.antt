@@ -1,7 +1,4 @@
-use Rattle.std.proofs.Common.{◌≡◌, ◌∙◌, codes, None, Some, option_and_then, option_map, rules, sym, ap}
-use Rattle.clap.specs.Words.{found_of}
-use Rattle.unibench_run.specs.Request.{form_named}
-use Rattle.command_line.proofs.Digits.{value_of-text}
+use Rattle.unibench_run.proofs.Vocabulary.{None, Some, ap, codes, form_named, found_of, option_and_then, option_map, rules, sym, value_of-text, ◌∙◌, ◌≡◌}
 use Rattle.unibench_run.proofs.request.form_in.Goals as goal
 
 pub returns-in_err-get_str : goal.returns-in_err-get_str

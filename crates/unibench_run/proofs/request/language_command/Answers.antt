@@ -1,6 +1,4 @@
-use Rattle.std.proofs.Common.{◌∙◌, ◌||◌, ap₂}
-use Rattle.std.proofs.lemmas.Result.{IfOk-weaker}
-use Rattle.clap.specs.Words.{with_rule}
+use Rattle.unibench_run.proofs.Vocabulary.{IfOk-weaker, ap₂, with_rule, ◌||◌, ◌∙◌}
 use Rattle.unibench_run.proofs.request.language_command.Goals as goal
 
 pub returns-clause-app : goal.returns-clause-app

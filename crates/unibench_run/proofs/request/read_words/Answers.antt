@@ -1,6 +1,4 @@
-use Rattle.std.proofs.Common.{◌∙◌, sym, ap, map, subst}
-use Rattle.clap.specs.Words.{HasKind, fault_of, subcommand_of}
-use Rattle.unibench_run.specs.CommandLine.{request_in}
+use Rattle.unibench_run.proofs.Vocabulary.{HasKind, ap, fault_of, map, request_in, subcommand_of, subst, sym, ◌∙◌}
 use Rattle.unibench_run.proofs.CommandLine.{is_simple_and_free-unibench, is_simple-unibench}
 use Rattle.unibench_run.proofs.request.read_words.Goals as goal
 

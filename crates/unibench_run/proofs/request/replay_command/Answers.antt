@@ -1,7 +1,4 @@
-use Rattle.std.proofs.Common.{◌∙◌, ◌||◌, ap, ap₂}
-use Rattle.std.proofs.lemmas.Result.{IfOk-weaker}
-use Rattle.clap.specs.Words.{with_rule}
-use Rattle.command_line.specs.Numbers.{in_range}
+use Rattle.unibench_run.proofs.Vocabulary.{IfOk-weaker, ap, ap₂, in_range, with_rule, ◌||◌, ◌∙◌}
 use Rattle.unibench_run.proofs.request.replay_command.Goals as goal
 
 pub returns-clause-app : goal.returns-clause-app

@@ -1,7 +1,4 @@
-use Rattle.std.proofs.Common.{◌≡◌, ◌∙◌, codes, None, Some, option_and_then, option_map, rules, sym, ap}
-use Rattle.clap.specs.Words.{found_of}
-use Rattle.uni_script.specs.Grammar.{object_of_word}
-use Rattle.command_line.proofs.Digits.{value_of-text}
+use Rattle.unibench_run.proofs.Vocabulary.{None, Some, ap, codes, found_of, object_of_word, option_and_then, option_map, rules, sym, value_of-text, ◌∙◌, ◌≡◌}
 use Rattle.unibench_run.proofs.request.shared_in.Goals as goal
 
 pub returns-in_err-get_str : goal.returns-in_err-get_str

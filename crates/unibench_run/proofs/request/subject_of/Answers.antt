@@ -1,6 +1,4 @@
-use Rattle.std.proofs.Common.{◌≡◌, ◌∙◌, None, Some, option_map, rules, sym, ap}
-use Rattle.clap.specs.Words.{found_of}
-use Rattle.unibench_run.specs.Request.{subject_named}
+use Rattle.unibench_run.proofs.Vocabulary.{None, Some, ap, found_of, option_map, rules, subject_named, sym, ◌∙◌, ◌≡◌}
 use Rattle.unibench_run.proofs.PlanReads.{subject_of-text}
 use Rattle.unibench_run.proofs.request.subject_of.Goals as goal
 

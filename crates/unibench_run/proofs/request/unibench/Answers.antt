@@ -1,6 +1,4 @@
-use Rattle.std.proofs.Common.{◌∙◌, ap, ap₂}
-use Rattle.std.proofs.lemmas.Result.{IfOk-weaker}
-use Rattle.clap.specs.Words.{App, with_subcommand}
+use Rattle.unibench_run.proofs.Vocabulary.{App, IfOk-weaker, ap, ap₂, with_subcommand, ◌∙◌}
 use Rattle.unibench_run.proofs.request.unibench.Goals as goal
 
 pub returns : goal.returns

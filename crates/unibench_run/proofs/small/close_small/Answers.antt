@@ -1,11 +1,5 @@
-use Rattle.std.proofs.Common.{◌≡◌, ◌∙◌, List, Vec, Global, drop, flat_map, map, sym, subst}
-use Rattle.std.proofs.lemmas.List.Elements.{All-same}
-use Rattle.small_objects.specs.Placed.{placed}
-use Rattle.small_objects.specs.Replay.{IsReplayed}
-use Rattle.small_objects.specs.declared.placed.InPlace.{InPlace}
-use Rattle.uni_small.specs.Belongs.{IsSeatOf, known_calls, processes_of}
-use Rattle.uni_small.specs.Final.{IsFinal}
-use Rattle.unibench_run.specs.Small.{IsSmallRun}
+use Rattle.unibench_run.proofs.Vocabulary.{All-same, Global, InPlace, IsFinal, IsReplayed, IsSmallRun, List, Vec, drop, flat_map, known_calls, map, placed, processes_of, subst, sym, ◌∙◌, ◌≡◌}
+use Rattle.uni_small.specs.Belongs.{IsSeatOf}
 use Rattle.unibench_run.proofs.ToldSmall.{few_told, small_run, small_seats}
 use Rattle.unibench_run.proofs.small.close_small.Goals as goal
 

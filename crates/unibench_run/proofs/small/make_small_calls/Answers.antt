@@ -1,6 +1,4 @@
-use Rattle.std.proofs.Common.{◌≡◌, ◌∙◌, ap, arith}
-use Rattle.uni_script.specs.Schedules.{xoshiro_word}
-use Rattle.unibench_run.specs.Draws.{drawn_by}
+use Rattle.unibench_run.proofs.Vocabulary.{ap, arith, drawn_by, xoshiro_word, ◌∙◌, ◌≡◌}
 use Rattle.unibench_run.proofs.DrawnBy.{words-after}
 use Rattle.unibench_run.proofs.ToldSmall.{asked_more, told_more}
 use Rattle.unibench_run.proofs.small.make_small_calls.Goals as goal

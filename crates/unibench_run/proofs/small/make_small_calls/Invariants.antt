@@ -1,8 +1,6 @@
-use Rattle.std.proofs.Common.{◌≡◌, ◌+◌, ℕ, map, vec_len}
-use Rattle.uni_script.specs.Schedules.{xoshiro_word}
-use Rattle.uni_small.specs.Belongs.{IsSeatOf, calls_made, calls_of, process_of}
-use Rattle.unibench_run.specs.Draws.{drawn_by, seeded_word}
-use Rattle.unibench_run.specs.Small.{AreCalls, IsWide, asked_in}
+use Rattle.unibench_run.proofs.Vocabulary.{AreCalls, IsWide, calls_of, drawn_by, map, seeded_word, vec_len, xoshiro_word, ℕ, ◌+◌, ◌≡◌}
+use Rattle.uni_small.specs.Belongs.{IsSeatOf, calls_made, process_of}
+use Rattle.unibench_run.specs.Small.{asked_in}
 use Rattle.unibench_run.proofs.small.make_small_calls.Given as goal
 
 -- the calls so far are as they were drawn, and the words are those that come next

@@ -1,5 +1,5 @@
-use Rattle.std.proofs.Common.{◌≡◌, ◌∙◌, suc, sym, ap, subst, arith}
-use Rattle.uni_small.specs.Belongs.{AreFirstSeats, invocation_width_of, processes_of, reply_width_of}
+use Rattle.unibench_run.proofs.Vocabulary.{ap, arith, invocation_width_of, processes_of, reply_width_of, subst, suc, sym, ◌∙◌, ◌≡◌}
+use Rattle.uni_small.specs.Belongs.{AreFirstSeats}
 use Rattle.unibench_run.proofs.ToldSmall.{all_small_done, small_job}
 use Rattle.unibench_run.proofs.small.run_small.Goals as goal
 

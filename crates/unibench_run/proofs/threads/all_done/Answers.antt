@@ -1,6 +1,4 @@
-use Rattle.std.proofs.Common.{◌∙◌, ◌++◌, ◌∷◌, [], map, Ok, ap, sym, append_assoc}
-use Rattle.std.specs.Vec.Iter.{into_iter_items}
-use Rattle.std.proofs.lemmas.List.{map-append}
+use Rattle.unibench_run.proofs.Vocabulary.{Ok, [], ap, append_assoc, into_iter_items, map, map-append, sym, ◌++◌, ◌∙◌, ◌∷◌}
 use Rattle.unibench_run.proofs.threads.all_done.Goals as goal
 
 pub loop-one-preserved : goal.loop-one-preserved

@@ -1,5 +1,4 @@
-use Rattle.std.proofs.Common.{◌≡◌, ◌++◌, map, Ok}
-use Rattle.std.specs.Vec.Iter.{into_iter_items}
+use Rattle.unibench_run.proofs.Vocabulary.{Ok, into_iter_items, map, ◌++◌, ◌≡◌}
 use Rattle.unibench_run.proofs.threads.all_done.Given as goal
 
 -- what was taken so far are these

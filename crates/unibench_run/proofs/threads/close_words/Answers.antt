@@ -1,9 +1,6 @@
-use Rattle.std.proofs.Common.{◌≡◌, ◌∙◌, ℕ, Vec, Global, map, sym, ap, subst, vec_len, IsOk, true, false}
-use Rattle.std.proofs.lemmas.List.Elements.{All-same}
-use Rattle.uni_words.specs.Belongs.{AreAllSeats, IsSeatOf, log_in, own_calls, processes_of, row_of}
-use Rattle.uni_words.specs.Compare.{Agrees}
+use Rattle.unibench_run.proofs.Vocabulary.{Agrees, All-same, AreAllSeats, Global, IsOk, IsRunOfThreads, IsSeatOf, Vec, ap, false, log_in, map, own_calls, row_of, subst, sym, told_to, true, vec_len, ℕ, ◌∙◌, ◌≡◌}
+use Rattle.uni_words.specs.Belongs.{processes_of}
 use Rattle.uni_words.specs.Log.{entry_shown}
-use Rattle.unibench_run.specs.Threads.{IsRunOfThreads, told_to}
 use Rattle.unibench_run.proofs.Told.{all_seats, done_seats, lists_are, lists_whole, run_of_threads, told_lists}
 use Rattle.unibench_run.proofs.threads.close_words.Goals as goal
 

@@ -1,8 +1,4 @@
-use Rattle.std.proofs.Common.{◌≡◌, ◌∙◌, ◌++◌, ◌∷◌, [], length, map, ap, sym, append_assoc, arith}
-use Rattle.std.specs.Vec.Iter.{into_iter_items}
-use Rattle.std.proofs.lemmas.List.{map-append}
-use Rattle.unibench_run.specs.Draws.{seed_of}
-use Rattle.unibench_run.specs.declared.threads.Job.{Job}
+use Rattle.unibench_run.proofs.Vocabulary.{Job, [], ap, append_assoc, arith, into_iter_items, length, map, map-append, seed_of, sym, ◌++◌, ◌∙◌, ◌∷◌, ◌≡◌}
 use Rattle.unibench_run.proofs.DrawnBy.{one_more_seed}
 use Rattle.unibench_run.proofs.threads.jobs_of.Goals as goal
 

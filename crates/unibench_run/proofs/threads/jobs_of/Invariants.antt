@@ -1,8 +1,4 @@
-use Rattle.std.proofs.Common.{◌≡◌, ◌++◌, length, map}
-use Rattle.std.specs.List.{range_with_len}
-use Rattle.std.specs.Vec.Iter.{into_iter_items}
-use Rattle.unibench_run.specs.Draws.{seed_of}
-use Rattle.unibench_run.specs.declared.threads.Job.{Job}
+use Rattle.unibench_run.proofs.Vocabulary.{Job, into_iter_items, length, map, range_with_len, seed_of, ◌++◌, ◌≡◌}
 use Rattle.unibench_run.proofs.threads.jobs_of.Given as goal
 
 -- the jobs so far are of the seats that have been taken, with the seeds of their places

@@ -1,7 +1,4 @@
-use Rattle.std.proofs.Common.{◌≡◌, ◌∙◌, ◌%◌, ◌++◌, ◌∷◌, [], ℕ, ap, sym, refl, arith}
-use Rattle.uni_words.specs.Belongs.{row_of}
-use Rattle.uni_script.specs.Schedules.{xoshiro_word}
-use Rattle.unibench_run.specs.Draws.{below_1000, drawn_by}
+use Rattle.unibench_run.proofs.Vocabulary.{[], ap, arith, below_1000, drawn_by, refl, row_of, sym, xoshiro_word, ℕ, ◌%◌, ◌++◌, ◌∙◌, ◌∷◌, ◌≡◌}
 use Rattle.unibench_run.proofs.DrawnBy.{drawn-next, words-after}
 use Rattle.unibench_run.proofs.threads.make_calls.Goals as goal
 

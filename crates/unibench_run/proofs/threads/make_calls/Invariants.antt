@@ -1,8 +1,4 @@
-use Rattle.std.proofs.Common.{◌≡◌, ◌+◌, ℕ, vec_len}
-use Rattle.uni_script.specs.Schedules.{xoshiro_word}
-use Rattle.uni_words.specs.Belongs.{IsSeatOf, calls_made, own_calls, process_of}
-use Rattle.unibench_run.specs.Draws.{below_1000, drawn_by, seeded_word}
-use Rattle.unibench_run.specs.Threads.{asked_in}
+use Rattle.unibench_run.proofs.Vocabulary.{IsSeatOf, asked_in, below_1000, calls_made, drawn_by, own_calls, process_of, seeded_word, vec_len, xoshiro_word, ℕ, ◌+◌, ◌≡◌}
 use Rattle.unibench_run.proofs.threads.make_calls.Given as goal
 
 -- the calls so far are as they were drawn, and the words are those that come next

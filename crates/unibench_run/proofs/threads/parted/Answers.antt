@@ -1,5 +1,4 @@
-use Rattle.std.proofs.Common.{◌≡◌, ◌∙◌, ◌++◌, ◌∷◌, [], List, map, ap, sym, append_assoc}
-use Rattle.std.specs.Vec.Iter.{into_iter_items}
+use Rattle.unibench_run.proofs.Vocabulary.{List, [], ap, append_assoc, into_iter_items, map, sym, ◌++◌, ◌∙◌, ◌∷◌, ◌≡◌}
 use Rattle.unibench_run.proofs.threads.parted.Goals as goal
 
 -- one more has been taken, and its part pushed

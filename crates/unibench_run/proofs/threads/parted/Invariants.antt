@@ -1,6 +1,4 @@
-use Rattle.std.proofs.Common.{◌≡◌, ◌++◌, map}
-use Rattle.std.specs.Vec.Iter.{into_iter_items}
-use Rattle.unibench_run.specs.declared.threads.Done.{Done}
+use Rattle.unibench_run.proofs.Vocabulary.{Done, into_iter_items, map, ◌++◌, ◌≡◌}
 use Rattle.unibench_run.proofs.threads.parted.Given as goal
 
 -- what was taken so far is parted

@@ -1,5 +1,4 @@
-use Rattle.std.proofs.Common.{sym, subst, arith}
-use Rattle.uni_words.specs.Belongs.{AreFirstSeats}
+use Rattle.unibench_run.proofs.Vocabulary.{AreFirstSeats, arith, subst, sym}
 use Rattle.unibench_run.proofs.Told.{all_are_done, fresh_job}
 use Rattle.unibench_run.proofs.threads.run_on_words.Goals as goal
 

@@ -1,5 +1,4 @@
-use Rattle.std.proofs.Common.{subst}
-use Rattle.unidraw_run.specs.Drawn.{IsDrawn}
+use Rattle.unidraw_run.proofs.Vocabulary.{IsDrawn, subst}
 use Rattle.unidraw_run.proofs.Drawing.{IsDrawn-fault}
 use Rattle.unidraw_run.proofs.program.draw.Goals as goal
 

@@ -1,5 +1,4 @@
-use Rattle.std.proofs.Common.{refl}
-use Rattle.run_layout.specs.declared.subject.PictureFault.TheVariants.{TooManyEvents, Misdrawn}
+use Rattle.unidraw_run.proofs.Vocabulary.{Misdrawn, TooManyEvents, refl}
 use Rattle.unidraw_run.proofs.CommandLine.{not_some, told_alone, told_of_more}
 use Rattle.unidraw_run.proofs.program.report.Goals as goal
 

@@ -1,9 +1,4 @@
-use Rattle.std.proofs.Common.{map, inl, inr, sym, subst, rules}
-use Rattle.clap.specs.Words.{HasKind}
-use Rattle.clap.specs.declared.error.kind.ErrorKind.TheVariants.{DisplayHelp, DisplayVersion}
-use Rattle.command_line.proofs.ErrorKinds.{not_of_kind}
-use Rattle.unidraw_run.specs.CommandLine.{faults_of_words}
-use Rattle.unidraw_run.specs.Drawn.{IsDrawn}
+use Rattle.unidraw_run.proofs.Vocabulary.{DisplayHelp, DisplayVersion, HasKind, IsDrawn, faults_of_words, inl, inr, map, not_of_kind, rules, subst, sym}
 use Rattle.unidraw_run.proofs.CommandLine.{drawn_of_memory, memory_of_form, memory_of_request, told_of_fault}
 use Rattle.unidraw_run.proofs.program.run.Goals as goal
 

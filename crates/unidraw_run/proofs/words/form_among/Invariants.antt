@@ -1,7 +1,4 @@
-use Rattle.std.proofs.Common.{◌≡◌, map, drop, fold}
-use Rattle.clap.specs.Words.{found_of, rows_of}
-use Rattle.unidraw_run.specs.CommandLine.{form_among, form_with, forms_used}
-use Rattle.unidraw_run.specs.Shown.{option_shown}
+use Rattle.unidraw_run.proofs.Vocabulary.{drop, fold, form_among, form_with, forms_used, found_of, map, option_shown, rows_of, ◌≡◌}
 use Rattle.unidraw_run.proofs.words.form_among.Given as goal
 
 -- the form that is asked for so far, with those of the rest

@@ -1,6 +1,4 @@
-use Rattle.std.proofs.Common.{◌∙◌, sym, ap, map, subst}
-use Rattle.clap.specs.Words.{HasKind, fault_of, matches_of}
-use Rattle.unidraw_run.specs.CommandLine.{request_in}
+use Rattle.unidraw_run.proofs.Vocabulary.{HasKind, ap, fault_of, map, matches_of, request_in, subst, sym, ◌∙◌}
 use Rattle.unidraw_run.proofs.CommandLine.{conflicting, faulty, is_simple_and_free-unidraw, is_simple-unidraw, unless_faulty-none}
 use Rattle.unidraw_run.proofs.words.read_words.Goals as goal
 

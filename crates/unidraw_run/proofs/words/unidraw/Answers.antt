@@ -1,8 +1,6 @@
-use Rattle.std.proofs.Common.{◌≡◌, ◌∙◌, ap, ap₂, codes}
+use Rattle.unidraw_run.proofs.Vocabulary.{ap, app_of, ap₂, codes, form_options, new_app, with_options, with_rule, ◌∙◌, ◌≡◌}
 use Rattle.std.proofs.lemmas.Result.{IfOk-weaker}
-use Rattle.clap.specs.Words.{app_of, new_app, with_rule}
 use Rattle.command_line.specs.Flags.{versioned}
-use Rattle.unidraw_run.specs.CommandLine.{form_options, with_options}
 use Rattle.unidraw_run.proofs.words.unidraw.Goals as goal
 
 pub returns : goal.returns

@@ -1,8 +1,5 @@
-use Rattle.std.proofs.Common.{◌≡◌, map, drop, false}
-use Rattle.clap.specs.Words.{app_of}
+use Rattle.unidraw_run.proofs.Vocabulary.{app_of, drop, false, map, option_shown, with_options, ◌≡◌}
 use Rattle.clap.specs.declared.builder.command.Command.TheViews.{out-Command}
-use Rattle.unidraw_run.specs.CommandLine.{with_options}
-use Rattle.unidraw_run.specs.Shown.{option_shown}
 use Rattle.unidraw_run.proofs.words.with_options.Given as goal
 
 -- the options so far, and the rest of them

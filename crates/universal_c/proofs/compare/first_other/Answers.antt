@@ -1,7 +1,6 @@
-use Rattle.std.proofs.Common.{◌∙◌, ◌+◌, ℕ, List, Option, sym, ap, subst, map, slice_get, slice_index_or, arith}
+use Rattle.universal_c.proofs.Vocabulary.{AreTold, List, ap, arith, calls_by, entry_shown, length-mapped, map, no_entry, shown_here, slice_index_or, subst, sym, told-all, told-more, told-next, told-other, told-otherwise, told-start, ℕ, ◌+◌, ◌∙◌}
+use Rattle.std.proofs.Common.{Option, slice_get}
 use Rattle.uni_words.specs.Compare.{DiffersFirstAt}
-use Rattle.uni_words.specs.Log.{calls_by, entry_shown}
-use Rattle.uni_words.proofs.Comparing.{AreTold, no_entry, told-start, told-more, told-all, told-other, told-next, told-otherwise, shown_here, length-mapped}
 use Rattle.universal_c.proofs.Called.{pair, as_told}
 use Rattle.universal_c.proofs.compare.first_other.Goals.{then-entry-process+else-not-is_told, else-entry-process}
 use Rattle.universal_c.proofs.compare.first_other.Goals as goal

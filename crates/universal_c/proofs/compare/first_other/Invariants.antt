@@ -1,6 +1,4 @@
-use Rattle.std.proofs.Common.{map}
-use Rattle.uni_words.specs.Log.{entry_shown}
-use Rattle.uni_words.proofs.Comparing.{AreTold}
+use Rattle.universal_c.proofs.Vocabulary.{AreTold, entry_shown, map}
 use Rattle.universal_c.proofs.Called.{pair}
 use Rattle.universal_c.proofs.compare.first_other.Given as goal
 

@@ -1,6 +1,4 @@
-use Rattle.std.proofs.Common.{◌≡◌, length, arith, rules}
-use Rattle.std.proofs.lemmas.List.{length-replicate}
-use Rattle.cell_arena.specs.CellRecord.{anchor_with}
+use Rattle.cell_arena.proofs.Vocabulary.{anchor_with, arith, length, length-replicate, rules, ◌≡◌}
 use Rattle.cell_arena.proofs.FlatArena.{HasOnlyAnchor-alone, IsFlat-begun, get_or-zero}
 use Rattle.cell_arena.proofs.column_cells.ColumnCells.opened.Goals as goal
 

@@ -1,5 +1,4 @@
-use Rattle.std.proofs.Common.{refl}
-use Rattle.cell_arena.specs.CellRecord.{with_after}
+use Rattle.cell_arena.proofs.Vocabulary.{refl, with_after}
 use Rattle.cell_arena.proofs.FlatArena.{ChangesOnly-by_column, IsFlat-set}
 use Rattle.cell_arena.proofs.column_cells.ColumnCellsCells.decide_after.Goals as goal
 

@@ -1,8 +1,4 @@
-use Rattle.std.proofs.Common.{◌≡◌, ◌<◌, ◌∙◌, length, slice_index_or, ap, refl, arith, rules}
-use Rattle.std.proofs.lemmas.List.{get_or_default}
-use Rattle.cell_arena.specs.CellRecord.{fresh, index_of}
-use Rattle.cell_arena.specs.Columns.{blank}
-use Rattle.cell_arena.specs.ColumnCells.{Flat}
+use Rattle.cell_arena.proofs.Vocabulary.{Flat, ap, arith, blank, fresh, get_or_default, index_of, length, refl, rules, slice_index_or, ◌<◌, ◌∙◌, ◌≡◌}
 use Rattle.cell_arena.proofs.FlatArena.{ChangesOnly-made, IsFlat-made, at-unmade, index_of-within}
 use Rattle.cell_arena.proofs.column_cells.ColumnCellsCells.make.Goals as goal
 

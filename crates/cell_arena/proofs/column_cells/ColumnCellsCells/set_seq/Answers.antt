@@ -1,5 +1,4 @@
-use Rattle.std.proofs.Common.{refl}
-use Rattle.cell_arena.specs.CellRecord.{with_seq}
+use Rattle.cell_arena.proofs.Vocabulary.{refl, with_seq}
 use Rattle.cell_arena.proofs.FlatArena.{ChangesOnly-by_column, IsFlat-set}
 use Rattle.cell_arena.proofs.column_cells.ColumnCellsCells.set_seq.Goals as goal
 

@@ -1,6 +1,5 @@
-use Rattle.std.proofs.Common.{◌∙◌, ap, sym}
+use Rattle.cell_arena.proofs.Vocabulary.{ap, settled, sym, ◌∙◌}
 use Rattle.cell_arena.proofs.CellsIn.{IsWithin-cells_in, after-read, cells_in-after}
-use Rattle.cell_arena.specs.CellRecord.{settled}
 use Rattle.cell_arena.proofs.columns.Columns.decide_after.Goals as goal
 
 pub index_mut-after-requires : goal.index_mut-after-requires

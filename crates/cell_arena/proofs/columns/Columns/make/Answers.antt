@@ -1,6 +1,5 @@
-use Rattle.std.proofs.Common.{◌≡◌, ◌+◌, ◌∙◌, inl, inr, Some, length, slice_index_or, ap, sym, arith}
-use Rattle.std.proofs.lemmas.Bool.{cases_lt}
-use Rattle.cell_arena.specs.Columns.{blank, filled, with_cell}
+use Rattle.cell_arena.proofs.Vocabulary.{Some, ap, arith, blank, cases_lt, filled, inl, inr, length, slice_index_or, sym, ◌+◌, ◌∙◌, ◌≡◌}
+use Rattle.cell_arena.specs.Columns.{with_cell}
 use Rattle.cell_arena.proofs.CellsIn.{filled-full, filled-more, get_or-filled, length-cells_in, length-filled}
 use Rattle.cell_arena.proofs.columns.Columns.make.Goals as goal
 

@@ -1,5 +1,4 @@
-use Rattle.std.proofs.Common.{◌≡◌, ◌+◌, ◌<◌, length}
-use Rattle.cell_arena.specs.Columns.{filled}
+use Rattle.cell_arena.proofs.Vocabulary.{filled, length, ◌+◌, ◌<◌, ◌≡◌}
 use Rattle.cell_arena.proofs.columns.Columns.make.Given as goal
 
 abbrev pub invariant-loop : goal.invariant-loop

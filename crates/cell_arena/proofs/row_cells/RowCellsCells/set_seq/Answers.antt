@@ -1,5 +1,4 @@
-use Rattle.std.proofs.Common.{◌∙◌, Some, ap, sym, refl}
-use Rattle.cell_arena.specs.CellRecord.{with_seq}
+use Rattle.cell_arena.proofs.Vocabulary.{Some, ap, refl, sym, with_seq, ◌∙◌}
 use Rattle.cell_arena.proofs.ArenaOf.{ChangesOnly-by_cell, made_of-with_cell}
 use Rattle.cell_arena.proofs.row_cells.RowCellsCells.set_seq.Goals as goal
 

@@ -1,7 +1,5 @@
-use Rattle.std.proofs.Common.{arith}
+use Rattle.cell_arena.proofs.Vocabulary.{Rows, arith, fresh}
 use Rattle.std.proofs.lemmas.Result.{on_ok_weaker}
-use Rattle.cell_arena.specs.CellRecord.{fresh}
-use Rattle.cell_arena.specs.Rows.{Rows}
 use Rattle.cell_arena.proofs.ArenaOf.{ChangesOnly-by_row, made_of-by_row, processes_of-arena_of, made_of-arena_of}
 use Rattle.cell_arena.proofs.rows.CellRows.add.Goals as goal
 

@@ -1,8 +1,5 @@
-use Rattle.std.proofs.Common.{◌≡◌, ◌∙◌, ◌<◌, IsSome, length, refl, arith, rules}
+use Rattle.cell_arena.proofs.Vocabulary.{IsSome, Rows, arena_of, arith, cell_of, length, refl, rows_of, rules, slice_get_read, ◌<◌, ◌∙◌, ◌≡◌}
 use Rattle.std.proofs.lemmas.Grind.{common_steps}
-use Rattle.std.proofs.lemmas.Option.{slice_get_read}
-use Rattle.cell_arena.specs.Arena.{cell_of}
-use Rattle.cell_arena.specs.Rows.{Rows, arena_of, rows_of}
 use Rattle.cell_arena.proofs.ArenaOf.{is_stored}
 use Rattle.cell_arena.proofs.rows.CellRows.cell.Goals as goal
 

@@ -1,6 +1,4 @@
-use Rattle.std.proofs.Common.{◌≡◌, ◌∙◌, IsSome, Some, refl, sym, rules}
-use Rattle.cell_arena.specs.Arena.{cell_of}
-use Rattle.cell_arena.specs.Rows.{Rows, arena_of, rows_of}
+use Rattle.cell_arena.proofs.Vocabulary.{IsSome, Rows, Some, arena_of, cell_of, refl, rows_of, rules, sym, ◌∙◌, ◌≡◌}
 use Rattle.cell_arena.proofs.ArenaOf.{is_stored, cell_of-arena_of, with_cell-read}
 use Rattle.cell_arena.proofs.rows.CellRows.cell_mut.Goals as goal
 

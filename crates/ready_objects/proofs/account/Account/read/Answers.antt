@@ -1,5 +1,4 @@
-use Rattle.std.proofs.Common.{rules}
-use Rattle.ready_objects.specs.Number.{number_below}
+use Rattle.ready_objects.proofs.Vocabulary.{number_below, rules}
 use Rattle.ready_objects.proofs.account.Account.read.Goals as goal
 
 pub returns : goal.returns

@@ -1,7 +1,4 @@
-use Rattle.std.proofs.Common.{◌<◌, ◌≤◌, [], ◌∷◌, sym, arith}
-use Rattle.std.specs.Prelude.{codes}
-use Rattle.std.specs.Fmt.{decimal}
-use Rattle.ready_objects.specs.declared.book.BookInv.TheVariants.{Deposit, Withdraw, Move}
+use Rattle.ready_objects.proofs.Vocabulary.{Deposit, Move, Withdraw, [], arith, codes, decimal, sym, ◌<◌, ◌∷◌, ◌≤◌}
 use Rattle.ready_objects.proofs.BookWords.{with_account-decimal, with_accounts-decimal, book_words-book_inv_of_words}
 use Rattle.ready_objects.proofs.Numbers.{lacks_space-decimal}
 use Rattle.ready_objects.proofs.Words.{words_of_text-text_of_words, lack_two, lack_three}

@@ -1,8 +1,4 @@
-use Rattle.std.proofs.Common.{◌≤◌, ◌<◌, true, [], ◌∷◌, refl, sym, ap, arith}
-use Rattle.std.specs.Prelude.{codes, option_map}
-use Rattle.std.specs.Fmt.{decimal}
-use Rattle.std.proofs.lemmas.Bool.{and_from}
-use Rattle.ready_objects.specs.declared.directory.DirectoryInv.TheVariants.{At}
+use Rattle.ready_objects.proofs.Vocabulary.{At, [], and_from, ap, arith, codes, decimal, option_map, refl, sym, true, ◌<◌, ◌∷◌, ◌≤◌}
 use Rattle.ready_objects.proofs.DirectoryWords.{put_of-decimal, lacks_space-name, directory_words-directory_inv_of_words}
 use Rattle.ready_objects.proofs.Numbers.{lacks_space-decimal, number_below-decimal}
 use Rattle.ready_objects.proofs.Words.{lacks_space, words_of_text-text_of_words, lack_two}

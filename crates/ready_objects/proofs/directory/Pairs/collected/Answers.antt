@@ -1,8 +1,4 @@
-use Rattle.std.proofs.Common.{◌≡◌, ◌++◌, ◌∷◌, [], get_or, slice_get, map, take, ap, sym, ◌∙◌, Some}
-use Rattle.std.specs.Arc.{arc_value}
-use Rattle.std.proofs.lemmas.List.{map_more}
-use Rattle.std.proofs.lemmas.Option.{get_or_from_slice_get}
-use Rattle.ready_objects.specs.SharedNames.{named}
+use Rattle.ready_objects.proofs.Vocabulary.{Some, [], ap, arc_value, get_or, get_or_from_slice_get, map, map_more, named, slice_get, sym, take, ◌++◌, ◌∙◌, ◌∷◌, ◌≡◌}
 use Rattle.ready_objects.proofs.DirectoryPlaces.{AreNamed-push, named-push}
 use Rattle.ready_objects.proofs.directory.Pairs.collected.Goals as goal
 

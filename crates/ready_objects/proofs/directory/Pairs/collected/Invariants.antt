@@ -1,6 +1,4 @@
-use Rattle.std.proofs.Common.{◌≡◌, map, take}
-use Rattle.std.specs.Arc.{arc_value}
-use Rattle.ready_objects.specs.SharedNames.{named, AreNamed}
+use Rattle.ready_objects.proofs.Vocabulary.{AreNamed, arc_value, map, named, take, ◌≡◌}
 use Rattle.ready_objects.proofs.directory.Pairs.collected.Given as goal
 
 abbrev pub invariant-loop-pair : goal.invariant-loop-pair

@@ -1,9 +1,4 @@
-use Rattle.std.proofs.Common.{◌≡◌, position, map, ap, sym, ◌∙◌, Some}
-use Rattle.std.specs.Arc.{arc_value}
-use Rattle.std.specs.Map.{remove_entry}
-use Rattle.std.specs.Str.{bytes_eq}
-use Rattle.ready_objects.specs.Directory.{value_answer, value_of}
-use Rattle.ready_objects.specs.SharedNames.{named}
+use Rattle.ready_objects.proofs.Vocabulary.{Some, ap, arc_value, bytes_eq, map, named, position, remove_entry, sym, value_answer, value_of, ◌∙◌, ◌≡◌}
 use Rattle.ready_objects.proofs.DirectoryPlaces.{value_of-place, value_of-no_place, remove_entry-place, remove_entry-no_place}
 use Rattle.ready_objects.proofs.directory.Pairs.del.Goals as goal
 

@@ -1,6 +1,4 @@
-use Rattle.std.proofs.Common.{◌≡◌, ◌∙◌, ap, sym, rules, tests, position, ◌==◌, Some, None}
-use Rattle.std.specs.Arc.{arc_value}
-use Rattle.std.specs.Str.{bytes_eq}
+use Rattle.ready_objects.proofs.Vocabulary.{None, Some, ap, arc_value, bytes_eq, position, rules, sym, tests, ◌==◌, ◌∙◌, ◌≡◌}
 use Rattle.std.proofs.lemmas.Iterator.{YieldsList-from_slice}
 use Rattle.std.proofs.lemmas.Iterator.Search.{position_from_yields_List}
 use Rattle.ready_objects.proofs.DirectoryPlaces.{place_at_index, no_place}

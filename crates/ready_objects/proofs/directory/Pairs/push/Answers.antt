@@ -1,6 +1,4 @@
-use Rattle.std.proofs.Common.{◌++◌, ◌∷◌, [], map, ap, ◌∙◌}
-use Rattle.std.specs.Arc.{arc_value}
-use Rattle.ready_objects.specs.SharedNames.{named}
+use Rattle.ready_objects.proofs.Vocabulary.{[], ap, arc_value, map, named, ◌++◌, ◌∙◌, ◌∷◌}
 use Rattle.ready_objects.proofs.DirectoryPlaces.{AreNamed-push, named-push}
 use Rattle.ready_objects.proofs.directory.Pairs.push.Goals as goal
 

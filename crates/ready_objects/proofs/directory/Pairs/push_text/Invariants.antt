@@ -1,8 +1,4 @@
-use Rattle.std.proofs.Common.{◌≡◌, ◌++◌, drop, map}
-use Rattle.std.specs.Arc.{arc_value}
-use Rattle.ready_objects.specs.Words.{spaced_from}
-use Rattle.ready_objects.specs.Directory.{pair_text}
-use Rattle.ready_objects.specs.SharedNames.{named}
+use Rattle.ready_objects.proofs.Vocabulary.{arc_value, drop, map, named, pair_text, spaced_from, ◌++◌, ◌≡◌}
 use Rattle.ready_objects.proofs.directory.Pairs.push_text.Given as goal
 
 -- the pairs so far, and those of the rest

@@ -1,9 +1,4 @@
-use Rattle.std.proofs.Common.{◌≡◌, position, map, ap, sym, ◌∙◌, Some}
-use Rattle.std.specs.Arc.{arc_value}
-use Rattle.std.specs.Map.{set_value}
-use Rattle.std.specs.Str.{bytes_eq}
-use Rattle.ready_objects.specs.Directory.{value_of}
-use Rattle.ready_objects.specs.SharedNames.{named}
+use Rattle.ready_objects.proofs.Vocabulary.{Some, ap, arc_value, bytes_eq, map, named, position, set_value, sym, value_of, ◌∙◌, ◌≡◌}
 use Rattle.ready_objects.proofs.DirectoryPlaces.{value_of-place, value_of-no_place, set_value-place, set_value-no_place}
 use Rattle.ready_objects.proofs.directory.Pairs.replace.Goals as goal
 

@@ -1,5 +1,4 @@
-use Rattle.std.proofs.Common.{◌∷◌, ◌%◌, ap, sym, ◌∙◌, arith}
-use Rattle.std.proofs.lemmas.Fmt.{decimal_digit}
+use Rattle.ready_objects.proofs.Vocabulary.{ap, arith, decimal_digit, sym, ◌%◌, ◌∙◌, ◌∷◌}
 use Rattle.ready_objects.proofs.name.Name.drawn.Goals as goal
 
 pub returns : goal.returns

@@ -1,5 +1,4 @@
-use Rattle.std.proofs.Common.{rules}
-use Rattle.ready_objects.specs.Number.{number_of_word}
+use Rattle.ready_objects.proofs.Vocabulary.{number_of_word, rules}
 use Rattle.ready_objects.proofs.number.Amount.read.Goals as goal
 
 pub returns-then-is_number : goal.returns-then-is_number

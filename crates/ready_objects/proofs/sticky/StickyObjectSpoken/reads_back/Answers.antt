@@ -1,8 +1,4 @@
-use Rattle.std.proofs.Common.{◌≤◌, [], ◌∷◌, refl, sym, ap, arith}
-use Rattle.std.specs.Prelude.{codes, option_map}
-use Rattle.std.specs.Fmt.{decimal}
-use Rattle.std.proofs.lemmas.Bool.{and_from}
-use Rattle.ready_objects.specs.declared.sticky.StickyInv.TheVariants.{Stick}
+use Rattle.ready_objects.proofs.Vocabulary.{Stick, [], and_from, ap, arith, codes, decimal, option_map, refl, sym, ◌∷◌, ◌≤◌}
 use Rattle.ready_objects.proofs.Numbers.{number_of_word-decimal, lacks_space-decimal}
 use Rattle.ready_objects.proofs.StickyWords.{sticky_words-sticky_inv_of_words}
 use Rattle.ready_objects.proofs.Words.{words_of_text-text_of_words}

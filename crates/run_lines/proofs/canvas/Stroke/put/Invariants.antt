@@ -1,6 +1,4 @@
-use Rattle.std.proofs.Common.{◌≡◌, ◌<◌, ℕ, length, get_or, ◌+◌, ◌-◌}
-use Rattle.std.specs.Prelude.{◌&&◌, nat_le, nat_lt, if◌then◌else◌}
-use Rattle.run_lines.specs.Canvas.{Ink, ink_shown, letter_in, letter_seen}
+use Rattle.run_lines.proofs.Vocabulary.{Ink, get_or, if◌then◌else◌, ink_shown, length, letter_in, letter_seen, nat_le, nat_lt, ℕ, ◌&&◌, ◌+◌, ◌-◌, ◌<◌, ◌≡◌}
 use Rattle.run_lines.proofs.canvas.Stroke.put.Given as goal
 
 -- the letter at a column once so many letters are put from a column on

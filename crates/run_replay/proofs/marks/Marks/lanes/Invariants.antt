@@ -1,6 +1,4 @@
-use Rattle.std.proofs.Common.{◌≡◌, map, max, drop}
-use Rattle.run_replay.specs.Marks.{lanes_of}
-use Rattle.run_replay.specs.MarksShown.{era_shown}
+use Rattle.run_replay.proofs.Vocabulary.{drop, era_shown, lanes_of, map, max, ◌≡◌}
 use Rattle.run_replay.proofs.marks.Marks.lanes.Given as goal
 
 abbrev pub invariant-loop-era : goal.invariant-loop-era

@@ -1,5 +1,5 @@
-use Rattle.small_objects.specs.Book.{call_in, reply_words}
-use Rattle.ready_objects.specs.Book.{book}
+use Rattle.small_objects.proofs.Vocabulary.{book, call_in}
+use Rattle.small_objects.specs.Book.{reply_words}
 use Rattle.small_objects.proofs.Books.{reached_book, sum_fits}
 use Rattle.small_objects.proofs.Reached.{reached_in}
 use Rattle.small_objects.proofs.book.SmallBookSmallObject.apply.Goals as goal

@@ -1,6 +1,4 @@
-use Rattle.std.proofs.Common.{◌∙◌, ap, sym, slice_index}
-use Rattle.std.proofs.lemmas.List.{get_or_past}
-use Rattle.small_objects.specs.Encoding.{one_word}
+use Rattle.small_objects.proofs.Vocabulary.{ap, get_or_past, one_word, slice_index, sym, ◌∙◌}
 use Rattle.small_objects.specs.declared.counters.CountersCall.{CountersCall}
 use Rattle.small_objects.proofs.Short.{one_set}
 use Rattle.small_objects.proofs.counters.SmallCountersSmallObject.apply.Goals as goal

@@ -1,5 +1,4 @@
-use Rattle.std.proofs.Common.{◌∙◌, sym}
-use Rattle.small_objects.specs.Encoding.{encoded}
+use Rattle.small_objects.proofs.Vocabulary.{encoded, sym, ◌∙◌}
 use Rattle.small_objects.proofs.Reached.{reached_in, reached_is}
 use Rattle.small_objects.proofs.encoded.EncodedSmallObject.apply.Goals as goal
 

@@ -1,5 +1,4 @@
-use Rattle.std.proofs.Common.{◌∙◌, ◌∷◌, ◌+◌, ◌%◌, ap, subst, sym, length-set, slice_index, slice_index_or, arith}
-use Rattle.uni_small.specs.Image.{IsReached}
+use Rattle.small_objects.proofs.Vocabulary.{IsReached, ap, arith, length-set, slice_index, slice_index_or, subst, sym, ◌%◌, ◌+◌, ◌∙◌, ◌∷◌}
 use Rattle.small_objects.proofs.Behind.{kept_behind, put_behind, reached_behind}
 use Rattle.small_objects.proofs.placed.PlacedSmallObject.apply.Goals as goal
 

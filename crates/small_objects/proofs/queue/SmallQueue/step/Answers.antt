@@ -1,6 +1,4 @@
-use Rattle.std.proofs.Common.{◌≡◌, ◌≢◌, ◌∙◌, ℕ, suc, ◌+◌, ◌-◌, ◌<◌, ◌≤◌, arith, refl, sym, ap, subst, List, length, slice_index, slice_set}
-use Rattle.small_objects.specs.Padded.{row_of, values_in}
-use Rattle.small_objects.specs.Queue.{queue_next, queue_answer}
+use Rattle.small_objects.proofs.Vocabulary.{List, ap, arith, length, queue_answer, queue_next, refl, row_of, slice_index, slice_set, subst, suc, sym, values_in, ℕ, ◌+◌, ◌-◌, ◌<◌, ◌∙◌, ◌≡◌, ◌≢◌, ◌≤◌}
 use Rattle.small_objects.proofs.Rows.{queue_values, wide, count_is, none_queued, out_state, out_reply, put_state, put_reply, full_state, full_reply}
 use Rattle.small_objects.proofs.queue.SmallQueue.step.Goals as goal
 

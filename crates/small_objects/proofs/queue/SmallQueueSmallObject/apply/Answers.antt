@@ -1,5 +1,4 @@
-use Rattle.small_objects.specs.Encoding.{first_word, one_word}
-use Rattle.small_objects.specs.Queue.{queue}
+use Rattle.small_objects.proofs.Vocabulary.{first_word, one_word, queue}
 use Rattle.small_objects.proofs.Reached.{reached_in}
 use Rattle.small_objects.proofs.queue.SmallQueueSmallObject.apply.Goals as goal
 

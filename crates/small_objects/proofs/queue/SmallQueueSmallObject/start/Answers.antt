@@ -1,5 +1,4 @@
-use Rattle.std.proofs.Common.{◌∙◌, suc, ap, []}
-use Rattle.small_objects.specs.Padded.{length-padded}
+use Rattle.small_objects.proofs.Vocabulary.{[], ap, length-padded, suc, ◌∙◌}
 use Rattle.small_objects.proofs.Rows.{zero_row}
 use Rattle.small_objects.proofs.queue.SmallQueueSmallObject.start.Goals as goal
 

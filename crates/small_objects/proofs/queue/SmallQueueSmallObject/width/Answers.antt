@@ -1,5 +1,4 @@
-use Rattle.std.proofs.Common.{arith, []}
-use Rattle.small_objects.specs.Padded.{length-padded}
+use Rattle.small_objects.proofs.Vocabulary.{[], arith, length-padded}
 use Rattle.small_objects.proofs.queue.SmallQueueSmallObject.width.Goals as goal
 
 pub returns : goal.returns

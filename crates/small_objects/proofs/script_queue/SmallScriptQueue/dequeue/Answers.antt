@@ -1,5 +1,4 @@
-use Rattle.std.proofs.Common.{◌≡◌, ◌≢◌, ◌≤◌, slice_index, arith, subst, sym, ap, ◌∙◌}
-use Rattle.ready_objects.specs.declared.queue.QueueResp.TheVariants.{Taken}
+use Rattle.small_objects.proofs.Vocabulary.{Taken, ap, arith, slice_index, subst, sym, ◌∙◌, ◌≡◌, ◌≢◌, ◌≤◌}
 use Rattle.small_objects.proofs.Rows.{count_is, wide}
 use Rattle.small_objects.proofs.Scripts.{first_small, nothing, nothing_reply, script_values, taken, taken_reply}
 use Rattle.small_objects.proofs.script_queue.SmallScriptQueue.dequeue.Goals as goal

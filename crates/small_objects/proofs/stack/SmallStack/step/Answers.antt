@@ -1,6 +1,4 @@
-use Rattle.std.proofs.Common.{◌≡◌, ◌≢◌, ◌∙◌, ℕ, suc, ◌+◌, ◌-◌, ◌<◌, ◌≤◌, arith, refl, sym, ap, subst, List, length, slice_index, slice_set}
-use Rattle.small_objects.specs.Padded.{row_of, values_in}
-use Rattle.small_objects.specs.Stack.{stack_next, stack_answer}
+use Rattle.small_objects.proofs.Vocabulary.{List, ap, arith, length, refl, row_of, slice_index, slice_set, stack_answer, stack_next, subst, suc, sym, values_in, ℕ, ◌+◌, ◌-◌, ◌<◌, ◌∙◌, ◌≡◌, ◌≢◌, ◌≤◌}
 use Rattle.small_objects.proofs.Rows.{stack_values, wide, count_is, none_stacked, off_state, off_reply, put_state, put_reply, full_state, full_reply}
 use Rattle.small_objects.proofs.stack.SmallStack.step.Goals as goal
 

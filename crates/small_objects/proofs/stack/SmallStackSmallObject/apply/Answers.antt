@@ -1,5 +1,4 @@
-use Rattle.small_objects.specs.Encoding.{first_word, one_word}
-use Rattle.small_objects.specs.Stack.{stack}
+use Rattle.small_objects.proofs.Vocabulary.{first_word, one_word, stack}
 use Rattle.small_objects.proofs.Reached.{reached_in}
 use Rattle.small_objects.proofs.stack.SmallStackSmallObject.apply.Goals as goal
 

@@ -1,5 +1,4 @@
-use Rattle.std.proofs.Common.{◌<◌, subst, sym}
-use Rattle.cell_arena.specs.Arena.{processes_of}
+use Rattle.uni_core.proofs.Vocabulary.{processes_of, subst, sym, ◌<◌}
 use Rattle.uni_core.proofs.SharedPlaces.{made_written}
 use Rattle.uni_core.proofs.shared.SharedEntries.make.Goals as goal
 

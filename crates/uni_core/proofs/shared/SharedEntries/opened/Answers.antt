@@ -1,6 +1,4 @@
-use Rattle.std.proofs.Common.{◌∙◌, sym, slice_index_or, rules, arith}
-use Rattle.std.proofs.lemmas.List.{length-replicate}
-use Rattle.cell_arena.specs.Arena.{processes_of, cell_of}
+use Rattle.uni_core.proofs.Vocabulary.{arith, cell_of, length-replicate, processes_of, rules, slice_index_or, sym, ◌∙◌}
 use Rattle.uni_core.proofs.SharedPlaces.{memory_at-opened_world}
 use Rattle.uni_core.proofs.shared.SharedEntries.opened.Goals as goal
 

@@ -1,6 +1,4 @@
-use Rattle.std.proofs.Common.{◌∙◌, sym, subst, slice_index_or}
-use Rattle.cell_arena.specs.Arena.{processes_of, cell_of}
-use Rattle.uni_core.specs.SharedEntries.{SharedEntries, memory_of, IsRenewed}
+use Rattle.uni_core.proofs.Vocabulary.{IsRenewed, SharedEntries, cell_of, memory_of, processes_of, slice_index_or, subst, sym, ◌∙◌}
 use Rattle.uni_core.proofs.SharedPlaces.{memory_at-renewed}
 use Rattle.uni_core.proofs.shared.SharedEntries.renew.Goals as goal
 

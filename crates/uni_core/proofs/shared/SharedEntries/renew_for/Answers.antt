@@ -1,7 +1,4 @@
-use Rattle.std.proofs.Common.{◌∙◌, sym, subst, slice_index_or, rules}
-use Rattle.std.proofs.lemmas.List.{length-replicate}
-use Rattle.cell_arena.specs.Arena.{processes_of, cell_of}
-use Rattle.uni_core.specs.SharedEntries.{SharedEntries, memory_of, IsRenewed}
+use Rattle.uni_core.proofs.Vocabulary.{IsRenewed, SharedEntries, cell_of, length-replicate, memory_of, processes_of, rules, slice_index_or, subst, sym, ◌∙◌}
 use Rattle.uni_core.proofs.SharedPlaces.{memory_at-renewed}
 use Rattle.uni_core.proofs.shared.SharedEntries.renew_for.Goals as goal
 

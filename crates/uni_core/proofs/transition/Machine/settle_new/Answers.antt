@@ -1,6 +1,4 @@
-use Rattle.std.proofs.Common.{◌∙◌, sym, ap, subst, IsSome}
-use Rattle.std.specs.Option.{option_copied}
-use Rattle.uni_core.specs.SharedEntries.{named}
+use Rattle.uni_core.proofs.Vocabulary.{IsSome, ap, named, option_copied, subst, sym, ◌∙◌}
 use Rattle.uni_core.proofs.Transitions.{settled_kept, applied_there, copied_some, proposed_same}
 use Rattle.uni_core.proofs.transition.Machine.settle_new.Goals as goal
 

@@ -1,7 +1,5 @@
-use Rattle.std.proofs.Common.{◌≡◌}
-use Rattle.uni_model.specs.Places.{head_seq}
+use Rattle.uni_core.proofs.Vocabulary.{head_seq, world_of, ◌≡◌}
 use Rattle.uni_model.specs.Frontier.{greatest_below}
-use Rattle.uni_core.specs.World.{world_of}
 use Rattle.uni_core.proofs.world.World.frontier.Given as goal
 
 abbrev pub invariant-loop-p : goal.invariant-loop-p

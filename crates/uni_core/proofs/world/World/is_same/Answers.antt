@@ -1,6 +1,4 @@
-use Rattle.std.proofs.Common.{◌∙◌, refl, sym, subst}
-use Rattle.uni_model.specs.Invariant.{Invariant}
-use Rattle.uni_core.specs.World.{world_of}
+use Rattle.uni_core.proofs.Vocabulary.{Invariant, refl, subst, sym, world_of, ◌∙◌}
 use Rattle.uni_core.proofs.Likeness.{same_worlds, entries_now}
 use Rattle.uni_core.proofs.world.World.is_same.Goals as goal
 

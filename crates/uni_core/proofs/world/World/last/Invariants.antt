@@ -1,6 +1,4 @@
-use Rattle.std.proofs.Common.{◌≡◌, ◌+◌, ◌*◌, ℕ, IsSome}
-use Rattle.cell_arena.specs.Arena.{cell_of}
-use Rattle.uni_core.specs.World.{world_of, name_in}
+use Rattle.uni_core.proofs.Vocabulary.{IsSome, cell_of, name_in, world_of, ℕ, ◌*◌, ◌+◌, ◌≡◌}
 use Rattle.uni_core.proofs.Walk.{LeadsToLast}
 use Rattle.uni_core.proofs.world.World.last.Given as goal
 

@@ -1,6 +1,4 @@
-use Rattle.std.proofs.Common.{◌≡◌, subst, IfOk}
-use Rattle.uni_model.specs.Worlds.{opened_world}
-use Rattle.uni_core.specs.World.{world_of}
+use Rattle.uni_core.proofs.Vocabulary.{IfOk, opened_world, subst, world_of, ◌≡◌}
 use Rattle.uni_core.proofs.world.World.open_from.Goals as goal
 
 pub returns-clause-opened : goal.returns-clause-opened

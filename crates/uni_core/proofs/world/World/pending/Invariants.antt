@@ -1,5 +1,4 @@
-use Rattle.std.proofs.Common.{◌≡◌, ◌<◌, ℕ, None}
-use Rattle.uni_core.specs.World.{world_of}
+use Rattle.uni_core.proofs.Vocabulary.{None, world_of, ℕ, ◌<◌, ◌≡◌}
 use Rattle.uni_core.proofs.world.World.pending.Given as goal
 
 abbrev pub invariant-loop-p : goal.invariant-loop-p

@@ -1,7 +1,4 @@
-use Rattle.std.proofs.Common.{◌≡◌, ◌∙◌, ℕ, ap, subst, length, List, slice_index_or}
-use Rattle.uni_core.specs.declared.local.Local.{Local}
-use Rattle.uni_core.specs.Local.{new_local}
-use Rattle.uni_core.specs.SharedEntries.{first_of}
+use Rattle.uni_core.proofs.Vocabulary.{List, Local, ap, first_of, length, new_local, slice_index_or, subst, ℕ, ◌∙◌, ◌≡◌}
 use Rattle.uni_core.proofs.Renewed.{last_there, IsWorld-renewed, world_of-renewed}
 use Rattle.uni_core.proofs.world.World.renew_for.Goals as goal
 

@@ -1,8 +1,6 @@
-use Rattle.std.proofs.Common.{◌≡◌, ◌∙◌, ◌+◌, length, length-append, refl, arith}
-use Rattle.uni_core.specs.World.{world_of}
+use Rattle.uni_core.proofs.Vocabulary.{IsBounded-along, arith, length, length-append, refl, world_of, ◌+◌, ◌∙◌, ◌≡◌}
 use Rattle.uni_core.proofs.Runs.{Leads-nothing, Leads-next, Ran-all, EndNoEra-events_of}
 use Rattle.uni_model.proofs.Growing.{log-prefixes}
-use Rattle.uni_model.proofs.LawProofs.{IsBounded-along}
 use Rattle.uni_core.proofs.world.World.run.Goals as goal
 
 pub loop-command-init : goal.loop-command-init

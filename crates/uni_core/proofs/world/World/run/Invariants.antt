@@ -1,5 +1,4 @@
-use Rattle.std.proofs.Common.{◌≡◌, ◌≤◌, length, take, vec_capacity}
-use Rattle.uni_core.specs.World.{world_of, KeepsFixed}
+use Rattle.uni_core.proofs.Vocabulary.{KeepsFixed, length, take, vec_capacity, world_of, ◌≡◌, ◌≤◌}
 use Rattle.uni_core.proofs.Runs.{Leads}
 use Rattle.uni_core.proofs.world.World.run.Given as goal
 

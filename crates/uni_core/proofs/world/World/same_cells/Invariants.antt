@@ -1,9 +1,4 @@
-use Rattle.std.proofs.Common.{◌≡◌, ◌<◌, ℕ, option_map}
-use Rattle.cell_arena.specs.CellRecord.{index_of}
-use Rattle.cell_arena.specs.Arena.{cell_of}
-use Rattle.uni_model.specs.Worlds.{calls_in_era}
-use Rattle.uni_core.specs.World.{world_of}
-use Rattle.uni_core.specs.Same.{outline}
+use Rattle.uni_core.proofs.Vocabulary.{calls_in_era, cell_of, index_of, option_map, outline, world_of, ℕ, ◌<◌, ◌≡◌}
 use Rattle.uni_core.proofs.world.World.same_cells.Given as goal
 
 abbrev pub invariant-loop-p : goal.invariant-loop-p

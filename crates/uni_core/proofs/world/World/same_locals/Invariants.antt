@@ -1,5 +1,4 @@
-use Rattle.std.proofs.Common.{◌≡◌, ◌<◌, ℕ, option_map, length, slice_get}
-use Rattle.uni_core.specs.Same.{standing_of}
+use Rattle.uni_core.proofs.Vocabulary.{length, option_map, slice_get, standing_of, ℕ, ◌<◌, ◌≡◌}
 use Rattle.uni_core.proofs.world.World.same_locals.Given as goal
 
 abbrev pub invariant-loop-p : goal.invariant-loop-p

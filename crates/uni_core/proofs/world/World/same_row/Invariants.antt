@@ -1,8 +1,4 @@
-use Rattle.std.proofs.Common.{◌≡◌, ◌<◌, ℕ, option_map}
-use Rattle.cell_arena.specs.CellRecord.{index_of}
-use Rattle.cell_arena.specs.Arena.{cell_of}
-use Rattle.uni_core.specs.World.{world_of}
-use Rattle.uni_core.specs.Same.{outline}
+use Rattle.uni_core.proofs.Vocabulary.{cell_of, index_of, option_map, outline, world_of, ℕ, ◌<◌, ◌≡◌}
 use Rattle.uni_core.proofs.world.World.same_row.Given as goal
 
 abbrev pub invariant-loop-nth : goal.invariant-loop-nth

@@ -1,5 +1,4 @@
-use Rattle.uni_model.proofs.Bounded.{IsBounded-held}
-use Rattle.uni_model.proofs.OneLists.{HasOneList-held, HasLegalLog-held}
+use Rattle.uni_core.proofs.Vocabulary.{HasLegalLog-held, HasOneList-held, IsBounded-held}
 use Rattle.uni_core.proofs.Reading.{IsWorld-now, numbers_fit}
 use Rattle.uni_core.proofs.world.World.shape.Goals as goal
 

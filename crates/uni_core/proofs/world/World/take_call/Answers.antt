@@ -1,6 +1,4 @@
-use Rattle.std.proofs.Common.{subst}
-use Rattle.uni_core.specs.Refusals.{IsBeginRefused}
-use Rattle.uni_core.specs.World.{world_of}
+use Rattle.uni_core.proofs.Vocabulary.{IsBeginRefused, subst, world_of}
 use Rattle.uni_core.proofs.Runs.{TakesCommand-refused}
 use Rattle.uni_core.proofs.world.World.take_call.Goals as goal
 

@@ -1,6 +1,4 @@
-use Rattle.std.proofs.Common.{◌∙◌, sym, refl}
-use Rattle.uni_core.specs.Refusals.{CanGo}
-use Rattle.uni_core.specs.World.{world_of}
+use Rattle.uni_core.proofs.Vocabulary.{CanGo, refl, sym, world_of, ◌∙◌}
 use Rattle.uni_core.proofs.Runs.{TakesCommand-refused, current_none, current_some, going_none, done_some, memory_needed}
 use Rattle.uni_core.proofs.world.World.take_step.Goals as goal
 

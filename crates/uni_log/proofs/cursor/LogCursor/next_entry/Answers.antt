@@ -1,8 +1,4 @@
-use Rattle.std.proofs.Common.{◌≡◌, ◌+◌, refl, sym, true, arith}
-use Rattle.uni_model.specs.Places.{seq_of}
-use Rattle.uni_model.specs.Places.Name.{Anchor}
-use Rattle.uni_core.specs.World.{world_of}
-use Rattle.uni_log.specs.Entry.{entry_shown}
+use Rattle.uni_log.proofs.Vocabulary.{Anchor, arith, entry_shown, refl, seq_of, sym, true, world_of, ◌+◌, ◌≡◌}
 use Rattle.uni_log.proofs.Along.{along-number, cursor-call, cursor-end, cursor-entry, cursor-next}
 use Rattle.uni_log.proofs.cursor.LogCursor.next_entry.Goals as goal
 

@@ -1,6 +1,4 @@
-use Rattle.std.proofs.Common.{refl, sym}
-use Rattle.std.proofs.lemmas.List.{length-map, map-append}
-use Rattle.uni_core.specs.World.{world_of, name_in}
+use Rattle.uni_log.proofs.Vocabulary.{length-map, map-append, name_in, refl, sym, world_of}
 use Rattle.uni_log.proofs.Back.{IsBack-first, IsBack-further, less_before, back_reversed, first_kept}
 use Rattle.uni_log.proofs.log.Log.cells_back.Goals as goal
 

@@ -1,7 +1,4 @@
-use Rattle.std.proofs.Common.{◌≡◌, IsSome, Some, slice_get, map}
-use Rattle.cell_arena.specs.Arena.{cell_of}
-use Rattle.uni_model.specs.Places.{seq_of}
-use Rattle.uni_core.specs.World.{world_of, name_in}
+use Rattle.uni_log.proofs.Vocabulary.{IsSome, Some, cell_of, map, name_in, seq_of, slice_get, world_of, ◌≡◌}
 use Rattle.uni_log.proofs.Back.{IsBack}
 use Rattle.uni_log.proofs.log.Log.cells_back.Given as goal
 

@@ -1,9 +1,4 @@
-use Rattle.std.proofs.Common.{sym, ◌≡◌, ◌+◌, ◌-◌, refl, subst, length, length-append, arith}
-use Rattle.std.proofs.lemmas.List.{map-append, append-nil}
-use Rattle.uni_model.specs.Places.{seq_of}
-use Rattle.uni_model.specs.Places.Name.{Anchor}
-use Rattle.uni_model.specs.Worlds.{chain}
-use Rattle.uni_core.specs.World.{world_of, name_in}
+use Rattle.uni_log.proofs.Vocabulary.{Anchor, append-nil, arith, chain, length, length-append, map-append, name_in, refl, seq_of, subst, sym, world_of, ◌+◌, ◌-◌, ◌≡◌}
 use Rattle.uni_log.proofs.Walk.{IsAlong, IsAlong-anchor, along-end, along-next, walked-further}
 use Rattle.uni_log.proofs.log.Log.cells_forward.Goals as goal
 

@@ -1,9 +1,4 @@
-use Rattle.std.proofs.Common.{◌≡◌, ◌+◌, ◌-◌, ◌^◌, ◌≤◌, List, ◌++◌, ◌∷◌, IsSome, length, map}
-use Rattle.cell_arena.specs.Arena.{cell_of}
-use Rattle.uni_model.specs.Places.{Name, seq_of}
-use Rattle.uni_model.specs.Places.Name.{Anchor}
-use Rattle.uni_model.specs.Worlds.{chain}
-use Rattle.uni_core.specs.World.{world_of, name_in}
+use Rattle.uni_log.proofs.Vocabulary.{Anchor, IsSome, List, Name, cell_of, chain, length, map, name_in, seq_of, world_of, ◌++◌, ◌+◌, ◌-◌, ◌^◌, ◌∷◌, ◌≡◌, ◌≤◌}
 use Rattle.uni_log.proofs.Walk.{IsAlong}
 use Rattle.uni_log.proofs.log.Log.cells_forward.Given as goal
 

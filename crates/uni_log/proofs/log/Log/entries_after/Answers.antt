@@ -1,8 +1,4 @@
-use Rattle.std.proofs.Common.{◌≡◌, ◌∙◌, ◌+◌, ◌++◌, ◌∷◌, [], sym, ap, append_assoc, map, take, slice_get, Some, None, arith}
-use Rattle.std.proofs.lemmas.List.{append-nil, map-append}
-use Rattle.uni_model.specs.History.{log}
-use Rattle.uni_core.specs.World.{world_of}
-use Rattle.uni_log.specs.Entry.{entry_shown}
+use Rattle.uni_log.proofs.Vocabulary.{None, Some, [], ap, append-nil, append_assoc, arith, entry_shown, log, map, map-append, slice_get, sym, take, world_of, ◌++◌, ◌+◌, ◌∙◌, ◌∷◌, ◌≡◌}
 use Rattle.uni_log.proofs.Along.{within-at, taken-more, all-taken}
 use Rattle.uni_log.proofs.log.Log.entries_after.Goals as goal
 

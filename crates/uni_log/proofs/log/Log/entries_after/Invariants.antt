@@ -1,7 +1,4 @@
-use Rattle.std.proofs.Common.{◌≡◌, ◌-◌, ◌++◌, length, map, take}
-use Rattle.uni_model.specs.History.{log}
-use Rattle.uni_core.specs.World.{world_of}
-use Rattle.uni_log.specs.Entry.{entry_shown}
+use Rattle.uni_log.proofs.Vocabulary.{entry_shown, length, log, map, take, world_of, ◌++◌, ◌-◌, ◌≡◌}
 use Rattle.uni_log.proofs.log.Log.entries_after.Given as goal
 
 abbrev pub invariant-loop-entries : goal.invariant-loop-entries

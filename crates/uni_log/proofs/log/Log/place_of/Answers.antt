@@ -1,9 +1,5 @@
-use Rattle.std.proofs.Common.{sym, subst, arith}
+use Rattle.uni_log.proofs.Vocabulary.{Of, arith, chain, name_eq, name_in, subst, sym, world_of}
 use Rattle.std.proofs.lemmas.Iterator.Adapters.{position_from-zero}
-use Rattle.uni_model.specs.Places.{name_eq}
-use Rattle.uni_model.specs.Places.Name.{Of}
-use Rattle.uni_model.specs.Worlds.{chain}
-use Rattle.uni_core.specs.World.{world_of, name_in}
 use Rattle.uni_log.proofs.Walk.{IsAlong, IsAlong-anchor, along-end, along-next}
 use Rattle.uni_log.proofs.log.Log.place_of.Goals as goal
 

@@ -1,10 +1,5 @@
-use Rattle.std.proofs.Common.{◌≡◌, ◌+◌, ◌-◌, ◌^◌, List, IsSome, position}
+use Rattle.uni_log.proofs.Vocabulary.{Anchor, IsSome, List, Name, Of, cell_of, chain, name_eq, name_in, position, seq_of, world_of, ◌+◌, ◌-◌, ◌^◌, ◌≡◌}
 use Rattle.std.specs.List.{position_from}
-use Rattle.cell_arena.specs.Arena.{cell_of}
-use Rattle.uni_model.specs.Places.{Name, seq_of, name_eq}
-use Rattle.uni_model.specs.Places.Name.{Anchor, Of}
-use Rattle.uni_model.specs.Worlds.{chain}
-use Rattle.uni_core.specs.World.{world_of, name_in}
 use Rattle.uni_log.proofs.Walk.{IsAlong}
 use Rattle.uni_log.proofs.log.Log.place_of.Given as goal
 

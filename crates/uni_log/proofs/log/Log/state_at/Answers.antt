@@ -1,7 +1,4 @@
-use Rattle.std.proofs.Common.{◌≡◌, ◌+◌, ◌∷◌, refl, sym, ap, subst, slice_get, arith}
-use Rattle.uni_model.specs.Places.Name.{Anchor}
-use Rattle.uni_model.specs.Worlds.{chain}
-use Rattle.uni_core.specs.World.{world_of, name_in}
+use Rattle.uni_log.proofs.Vocabulary.{Anchor, ap, arith, chain, name_in, refl, slice_get, subst, sym, world_of, ◌+◌, ◌∷◌, ◌≡◌}
 use Rattle.uni_log.proofs.Walk.{IsAlong, IsAlong-anchor, along-end, along-next}
 use Rattle.uni_log.proofs.States.{folded_behind, place_past, place_at, place_further}
 use Rattle.uni_log.proofs.log.Log.state_at.Goals as goal

@@ -1,6 +1,5 @@
-use Rattle.std.proofs.Common.{arith}
+use Rattle.uni_record.proofs.Vocabulary.{arith, nat_cmp}
 use Rattle.std.specs.Prelude.{vec_capacity}
-use Rattle.std.specs.Ordering.{nat_cmp}
 use Rattle.uni_record.proofs.Rooms.{sum_by-insert_entry}
 use Rattle.uni_record.proofs.call_places.CallPlaces.add_row.Goals as goal
 

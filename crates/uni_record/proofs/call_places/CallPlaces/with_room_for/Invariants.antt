@@ -1,5 +1,4 @@
-use Rattle.std.proofs.Common.{◌≡◌, ℕ, ◌+◌, ◌≤◌, [], length}
-use Rattle.uni_record.specs.CallPlaces.{room_of, row_of}
+use Rattle.uni_record.proofs.Vocabulary.{[], length, room_of, row_of, ℕ, ◌+◌, ◌≡◌, ◌≤◌}
 use Rattle.uni_record.proofs.call_places.CallPlaces.with_room_for.Given as goal
 
 abbrev pub invariant-loop-entry : goal.invariant-loop-entry

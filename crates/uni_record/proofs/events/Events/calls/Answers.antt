@@ -1,5 +1,4 @@
-use Rattle.std.proofs.Common.{◌∙◌, List, ap, sym}
-use Rattle.uni_record.specs.Event.{calls_in, events_shown}
+use Rattle.uni_record.proofs.Vocabulary.{List, ap, calls_in, events_shown, sym, ◌∙◌}
 use Rattle.uni_record.proofs.Asked.{calls_in-unpacked}
 use Rattle.uni_record.proofs.events.Events.calls.Goals as goal
 

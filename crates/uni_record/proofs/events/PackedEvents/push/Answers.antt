@@ -1,7 +1,5 @@
-use Rattle.std.proofs.Common.{◌∙◌, ◌<◌, length, ◌++◌, ◌∷◌, [], arith, subst, sym, ap}
-use Rattle.std.proofs.lemmas.List.{append-nil}
+use Rattle.uni_record.proofs.Vocabulary.{HasCode, [], ap, append-nil, arith, length, subst, sym, ◌++◌, ◌<◌, ◌∙◌, ◌∷◌}
 use Rattle.uni_record.specs.declared.event.Event.TheVariants.{Call, Step, Trim, Reshape}
-use Rattle.uni_record.specs.Packed.{HasCode}
 use Rattle.uni_record.proofs.Packed.{pushed, length-unpacked}
 use Rattle.uni_record.proofs.events.PackedEvents.push.Goals as goal
 

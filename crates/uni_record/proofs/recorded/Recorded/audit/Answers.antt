@@ -1,11 +1,4 @@
-use Rattle.std.proofs.Common.{◌≡◌, ◌∙◌, ◌+◌, ◌++◌, None, slice_get, refl, ap, subst, arith}
-use Rattle.std.proofs.lemmas.List.{append-nil}
-use Rattle.std.proofs.lemmas.Option.{slice_get-map}
-use Rattle.std.proofs.lemmas.Result.{IfOk-weaker}
-use Rattle.uni_model.specs.History.{log}
-use Rattle.uni_core.specs.World.{world_of}
-use Rattle.uni_log.proofs.Along.{within-at, all-taken}
-use Rattle.uni_record.specs.CallPlaces.{HasGoneOver}
+use Rattle.uni_record.proofs.Vocabulary.{HasGoneOver, IfOk-weaker, None, all-taken, ap, append-nil, arith, log, refl, slice_get, slice_get-map, subst, within-at, world_of, ◌++◌, ◌+◌, ◌∙◌, ◌≡◌}
 use Rattle.uni_record.proofs.Audits.{told, told_at, present_of, ended_agree, returns_agree, entry_agrees, rest_agrees, gone_further}
 use Rattle.uni_record.proofs.recorded.Recorded.audit.Goals as goal
 

@@ -1,7 +1,4 @@
-use Rattle.std.proofs.Common.{◌≡◌, ◌-◌, ◌++◌, length, take, drop}
-use Rattle.uni_record.specs.Verdict.{entries_verdict}
-use Rattle.uni_record.specs.declared.verdict.Verdict.TheVariants.{Agrees}
-use Rattle.uni_record.specs.CallPlaces.{HasGoneOver}
+use Rattle.uni_record.proofs.Vocabulary.{Agrees, HasGoneOver, drop, entries_verdict, length, take, ◌++◌, ◌-◌, ◌≡◌}
 use Rattle.uni_record.proofs.Audits.{present_of}
 use Rattle.uni_record.proofs.recorded.Recorded.audit.Given as goal
 

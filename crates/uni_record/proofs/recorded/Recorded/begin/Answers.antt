@@ -1,9 +1,4 @@
-use Rattle.std.proofs.Common.{rules, ◌≡◌, ◌+◌, ◌≤◌, ◌∙◌, arith, subst, refl, sym}
-use Rattle.std.proofs.lemmas.List.{append-nil}
-use Rattle.uni_model.specs.Worlds.{world_after}
-use Rattle.uni_model.specs.Worlds.Event.{Call}
-use Rattle.uni_core.specs.World.{world_of}
-use Rattle.uni_record.specs.Recorded.{standing_of, CanBegin, set_aside, share}
+use Rattle.uni_record.proofs.Vocabulary.{Call, CanBegin, append-nil, arith, refl, rules, set_aside, share, standing_of, subst, sym, world_after, world_of, ◌+◌, ◌∙◌, ◌≡◌, ◌≤◌}
 use Rattle.uni_record.proofs.Kept.{begun_kept, roomier}
 use Rattle.uni_record.proofs.Untrimmed.{begun-untrimmed}
 use Rattle.uni_record.proofs.recorded.Recorded.begin.Goals as goal

@@ -1,11 +1,4 @@
-use Rattle.std.proofs.Common.{◌≡◌, ◌∙◌, ◌++◌, ap, map, subst}
-use Rattle.std.proofs.lemmas.Result.{IfOk-weaker}
-use Rattle.uni_model.specs.History.{log, log_of_run}
-use Rattle.uni_core.specs.World.{world_of}
-use Rattle.uni_log.specs.Entry.{entry_shown}
-use Rattle.uni_record.specs.Audited.{IsAudited}
-use Rattle.uni_record.specs.Event.{events_shown}
-use Rattle.uni_record.specs.Recorded.{meaning, opening}
+use Rattle.uni_record.proofs.Vocabulary.{IfOk-weaker, IsAudited, ap, entry_shown, events_shown, log, log_of_run, map, meaning, opening, subst, world_of, ◌++◌, ◌∙◌, ◌≡◌}
 use Rattle.uni_record.proofs.Agreed.{IsAudited-record}
 use Rattle.uni_record.proofs.Promised.{entries_are_joined}
 use Rattle.uni_record.proofs.recorded.Recorded.entries.Goals as goal

@@ -1,7 +1,4 @@
-use Rattle.std.proofs.Common.{◌≡◌, arith, subst, refl, true, false}
-use Rattle.uni_core.specs.World.{world_of}
-use Rattle.uni_core.specs.Ends.{last_number}
-use Rattle.uni_record.specs.Recorded.{standing_of, CanEnd, IsEndRefused}
+use Rattle.uni_record.proofs.Vocabulary.{CanEnd, IsEndRefused, arith, false, last_number, refl, standing_of, subst, true, world_of, ◌≡◌}
 use Rattle.uni_record.specs.declared.fault.RecordTrimFault.TheVariants.{SeqFull, HistoryFull}
 use Rattle.uni_record.proofs.recorded.Recorded.next_anchor.Goals as goal
 

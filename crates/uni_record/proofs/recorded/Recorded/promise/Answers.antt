@@ -1,5 +1,4 @@
-use Rattle.std.proofs.Common.{subst}
-use Rattle.uni_record.specs.Recorded.{IsPromised, IsRecording}
+use Rattle.uni_record.proofs.Vocabulary.{IsPromised, IsRecording, subst}
 use Rattle.uni_record.proofs.Promised.{IsPromised-kept}
 use Rattle.uni_record.proofs.recorded.Recorded.promise.Goals as goal
 

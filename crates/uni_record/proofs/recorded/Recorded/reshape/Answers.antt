@@ -1,10 +1,5 @@
-use Rattle.std.proofs.Common.{◌≡◌, arith, subst, refl, sym}
-use Rattle.std.proofs.lemmas.List.{append-nil}
-use Rattle.uni_model.specs.Worlds.{world_after, IsQuiescent}
-use Rattle.uni_model.specs.Worlds.Event.{Reshape}
-use Rattle.uni_core.specs.World.{world_of}
+use Rattle.uni_record.proofs.Vocabulary.{CanEnd, IsQuiescent, Reshape, append-nil, arith, refl, standing_of, subst, sym, world_after, world_of, ◌≡◌}
 use Rattle.uni_record.specs.declared.event.Event.TheVariants as stored
-use Rattle.uni_record.specs.Recorded.{standing_of, CanEnd}
 use Rattle.uni_record.proofs.Kept.{roomier}
 use Rattle.uni_record.proofs.Ended.{quiescent_after, entries_joined, ended_kept}
 use Rattle.uni_record.proofs.recorded.Recorded.reshape.Goals as goal

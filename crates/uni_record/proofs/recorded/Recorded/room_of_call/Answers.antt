@@ -1,6 +1,4 @@
-use Rattle.std.proofs.Common.{◌+◌, ◌*◌, ◌≤◌, arith, subst}
-use Rattle.uni_core.specs.World.{world_of}
-use Rattle.uni_record.specs.Recorded.{standing_of, CanBegin, IsBeginRefused, set_aside, share}
+use Rattle.uni_record.proofs.Vocabulary.{CanBegin, IsBeginRefused, arith, set_aside, share, standing_of, subst, world_of, ◌*◌, ◌+◌, ◌≤◌}
 use Rattle.uni_record.specs.declared.fault.RecordBeginFault.TheVariants.{HistoryFull}
 use Rattle.uni_record.proofs.Begun.{can_call_now}
 use Rattle.uni_record.proofs.Owed.{set_aside-le}

@@ -1,13 +1,6 @@
-use Rattle.std.proofs.Common.{◌≡◌, sym, ap, refl, ◌∙◌, arith, length, option_to_list, subst}
-use Rattle.std.proofs.lemmas.List.{append-nil}
-use Rattle.uni_model.specs.Worlds.{world_after}
-use Rattle.uni_model.specs.Worlds.Event.{Step}
-use Rattle.uni_core.specs.World.{world_of, IsProgress}
-use Rattle.uni_core.specs.Refusals.{CanGo}
-use Rattle.uni_record.specs.Recorded.{standing_of, IsStepRefused}
+use Rattle.uni_record.proofs.Vocabulary.{CanGo, IsProgress, IsStepRefused, Step, ap, append-nil, arith, current_some, done_some, going_none, length, memory_needed, option_to_list, refl, standing_of, subst, sym, world_after, world_of, ◌∙◌, ◌≡◌}
 use Rattle.uni_record.specs.declared.fault.RecordStepFault.TheVariants.{Memory}
 use Rattle.uni_core.specs.declared.fault.Progress.TheVariants.{Going, Done}
-use Rattle.uni_core.proofs.Runs.{current_some, going_none, done_some, memory_needed}
 use Rattle.uni_record.proofs.Paid.{n_after_step}
 use Rattle.uni_record.proofs.Kept.{stepped_kept, room_for_step, nothing_completed, one_completed}
 use Rattle.uni_record.proofs.Untrimmed.{progress-untrimmed}

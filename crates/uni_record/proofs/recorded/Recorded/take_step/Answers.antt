@@ -1,9 +1,6 @@
-use Rattle.std.proofs.Common.{◌≡◌, ◌∙◌, refl, subst, sym, Some}
-use Rattle.uni_core.specs.World.{world_of, current_of}
-use Rattle.uni_core.proofs.Runs.{going_none, done_some}
+use Rattle.uni_record.proofs.Vocabulary.{IsStepRefused, Some, current_of, done_some, going_none, refl, standing_of, subst, sym, world_of, ◌∙◌, ◌≡◌}
 use Rattle.uni_record.specs.declared.event.Event.TheVariants as stored
 use Rattle.uni_record.specs.declared.command.Refusal.TheVariants.{Memory}
-use Rattle.uni_record.specs.Recorded.{standing_of, IsStepRefused}
 use Rattle.uni_record.proofs.Commanded.{TakesCommand-done, TakesCommand-refused}
 use Rattle.uni_record.proofs.recorded.Recorded.take_step.Goals as goal
 

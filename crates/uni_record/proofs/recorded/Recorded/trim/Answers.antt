@@ -1,12 +1,5 @@
-use Rattle.std.proofs.Common.{◌≡◌, ◌∙◌, [], ◌∷◌, ◌++◌, Err, arith, ap, subst, refl, sym}
-use Rattle.std.proofs.lemmas.List.{append-nil}
-use Rattle.std.proofs.lemmas.Result.{err_from_is_err_and}
-use Rattle.uni_model.specs.Worlds.{world_after, IsQuiescent}
-use Rattle.uni_model.specs.Worlds.Event.{Trim}
-use Rattle.uni_core.specs.World.{world_of}
-use Rattle.uni_core.specs.Ends.{NumbersFit}
+use Rattle.uni_record.proofs.Vocabulary.{CanEnd, Err, IsEndRefused, IsQuiescent, KeepsOpening, NumbersFit, Recording, Trim, [], ap, append-nil, arith, err_from_is_err_and, refl, standing_of, subst, sym, world_after, world_of, ◌++◌, ◌∙◌, ◌∷◌, ◌≡◌}
 use Rattle.uni_record.specs.declared.event.Event.TheVariants as stored
-use Rattle.uni_record.specs.Recorded.{standing_of, CanEnd, IsEndRefused, KeepsOpening, Recording}
 use Rattle.uni_record.proofs.Kept.{roomier}
 use Rattle.uni_record.proofs.Ended.{quiescent_after, entries_joined, ended_kept}
 use Rattle.uni_record.proofs.Untrimmed.{trim-untrimmed}

@@ -1,9 +1,4 @@
-use Rattle.std.proofs.Common.{◌∙◌, sym, ap, subst}
-use Rattle.uni_script.specs.Objects.{spoken}
-use Rattle.uni_script.specs.Promises.{IsPromised}
-use Rattle.uni_script.specs.ScriptRun.{IsOwnRan, IsRanAs}
-use Rattle.uni_script.specs.Scripts.{own_scripts, own_session}
-use Rattle.uni_script.specs.Summary.{summary_of}
+use Rattle.uni_script.proofs.Vocabulary.{IsOwnRan, IsPromised, IsRanAs, ap, own_scripts, own_session, spoken, subst, summary_of, sym, ◌∙◌}
 use Rattle.uni_script.proofs.RunningOn.{HasEnded-as}
 use Rattle.uni_script.proofs.Sharing.{own_scripts_are_about}
 use Rattle.uni_script.proofs.catalogue.OwnCatalogue.run.Goals as goal

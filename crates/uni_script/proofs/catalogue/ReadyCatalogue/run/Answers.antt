@@ -1,12 +1,5 @@
-use Rattle.std.proofs.Common.{rules, [], ◌≡◌, ◌∙◌, Err, Some, sym, ap, subst}
+use Rattle.uni_script.proofs.Vocabulary.{Err, HasEnded, HasRun, IsPromisedSession, IsRan, IsRanAs, Some, [], ap, opened_session, rules, script_session, scripts, spoken_of, subst, summary_of_session, sym, ◌∙◌, ◌≡◌}
 use Rattle.uni_script.specs.declared.grammar.ObjectName.TheVariants.{Queue, Directory, Book, Sticky}
-use Rattle.uni_script.specs.Lines.{HasRun, HasEnded}
-use Rattle.uni_script.specs.Meaning.{opened_session}
-use Rattle.uni_script.specs.Objects.{spoken_of}
-use Rattle.uni_script.specs.ScriptRun.{IsRan, IsRanAs}
-use Rattle.uni_script.specs.Scripts.{scripts, script_session}
-use Rattle.uni_script.specs.Promises.{IsPromisedSession}
-use Rattle.uni_script.specs.Summary.{summary_of_session}
 use Rattle.uni_script.proofs.RunningOn.{HasEnded-map, HasEnded-err}
 use Rattle.uni_script.proofs.Sharing.{scripts_are_about}
 use Rattle.uni_script.proofs.catalogue.ReadyCatalogue.run.Goals as goal

@@ -1,8 +1,5 @@
-use Rattle.std.proofs.lemmas.List.{length-take-le}
-use Rattle.std.proofs.Common.{rules, ◌≡◌, ◌∙◌, inl, inr, refl, sym, ap, subst, arith, ◌+◌, ◌-◌, ◌<◌, ◌≤◌, ◌++◌, ◌∷◌, [], Some, Err, IfErr, take, drop, length, append-nil}
+use Rattle.uni_script.proofs.Vocabulary.{Err, Failed, IfErr, Some, StopsWith, TooLong, TooMany, [], ap, append-nil, arith, drop, inl, inr, length, length-take-le, line_of, refl, rest_of, rules, subst, sym, take, ◌++◌, ◌+◌, ◌-◌, ◌<◌, ◌∙◌, ◌∷◌, ◌≡◌, ◌≤◌}
 use Rattle.uni_script.specs.declared.fault.BenchFault.TheVariants as fault
-use Rattle.uni_script.specs.Lines.{line_of, rest_of, StopsWith}
-use Rattle.uni_script.specs.Lines.Stop.{Failed, TooLong, TooMany}
 use Rattle.uni_script.proofs.Cutting.{end_of, end_is, none_is}
 use Rattle.uni_script.proofs.Taking.{IsTaking-part, IsTaking-read, IsTaking-kept, IsOneLine-take, IsOneLine-all, split_at_end, line_of-none, rest_of-none, rest_of-moved, line_of-length, rest_of-length, rest_of-all, HasTaken-line, HasTaken-last, HasStopped-end, HasStopped-failed, HasStopped-long, HasStopped-many, TakesOn-cases}
 use Rattle.uni_script.proofs.lines.Lines.take.Goals as goal

@@ -1,6 +1,4 @@
-use Rattle.std.proofs.Common.{◌≡◌, ◌⊎◌, ◌+◌, ◌-◌, ◌<◌, false}
-use Rattle.uni_script.specs.declared.lines.Source.TheVariants.{Open}
-use Rattle.uni_script.specs.Lines.{IsHeld, line_of, rest_of}
+use Rattle.uni_script.proofs.Vocabulary.{IsHeld, Open, false, line_of, rest_of, ◌+◌, ◌-◌, ◌<◌, ◌≡◌, ◌⊎◌}
 use Rattle.uni_script.proofs.Taking.{IsTaking}
 use Rattle.uni_script.proofs.lines.Lines.take.Given as goal
 

@@ -1,8 +1,4 @@
-use Rattle.std.proofs.Common.{◌≡◌, ◌<◌, ◌∙◌, sym, ap, subst, arith}
-use Rattle.std.specs.List.{Contains}
-use Rattle.std.proofs.lemmas.List.{take_all}
-use Rattle.std.proofs.lemmas.List.Elements.{All-contains, Contains-get_or}
-use Rattle.uni_shared.specs.Agreement.{SeatAgrees, seats_of}
+use Rattle.uni_shared.proofs.Vocabulary.{All-contains, Contains, Contains-get_or, SeatAgrees, ap, arith, seats_of, subst, sym, take_all, ◌<◌, ◌∙◌, ◌≡◌}
 use Rattle.uni_shared.proofs.Counting.{Agrees-same}
 use Rattle.uni_shared.proofs.closed.Closed.receipts.Goals as goal
 

@@ -1,5 +1,4 @@
-use Rattle.std.proofs.Common.{◌≡◌, take}
-use Rattle.uni_shared.specs.Agreement.{seats_of}
+use Rattle.uni_shared.proofs.Vocabulary.{seats_of, take, ◌≡◌}
 use Rattle.uni_shared.proofs.closed.Closed.receipts.Given as goal
 
 abbrev pub invariant-loop-seat : goal.invariant-loop-seat

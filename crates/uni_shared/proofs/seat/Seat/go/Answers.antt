@@ -1,5 +1,4 @@
-use Rattle.std.proofs.Common.{rules, ◌∙◌, refl, ap, ◌++◌, ◌∷◌, []}
-use Rattle.uni_shared.specs.declared.receipt.Receipt.{Receipt}
+use Rattle.uni_shared.proofs.Vocabulary.{Receipt, [], ap, refl, rules, ◌++◌, ◌∙◌, ◌∷◌}
 use Rattle.uni_shared.proofs.seat.Seat.go.Goals as goal
 
 pub returns-in-Ok-clause-ended : goal.returns-in-Ok-clause-ended

@@ -1,5 +1,4 @@
-use Rattle.std.proofs.Common.{◌∙◌, ap, subst, rules}
-use Rattle.uni_shared.specs.Agreement.{IsClosed, IsFaultOfClosing}
+use Rattle.uni_shared.proofs.Vocabulary.{IsClosed, IsFaultOfClosing, ap, rules, subst, ◌∙◌}
 use Rattle.uni_shared.proofs.shared.Shared.close.Goals as goal
 
 pub invariant_of-result : goal.invariant_of-result

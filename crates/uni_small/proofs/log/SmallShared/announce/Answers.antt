@@ -1,9 +1,4 @@
-use Rattle.std.proofs.Common.{arith, ap, sym, ◌∙◌}
-use mathlib.Core.Option.{none}
-use Rattle.atomic_table.specs.Table.{step}
-use Rattle.uni_small.specs.Board.{announce_word}
-use Rattle.uni_small.specs.Plays.{HasAnnounced}
-use Rattle.uni_small.specs.Laws.{begins}
+use Rattle.uni_small.proofs.Vocabulary.{HasAnnounced, announce_word, ap, arith, begins, none, step, sym, ◌∙◌}
 use Rattle.uni_small.proofs.Allowed.{by_key}
 use Rattle.uni_small.proofs.Stores.{announced}
 use Rattle.uni_small.proofs.log.SmallShared.announce.Goals as goal

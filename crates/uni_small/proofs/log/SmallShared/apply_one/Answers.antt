@@ -1,5 +1,4 @@
-use Rattle.std.proofs.Common.{arith, ◌≡◌, ◌∙◌, ◌+◌, ◌*◌, ◌-◌, ◌++◌, ◌∷◌, [], ap, refl, sym, List, ℕ, length}
-use Rattle.uni_model.proofs.Appended.{state_after-append}
+use Rattle.uni_small.proofs.Vocabulary.{List, [], ap, arith, length, refl, state_after-append, sym, ℕ, ◌*◌, ◌++◌, ◌+◌, ◌-◌, ◌∙◌, ◌∷◌, ◌≡◌}
 use Rattle.uni_small.proofs.Images.{reached_length}
 use Rattle.uni_small.proofs.Rooms.{applied_in_room}
 use Rattle.uni_small.proofs.log.SmallShared.apply_one.Goals as goal

@@ -1,8 +1,4 @@
-use Rattle.std.proofs.Common.{arith, refl, sym, ap, drop, map, ◌≡◌, ◌∙◌, ◌+◌, ◌∷◌, ◌≤◌, Option, None, List, ℕ, [], length, subst, slice_index, slice_index_or}
-use Rattle.std.proofs.lemmas.List.{drop_all, drop_more, length-map, get_or-map}
-use Rattle.uni_small.specs.Invariant.{most_calls}
-use Rattle.uni_small.specs.Image.{Image, with_seen}
-use Rattle.uni_small.specs.Belongs.{image_of_rows, seen_in}
+use Rattle.uni_small.proofs.Vocabulary.{Image, List, None, Option, [], ap, arith, drop, drop_all, drop_more, get_or-map, image_of_rows, length, length-map, map, most_calls, refl, seen_in, slice_index, slice_index_or, subst, sym, with_seen, ℕ, ◌+◌, ◌∙◌, ◌∷◌, ◌≡◌, ◌≤◌}
 use Rattle.uni_small.proofs.Going.{with_seen-cons}
 use Rattle.uni_small.proofs.Images.{applied-later}
 use Rattle.uni_small.proofs.log.SmallShared.apply_seen.Goals as goal

@@ -1,7 +1,4 @@
-use Rattle.std.proofs.Common.{◌≡◌, ℕ, ◌<◌, ◌≤◌, drop, map, slice_index}
-use Rattle.uni_small.specs.Image.{IsReached, with_seen}
-use Rattle.uni_small.specs.Invariant.{most_calls}
-use Rattle.uni_small.specs.Belongs.{image_of_rows, seen_in}
+use Rattle.uni_small.proofs.Vocabulary.{IsReached, drop, image_of_rows, map, most_calls, seen_in, slice_index, with_seen, ℕ, ◌<◌, ◌≡◌, ◌≤◌}
 use Rattle.uni_small.proofs.log.SmallShared.apply_seen.Given as goal
 
 abbrev pub invariant-loop-r : goal.invariant-loop-r

@@ -1,9 +1,4 @@
-use Rattle.std.proofs.Common.{arith, refl, sym, ap, ◌≡◌, ◌∙◌, ◌+◌, ◌++◌, ◌∷◌, [], List, Option, Some, ℕ, take, set, length, length-take-le, subst}
-use Rattle.std.proofs.Math.Seq.{take-length}
-use Rattle.std.proofs.lemmas.List.{nil_from_length, take_more_set}
-use Rattle.uni_small.specs.View.{Stage}
-use Rattle.uni_small.specs.View.Stage.{Reading}
-use Rattle.uni_small.specs.Standing.{GoesBy}
+use Rattle.uni_small.proofs.Vocabulary.{GoesBy, List, Option, Reading, Some, Stage, [], ap, arith, length, length-take-le, nil_from_length, refl, set, subst, sym, take, take-length, take_more_set, ℕ, ◌++◌, ◌+◌, ◌∙◌, ◌∷◌, ◌≡◌}
 use Rattle.uni_small.proofs.Going.{goes_zero, stage_after, of_after, goes_on}
 use Rattle.uni_small.proofs.log.SmallShared.ask_all.Goals as goal
 

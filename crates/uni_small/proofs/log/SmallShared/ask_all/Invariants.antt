@@ -1,7 +1,4 @@
-use Rattle.std.proofs.Common.{◌≡◌, List, Option, Some, ℕ, [], ◌∷◌, ◌++◌, take}
-use Rattle.uni_small.specs.View.Stage.{Reading}
-use Rattle.uni_small.specs.Plays.{stage_of}
-use Rattle.uni_small.specs.Standing.{GoesBy}
+use Rattle.uni_small.proofs.Vocabulary.{GoesBy, List, Option, Reading, Some, [], stage_of, take, ℕ, ◌++◌, ◌∷◌, ◌≡◌}
 use Rattle.uni_small.proofs.log.SmallShared.ask_all.Given as goal
 
 abbrev pub invariant-loop-k : goal.invariant-loop-k

@@ -1,10 +1,4 @@
-use Rattle.std.proofs.Common.{arith, sym, ◌≡◌, ◌≢◌, ◌∙◌, ◌+◌, [], None, Some, length, refl, slice_index}
-use Rattle.std.proofs.lemmas.Grind.{get_or_default_zero}
-use Rattle.std.proofs.lemmas.List.{length-map}
-use Rattle.uni_small.specs.Image.{buffer_words, spell}
-use Rattle.uni_small.specs.View.Stage.{Last, Reading, Ready, Writing}
-use Rattle.uni_small.specs.Standing.{attempt_steps, local_of}
-use Rattle.uni_small.specs.Belongs.{all_seen, image_in, seen_in}
+use Rattle.uni_small.proofs.Vocabulary.{Last, None, Reading, Ready, Some, Writing, [], all_seen, arith, attempt_steps, buffer_words, get_or_default_zero, image_in, length, length-map, local_of, refl, seen_in, slice_index, spell, sym, ◌+◌, ◌∙◌, ◌≡◌, ◌≢◌}
 use Rattle.uni_small.proofs.Images.{spell-length}
 use Rattle.uni_small.proofs.Rooms.{room_rows, whole_all}
 use Rattle.uni_small.proofs.Going.{stage_after, of_after}

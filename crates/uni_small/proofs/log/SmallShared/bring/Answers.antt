@@ -1,8 +1,4 @@
-use Rattle.std.proofs.Common.{arith, ap, map, sym, refl, ◌≡◌, ◌∙◌, ◌+◌, ◌-◌, ◌*◌, ◌/◌, ◌≤◌, None, Some, slice_index}
-use Rattle.std.proofs.lemmas.List.{with_items_is}
-use Rattle.uni_small.specs.Image.{Image, buffer_words, held_place, spell, with_seen}
-use Rattle.uni_small.specs.Standing.{local_of}
-use Rattle.uni_small.specs.Belongs.{AreBuffers, all_seen, image_in, image_of_rows, seen_in}
+use Rattle.uni_small.proofs.Vocabulary.{AreBuffers, Image, None, Some, all_seen, ap, arith, buffer_words, held_place, image_in, image_of_rows, local_of, map, refl, seen_in, slice_index, spell, sym, with_items_is, with_seen, ◌*◌, ◌+◌, ◌-◌, ◌/◌, ◌∙◌, ◌≡◌, ◌≤◌}
 use Rattle.uni_small.proofs.Going.{writes_stage, writes_of, writes_buffers}
 use Rattle.uni_small.proofs.Ending.{bring_fails, bring_hits, buffers_at_end}
 use Rattle.uni_small.proofs.log.SmallShared.bring.Goals as goal

@@ -1,12 +1,6 @@
-use Rattle.std.proofs.Common.{ℕ, arith, refl, sym, ◌∙◌, ◌+◌, ◌*◌, eqb}
-use mathlib.Core.Option.{none}
-use Rattle.atomic_table.specs.Table.{step}
-use Rattle.uni_small.specs.Plays.{HasBrought}
-use Rattle.uni_small.specs.Laws.{takes_effect}
+use Rattle.uni_small.proofs.Vocabulary.{HasBrought, arith, current_word, either, eqb, none, refl, step, sym, takes_effect, version_in, ℕ, ◌*◌, ◌+◌, ◌∙◌}
 use Rattle.uni_small.proofs.Allowed.{by_key}
 use Rattle.uni_small.proofs.Exchange.{brings_in}
-use prog.Atomic.{either}
-use Rattle.uni_small.specs.Board.{current_word, version_in}
 use Rattle.uni_small.proofs.log.SmallShared.bring_in.Goals as goal
 
 pub compare_exchange-requires : goal.compare_exchange-requires

@@ -1,9 +1,4 @@
-use Rattle.std.proofs.Common.{length, subst, ◌≡◌, List, ℕ, Option}
-use Rattle.atomic_table.specs.Table.{Me}
-use Rattle.uni_small.specs.View.Stage.{Idle}
-use Rattle.uni_small.specs.declared.sizes.Sizes.{Sizes}
-use Rattle.uni_small.specs.declared.view.View.{View}
-use Rattle.uni_small.specs.Standing.{EndsWithin, GoesBy, attempt_steps}
+use Rattle.uni_small.proofs.Vocabulary.{EndsWithin, GoesBy, Idle, List, Me, Option, Sizes, View, attempt_steps, length, subst, ℕ, ◌≡◌}
 use Rattle.uni_small.proofs.Going.{of_after, stage_after}
 use Rattle.uni_small.proofs.Ending.{ends_first, ends_second, ends_last}
 use Rattle.uni_small.proofs.log.SmallShared.call.Goals as goal

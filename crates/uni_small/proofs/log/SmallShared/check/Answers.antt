@@ -1,11 +1,4 @@
-use Rattle.std.proofs.Common.{◌≡◌, Some, ℕ, arith, refl, ◌∙◌, ◌+◌, subst}
-use mathlib.Core.Option.{none}
-use Rattle.atomic_table.specs.Table.{step}
-use Rattle.std.proofs.Common.{length}
-use Rattle.uni_small.specs.Image.{read_image}
-use Rattle.uni_small.specs.View.{goes}
-use Rattle.uni_small.specs.Plays.{HasChecked, IsGood, checked, with_local}
-use Rattle.uni_small.specs.Laws.{nothing}
+use Rattle.uni_small.proofs.Vocabulary.{HasChecked, IsGood, Some, arith, checked, goes, length, none, nothing, read_image, refl, step, subst, with_local, ℕ, ◌+◌, ◌∙◌, ◌≡◌}
 use Rattle.uni_small.proofs.Allowed.{by_key}
 use Rattle.uni_small.proofs.Loads.{checks}
 use Rattle.uni_small.proofs.log.SmallShared.check.Goals as goal

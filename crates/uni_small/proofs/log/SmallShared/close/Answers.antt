@@ -1,6 +1,4 @@
-use Rattle.std.proofs.Common.{◌∙◌, subst}
-use Rattle.std.specs.Mem.Slots.{slots_items}
-use Rattle.uni_small.specs.Rule.{Rule}
+use Rattle.uni_small.proofs.Vocabulary.{Rule, slots_items, subst, ◌∙◌}
 use Rattle.uni_small.proofs.Closing.{closes_alone, named_inside}
 use Rattle.uni_small.proofs.log.SmallShared.close.Goals as goal
 

@@ -1,8 +1,4 @@
-use Rattle.std.proofs.Common.{◌≡◌, ◌∙◌, ◌∷◌, ◌++◌, [], sym, ap, subst, flat_map, Contains, append_assoc, append-nil}
-use Rattle.std.proofs.lemmas.List.Elements.{All-contains, All-head, All-same, All-tail, Contains-append_left, Contains-push}
-use Rattle.std.proofs.lemmas.List.{nil_from_length}
-use Rattle.std.specs.Vec.Iter.{into_iter_items}
-use Rattle.uni_small.specs.Belongs.{IsSeatOf, known_calls}
+use Rattle.uni_small.proofs.Vocabulary.{All-contains, All-head, All-same, All-tail, Contains, Contains-append_left, Contains-push, IsSeatOf, [], ap, append-nil, append_assoc, flat_map, into_iter_items, known_calls, nil_from_length, subst, sym, ◌++◌, ◌∙◌, ◌∷◌, ◌≡◌}
 use Rattle.uni_small.proofs.Closing.{final_of_fewer}
 use Rattle.uni_small.proofs.Seating.{All-each, known_last}
 use Rattle.uni_small.proofs.log.SmallShared.close_all.Goals as goal

@@ -1,7 +1,4 @@
-use Rattle.std.proofs.Common.{All, Contains, ◌++◌, flat_map}
-use Rattle.std.specs.Vec.Iter.{into_iter_items}
-use Rattle.uni_small.specs.Belongs.{IsSeatOf, known_calls}
-use Rattle.uni_small.specs.View.{ProcessReturned}
+use Rattle.uni_small.proofs.Vocabulary.{All, Contains, IsSeatOf, ProcessReturned, flat_map, into_iter_items, known_calls, ◌++◌}
 use Rattle.uni_small.proofs.log.SmallShared.close_all.Given as goal
 
 abbrev pub invariant-loop-seat : goal.invariant-loop-seat

@@ -1,7 +1,4 @@
-use Rattle.std.proofs.Common.{◌∙◌, ◌∷◌, subst}
-use Rattle.std.specs.Mem.Slots.{slots_items}
-use Rattle.uni_small.specs.Final.{IsFinal}
-use Rattle.uni_small.specs.Rule.{Rule}
+use Rattle.uni_small.proofs.Vocabulary.{IsFinal, Rule, slots_items, subst, ◌∙◌, ◌∷◌}
 use Rattle.uni_small.proofs.Closing.{closes_with, named_inside}
 use Rattle.uni_small.proofs.log.SmallShared.close_with.Goals as goal
 

@@ -1,8 +1,4 @@
-use Rattle.std.proofs.Common.{suc, arith, refl, sym, ap, ◌≡◌, ◌∙◌, ◌+◌, ◌++◌, ◌∷◌, [], List, ℕ, take, set, length, append_assoc, append-nil, length-append, length-take-le, subst}
-use Rattle.std.proofs.Math.Seq.{take-suc-set, take-length}
-use Rattle.uni_small.specs.View.{Stage}
-use Rattle.uni_small.specs.View.Stage.{Reading}
-use Rattle.uni_small.specs.Standing.{GoesBy}
+use Rattle.uni_small.proofs.Vocabulary.{GoesBy, List, Reading, Stage, [], ap, append-nil, append_assoc, arith, length, length-append, length-take-le, refl, set, subst, suc, sym, take, take-length, take-suc-set, ℕ, ◌++◌, ◌+◌, ◌∙◌, ◌∷◌, ◌≡◌}
 use Rattle.uni_small.proofs.Going.{goes_zero, stage_after, of_after, goes_on}
 use Rattle.uni_small.proofs.log.SmallShared.copy_row.Goals as goal
 

@@ -1,7 +1,4 @@
-use Rattle.std.proofs.Common.{◌≡◌, List, ℕ, [], ◌++◌, take}
-use Rattle.uni_small.specs.View.Stage.{Reading}
-use Rattle.uni_small.specs.Plays.{stage_of}
-use Rattle.uni_small.specs.Standing.{GoesBy}
+use Rattle.uni_small.proofs.Vocabulary.{GoesBy, List, Reading, [], stage_of, take, ℕ, ◌++◌, ◌≡◌}
 use Rattle.uni_small.proofs.log.SmallShared.copy_row.Given as goal
 
 abbrev pub invariant-loop-i : goal.invariant-loop-i

@@ -1,9 +1,4 @@
-use Rattle.std.proofs.Common.{arith}
-use mathlib.Core.Option.{none}
-use Rattle.atomic_table.specs.Table.{step}
-use Rattle.uni_small.specs.Board.{buffer_word, buffer_in}
-use Rattle.uni_small.specs.Plays.{HasCopied}
-use Rattle.uni_small.specs.Laws.{nothing}
+use Rattle.uni_small.proofs.Vocabulary.{HasCopied, arith, buffer_in, buffer_word, none, nothing, step}
 use Rattle.uni_small.proofs.Allowed.{by_key}
 use Rattle.uni_small.proofs.Loads.{copies}
 use Rattle.uni_small.proofs.Words.{buffer_inside}

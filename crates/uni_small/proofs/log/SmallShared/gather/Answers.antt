@@ -1,9 +1,4 @@
-use Rattle.std.proofs.Common.{arith, map, sym, ap, subst, ◌≡◌, ◌∙◌, ◌+◌, ◌++◌, List, ℕ, [], length, append_assoc, length-append}
-use Rattle.std.proofs.lemmas.List.{with_items_is}
-use Rattle.uni_small.specs.Belongs.{seen_in}
-use Rattle.uni_small.specs.Image.{joined, rows}
-use Rattle.uni_small.specs.View.Stage.{Reading}
-use Rattle.uni_small.specs.Standing.{GoesBy}
+use Rattle.uni_small.proofs.Vocabulary.{GoesBy, List, Reading, [], ap, append_assoc, arith, joined, length, length-append, map, rows, seen_in, subst, sym, with_items_is, ℕ, ◌++◌, ◌+◌, ◌∙◌, ◌≡◌}
 use Rattle.uni_small.proofs.Rows.{joined-rows}
 use Rattle.uni_small.proofs.Going.{stage_after, of_after, goes_more, copied_more}
 use Rattle.uni_small.proofs.log.SmallShared.gather.Goals as goal

@@ -1,10 +1,4 @@
-use Rattle.std.proofs.Common.{arith, length, sym, ◌∙◌}
-use mathlib.Core.Option.{none}
-use Rattle.atomic_table.specs.Table.{step}
-use Rattle.uni_small.specs.Board.{buffer_word, buffer_in}
-use Rattle.uni_small.specs.Image.{reply_place}
-use Rattle.uni_small.specs.Plays.{HasReplied}
-use Rattle.uni_small.specs.Laws.{ends}
+use Rattle.uni_small.proofs.Vocabulary.{HasReplied, arith, buffer_in, buffer_word, ends, length, none, reply_place, step, sym, ◌∙◌}
 use Rattle.uni_small.proofs.Allowed.{by_key}
 use Rattle.uni_small.proofs.Reply.{replies}
 use Rattle.uni_small.proofs.Words.{reply_in_table}

@@ -1,12 +1,4 @@
-use Rattle.std.proofs.Common.{arith, refl, sym, ap, ◌≡◌, ◌∙◌, ◌+◌, ◌-◌, ◌++◌, ◌∷◌, ◌<◌, [], List, ℕ, set, take, length, length-set, length-take-le, subst}
-use Rattle.std.proofs.lemmas.List.{take_all, take_more_set}
-use Rattle.atomic_table.specs.Table.{Me}
-use Rattle.uni_small.specs.Board.{version_in}
-use Rattle.uni_small.specs.View.{returns}
-use Rattle.uni_small.specs.View.Stage.{Last}
-use Rattle.uni_small.specs.Plays.{IsLeft, with_local}
-use Rattle.uni_small.specs.Standing.{GoesBy, ReplyEnds, local_of, went}
-use Rattle.uni_small.specs.declared.view.View.{View}
+use Rattle.uni_small.proofs.Vocabulary.{GoesBy, IsLeft, Last, List, Me, ReplyEnds, View, [], ap, arith, length, length-set, length-take-le, local_of, refl, returns, set, subst, sym, take, take_all, take_more_set, version_in, went, with_local, ℕ, ◌++◌, ◌+◌, ◌-◌, ◌<◌, ◌∙◌, ◌∷◌, ◌≡◌}
 use Rattle.uni_small.proofs.Ending.{left_more}
 use Rattle.uni_small.proofs.Going.{goes_zero, stage_after, of_after, goes_on}
 use Rattle.uni_small.proofs.log.SmallShared.load_reply.Goals as goal

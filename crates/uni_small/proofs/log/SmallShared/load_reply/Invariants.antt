@@ -1,6 +1,4 @@
-use Rattle.std.proofs.Common.{◌≡◌, take}
-use Rattle.uni_small.specs.View.Stage.{Last}
-use Rattle.uni_small.specs.Standing.{GoesBy}
+use Rattle.uni_small.proofs.Vocabulary.{GoesBy, Last, take, ◌≡◌}
 use Rattle.uni_small.proofs.log.SmallShared.load_reply.Given as goal
 
 abbrev pub invariant-loop-k : goal.invariant-loop-k

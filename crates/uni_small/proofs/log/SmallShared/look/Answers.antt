@@ -1,9 +1,4 @@
-use Rattle.std.proofs.Common.{arith}
-use mathlib.Core.Option.{none}
-use Rattle.atomic_table.specs.Table.{step}
-use Rattle.uni_small.specs.Board.{announce_word}
-use Rattle.uni_small.specs.Plays.{HasLooked}
-use Rattle.uni_small.specs.Laws.{nothing}
+use Rattle.uni_small.proofs.Vocabulary.{HasLooked, announce_word, arith, none, nothing, step}
 use Rattle.uni_small.proofs.Allowed.{by_key}
 use Rattle.uni_small.proofs.Loads.{looks}
 use Rattle.uni_small.proofs.log.SmallShared.look.Goals as goal

@@ -1,8 +1,4 @@
-use Rattle.std.proofs.Common.{ℕ, arith, refl}
-use mathlib.Core.Option.{none}
-use Rattle.atomic_table.specs.Table.{step}
-use Rattle.uni_small.specs.Plays.{HasFollowed}
-use Rattle.uni_small.specs.Laws.{nothing}
+use Rattle.uni_small.proofs.Vocabulary.{HasFollowed, arith, none, nothing, refl, step, ℕ}
 use Rattle.uni_small.proofs.Allowed.{by_key}
 use Rattle.uni_small.proofs.Loads.{follows_on}
 use Rattle.uni_small.proofs.log.SmallShared.present.Goals as goal

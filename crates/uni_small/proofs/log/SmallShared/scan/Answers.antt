@@ -1,11 +1,5 @@
-use Rattle.std.proofs.Common.{map, suc-mul, ◌*◌, arith, refl, sym, ap, suc, set, ◌≡◌, ◌∙◌, ◌+◌, ◌++◌, ◌∷◌, List, ℕ, [], length, subst, take, slice_index, length-take-le}
-use Rattle.std.proofs.Math.Seq.{take-length}
-use Rattle.std.proofs.lemmas.List.{get_or_append_left, length-map, map_push, take_more_set}
-use Rattle.std.proofs.lemmas.List.Elements.{All-set}
-use Rattle.uni_small.specs.Belongs.{HasInvocation, seen_in}
+use Rattle.uni_small.proofs.Vocabulary.{All-set, GoesBy, HasInvocation, List, Reading, [], ap, arith, get_or_append_left, length, length-map, length-take-le, map, map_push, refl, seen_in, set, slice_index, subst, suc, suc-mul, sym, take, take-length, take_more_set, ℕ, ◌*◌, ◌++◌, ◌+◌, ◌∙◌, ◌∷◌, ◌≡◌}
 use Rattle.uni_small.proofs.Rooms.{whole_seen}
-use Rattle.uni_small.specs.View.Stage.{Reading}
-use Rattle.uni_small.specs.Standing.{GoesBy}
 use Rattle.uni_small.proofs.Going.{goes_zero, stage_after, of_after, goes_more}
 use Rattle.uni_small.proofs.log.SmallShared.scan.Goals as goal
 

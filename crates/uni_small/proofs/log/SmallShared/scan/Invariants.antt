@@ -1,8 +1,4 @@
-use Rattle.std.proofs.Common.{All, ◌≡◌, List, ℕ, [], ◌*◌, ◌+◌, map, take}
-use Rattle.uni_small.specs.View.Stage.{Reading}
-use Rattle.uni_small.specs.Plays.{stage_of}
-use Rattle.uni_small.specs.Standing.{GoesWithin}
-use Rattle.uni_small.specs.Belongs.{HasInvocation, seen_in}
+use Rattle.uni_small.proofs.Vocabulary.{All, GoesWithin, HasInvocation, List, Reading, [], map, seen_in, stage_of, take, ℕ, ◌*◌, ◌+◌, ◌≡◌}
 use Rattle.uni_small.proofs.log.SmallShared.scan.Given as goal
 
 abbrev pub invariant-loop-r : goal.invariant-loop-r

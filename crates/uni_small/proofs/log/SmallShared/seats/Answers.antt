@@ -1,9 +1,4 @@
-use Rattle.std.proofs.Common.{◌∙◌, rules, refl, ◌+◌, ◌≡◌, ℕ, ◌-◌, arith, sym, ap, subst}
-use Rattle.atomic_table.specs.Table.{Me, Splits}
-use Rattle.uni_small.specs.Plays.{others, first_alone}
-use Rattle.uni_small.specs.Rule.{Rule}
-use Rattle.uni_small.specs.Belongs.{AreBuffers, AreFirstSeats}
-use Rattle.uni_small.specs.declared.view.View.{View}
+use Rattle.uni_small.proofs.Vocabulary.{AreBuffers, AreFirstSeats, Me, Rule, Splits, View, ap, arith, first_alone, others, refl, rules, subst, sym, ℕ, ◌+◌, ◌-◌, ◌∙◌, ◌≡◌}
 use Rattle.uni_small.proofs.Seating.{all_own, one_more}
 use Rattle.uni_small.proofs.Splitting.{splits}
 use Rattle.uni_small.proofs.log.SmallShared.seats.Goals as goal

@@ -1,7 +1,4 @@
-use Rattle.std.proofs.Common.{◌≡◌, ◌-◌, [], Some}
-use Rattle.uni_small.specs.Image.{first_held}
-use Rattle.uni_small.specs.View.{at_rest}
-use Rattle.uni_small.specs.Belongs.{AreFirstSeats}
+use Rattle.uni_small.proofs.Vocabulary.{AreFirstSeats, Some, [], at_rest, first_held, ◌-◌, ◌≡◌}
 use Rattle.uni_small.proofs.log.SmallShared.seats.Given as goal
 
 abbrev pub invariant-loop-p : goal.invariant-loop-p

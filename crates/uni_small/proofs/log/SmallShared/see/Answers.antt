@@ -1,12 +1,5 @@
-use Rattle.std.proofs.Common.{inl, inr, true, false, not, eqb, ◌+◌, arith, refl, sym, ap, ◌≡◌, ◌≢◌, ◌∙◌, ◌++◌, ◌∷◌, List, Option, Some, None, ℕ, [], length, subst, slice_index}
-use Rattle.uni_small.specs.View.Stage.{Reading}
-use Rattle.std.proofs.lemmas.List.{with_items_is}
+use Rattle.uni_small.proofs.Vocabulary.{Goes, GoesBy, List, None, Option, Reading, Seen, Some, [], ap, arith, eqb, false, inl, inr, length, looked, not, number_cases, refl, seen_in, slice_index, subst, sym, true, with_items_is, ℕ, ◌++◌, ◌+◌, ◌∙◌, ◌∷◌, ◌≡◌, ◌≢◌}
 use Rattle.std.specs.Vec.{with_items}
-use Rattle.uni_model.proofs.Written.{number_cases}
-use Rattle.uni_small.specs.Belongs.{seen_in}
-use Rattle.uni_small.specs.Plays.{Goes, looked}
-use Rattle.uni_small.specs.Standing.{GoesBy}
-use Rattle.uni_small.specs.declared.seat.Seen.{Seen}
 use Rattle.uni_small.proofs.Rooms.{seen_due, seen_none}
 use Rattle.uni_small.proofs.Going.{looked_same, looked_other, stage_after, of_after, goes_more}
 use Rattle.uni_small.proofs.log.SmallShared.see.Goals as goal

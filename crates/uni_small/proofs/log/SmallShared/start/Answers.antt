@@ -1,8 +1,4 @@
-use Rattle.std.proofs.Common.{ℕ, arith, refl}
-use mathlib.Core.Option.{none}
-use Rattle.atomic_table.specs.Table.{step}
-use Rattle.uni_small.specs.Plays.{HasStarted}
-use Rattle.uni_small.specs.Laws.{nothing}
+use Rattle.uni_small.proofs.Vocabulary.{HasStarted, arith, none, nothing, refl, step, ℕ}
 use Rattle.uni_small.proofs.Allowed.{by_key}
 use Rattle.uni_small.proofs.Loads.{starts}
 use Rattle.uni_small.proofs.log.SmallShared.start.Goals as goal

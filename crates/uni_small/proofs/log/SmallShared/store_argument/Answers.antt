@@ -1,8 +1,4 @@
-use Rattle.std.proofs.Common.{arith, refl, sym, ap, ◌≡◌, ◌∙◌, ◌+◌, ◌++◌, ◌∷◌, [], take, length, length-take-le, slice_index, subst}
-use Rattle.std.proofs.Math.Seq.{take-length}
-use Rattle.std.proofs.lemmas.List.{take_more}
-use Rattle.uni_small.specs.View.Stage.{Idle}
-use Rattle.uni_small.specs.Standing.{GoesBy}
+use Rattle.uni_small.proofs.Vocabulary.{GoesBy, Idle, [], ap, arith, length, length-take-le, refl, slice_index, subst, sym, take, take-length, take_more, ◌++◌, ◌+◌, ◌∙◌, ◌∷◌, ◌≡◌}
 use Rattle.uni_small.proofs.Going.{goes_zero, stage_after, of_after, goes_on}
 use Rattle.uni_small.proofs.log.SmallShared.store_argument.Goals as goal
 

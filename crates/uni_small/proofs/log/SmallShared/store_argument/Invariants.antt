@@ -1,6 +1,4 @@
-use Rattle.std.proofs.Common.{◌≡◌, take}
-use Rattle.uni_small.specs.View.Stage.{Idle}
-use Rattle.uni_small.specs.Standing.{GoesBy}
+use Rattle.uni_small.proofs.Vocabulary.{GoesBy, Idle, take, ◌≡◌}
 use Rattle.uni_small.proofs.log.SmallShared.store_argument.Given as goal
 
 abbrev pub invariant-loop-k : goal.invariant-loop-k

@@ -1,9 +1,4 @@
-use Rattle.std.proofs.Common.{◌≡◌, ◌∙◌, ℕ, suc, ◌+◌, ◌*◌, ◌++◌, [], List, append-nil, append_assoc, ap, arith, length, replicate, sym, subst}
-use Rattle.atomic_table.specs.Table.{opening}
-use Rattle.uni_small.specs.Board.{words_before}
-use Rattle.uni_small.specs.Image.{first_image, joined, spell}
-use Rattle.uni_small.specs.Plays.{first_view}
-use Rattle.uni_small.specs.Shown.{ShowsBoard}
+use Rattle.uni_small.proofs.Vocabulary.{List, ShowsBoard, [], ap, append-nil, append_assoc, arith, first_image, first_view, joined, length, opening, replicate, spell, subst, suc, sym, words_before, ℕ, ◌*◌, ◌++◌, ◌+◌, ◌∙◌, ◌≡◌}
 use Rattle.uni_small.proofs.Opening.{copies_more, made_length, made_words, opening_shows}
 use Rattle.uni_small.proofs.log.SmallShared.with_one_seat.Goals as goal
 

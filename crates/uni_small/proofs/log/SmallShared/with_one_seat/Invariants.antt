@@ -1,6 +1,4 @@
-use Rattle.std.proofs.Common.{◌≡◌, ◌++◌, replicate}
-use Rattle.uni_small.specs.Image.{joined}
-use Rattle.uni_small.specs.Board.{words_before}
+use Rattle.uni_small.proofs.Vocabulary.{joined, replicate, words_before, ◌++◌, ◌≡◌}
 use Rattle.uni_small.proofs.log.SmallShared.with_one_seat.Given as goal
 
 abbrev pub invariant-loop : goal.invariant-loop

@@ -1,8 +1,4 @@
-use Rattle.std.proofs.Common.{arith, refl, sym, ap, ◌≡◌, ◌∙◌, ◌+◌, ◌-◌, ◌*◌, ◌<◌, ◌++◌, List, ℕ, length, slice_index}
-use Rattle.uni_small.specs.Image.{Image, buffer_words, held_place, spell, with_row, with_seen}
-use Rattle.uni_small.specs.Belongs.{HasRoom, image_in}
-use Rattle.uni_small.specs.declared.seat.Room.{Room}
-use Rattle.uni_small.specs.declared.sizes.Sizes.{Sizes}
+use Rattle.uni_small.proofs.Vocabulary.{HasRoom, Image, List, Room, Sizes, ap, arith, buffer_words, held_place, image_in, length, refl, slice_index, spell, sym, with_row, with_seen, ℕ, ◌*◌, ◌++◌, ◌+◌, ◌-◌, ◌<◌, ◌∙◌, ◌≡◌}
 use Rattle.uni_small.proofs.Going.{writes_stage, writes_of, writes_buffers, writes_more}
 use Rattle.uni_small.proofs.Images.{spell-applied, spell-length}
 use Rattle.uni_small.proofs.Rooms.{room_reply, room_rows, room_spelled, room_state}

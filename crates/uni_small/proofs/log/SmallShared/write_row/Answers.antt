@@ -1,9 +1,6 @@
-use Rattle.std.proofs.Common.{arith, refl, sym, ap, ◌≡◌, ◌∙◌, ◌+◌, ◌*◌, ◌<◌, List, ℕ, length, slice_index, slice_index_or, slice_set, subst, take, take_all}
-use Rattle.std.proofs.lemmas.Grind.{get_or_default_zero}
+use Rattle.uni_small.proofs.Vocabulary.{Buffers, List, WritesWithin, ap, arith, buffer_words, get_or_default_zero, held_place, length, refl, slice_index, slice_index_or, slice_set, subst, sym, take, with_row, ℕ, ◌*◌, ◌+◌, ◌<◌, ◌∙◌, ◌≡◌}
+use Rattle.std.proofs.Common.{take_all}
 use Rattle.atomic_table.specs.declared.shared.Seat.{Seat}
-use Rattle.uni_small.specs.declared.seat.Buffers.{Buffers}
-use Rattle.uni_small.specs.Image.{buffer_words, held_place, with_row}
-use Rattle.uni_small.specs.Standing.{WritesWithin}
 use Rattle.uni_small.proofs.Going.{add_assoc, writes_nothing, writes_one, writes_none}
 use Rattle.uni_small.proofs.Rows.{with_row-length, with_row-more, with_row-same}
 use Rattle.uni_small.proofs.Words.{held_inside}

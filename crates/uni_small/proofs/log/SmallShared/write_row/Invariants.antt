@@ -1,6 +1,4 @@
-use Rattle.std.proofs.Common.{◌≡◌, take}
-use Rattle.uni_small.specs.Image.{held_place, with_row}
-use Rattle.uni_small.specs.Standing.{WritesWithin}
+use Rattle.uni_small.proofs.Vocabulary.{WritesWithin, held_place, take, with_row, ◌≡◌}
 use Rattle.uni_small.proofs.log.SmallShared.write_row.Given as goal
 
 abbrev pub invariant-loop-i : goal.invariant-loop-i

@@ -1,12 +1,4 @@
-use Rattle.std.proofs.Common.{arith, sym, ◌∙◌, ◌+◌, ◌*◌}
-use mathlib.Core.Option.{none}
-use Rattle.atomic_table.specs.Table.{step}
-use Rattle.uni_small.specs.Image.{held_place}
-use Rattle.uni_small.specs.View.{wrote}
-use Rattle.uni_small.specs.Board.{buffer_word}
-use Rattle.uni_small.specs.Plays.{HasWritten, with_local}
-use Rattle.uni_small.specs.Standing.{local_of}
-use Rattle.uni_small.specs.Laws.{nothing}
+use Rattle.uni_small.proofs.Vocabulary.{HasWritten, arith, buffer_word, held_place, local_of, none, nothing, step, sym, with_local, wrote, ◌*◌, ◌+◌, ◌∙◌}
 use Rattle.uni_small.proofs.Allowed.{by_key}
 use Rattle.uni_small.proofs.Stores.{writes}
 use Rattle.uni_small.proofs.Words.{buffer_inside}

@@ -1,7 +1,4 @@
-use Rattle.std.proofs.Common.{arith, sym, subst}
-use Rattle.atomic_table.specs.Table.{Joins}
-use Rattle.uni_small.specs.Plays.{nobody, took_in}
-use Rattle.uni_small.specs.Rule.{Rule}
+use Rattle.uni_small.proofs.Vocabulary.{Joins, Rule, arith, nobody, subst, sym, took_in}
 use Rattle.uni_small.proofs.Joining.{joins}
 use Rattle.uni_small.proofs.seat.SmallSeat.take_in.Goals as goal
 

@@ -1,12 +1,4 @@
-use Rattle.std.proofs.Common.{ℕ, ◌≡◌, ◌∙◌, ◌∷◌, ◌++◌, [], List, sym, subst}
-use Rattle.std.proofs.lemmas.List.Elements.{All-contains, All-head, All-same, All-tail, Contains-append_left, Contains-push}
-use Rattle.std.proofs.lemmas.List.{nil_from_length}
-use Rattle.std.specs.Vec.Iter.{into_iter_items}
-use Rattle.uni_words.specs.Belongs.{IsSeatOf, calls_of, known_calls, log_in}
-use Rattle.uni_words.specs.Log.{IsInOrder, IsLogged}
-use Rattle.uni_words.specs.Run.{HasSeen, run_history}
-use Rattle.uni_model.specs.ProcessCalls.{ProcessCalls, acts_by, sequential_acts}
-use Rattle.uni_words.specs.declared.seat.WordSeat.{WordSeat}
+use Rattle.uni_words.proofs.Vocabulary.{All-contains, All-head, All-same, All-tail, Contains-append_left, Contains-push, HasSeen, IsInOrder, IsLogged, IsSeatOf, List, ProcessCalls, WordSeat, [], acts_by, calls_of, into_iter_items, known_calls, log_in, nil_from_length, run_history, sequential_acts, subst, sym, ℕ, ◌++◌, ◌∙◌, ◌∷◌, ◌≡◌}
 use Rattle.uni_words.proofs.Agreeing.{agrees_all}
 use Rattle.uni_words.proofs.Accounted.{accounted_first, accounted_more, accounted_all, known_calls_of, known_seen}
 use Rattle.uni_words.proofs.Views.{All-each}

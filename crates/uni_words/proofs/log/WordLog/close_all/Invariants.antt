@@ -1,6 +1,4 @@
-use Rattle.std.proofs.Common.{All}
-use Rattle.std.specs.Vec.Iter.{into_iter_items}
-use Rattle.uni_words.specs.Belongs.{IsSeatOf}
+use Rattle.uni_words.proofs.Vocabulary.{All, IsSeatOf, into_iter_items}
 use Rattle.uni_words.proofs.Accounted.{IsAccounted}
 use Rattle.uni_words.proofs.log.WordLog.close_all.Given as goal
 

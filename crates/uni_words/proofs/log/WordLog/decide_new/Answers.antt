@@ -1,6 +1,4 @@
-use Rattle.std.proofs.Common.{◌+◌, ◌*◌, refl, eqb}
-use prog.Atomic.{either}
-use Rattle.uni_words.proofs.Names.{Moved, NewOf, name_of, none, step}
+use Rattle.uni_words.proofs.Vocabulary.{Moved, NewOf, either, eqb, name_of, none, refl, step, ◌*◌, ◌+◌}
 use Rattle.uni_words.proofs.Allowed.{may_step, cell_word, stands_next, goes_one}
 use Rattle.uni_words.proofs.Decides.{decides_word}
 use Rattle.uni_words.proofs.log.WordLog.decide_new.Goals as goal

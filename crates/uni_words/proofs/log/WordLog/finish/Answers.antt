@@ -1,4 +1,4 @@
-use Rattle.uni_words.proofs.Names.{EndsCall, HeadOf, none, step}
+use Rattle.uni_words.proofs.Vocabulary.{EndsCall, HeadOf, none, step}
 use Rattle.uni_words.proofs.Allowed.{may_step, first_word}
 use Rattle.uni_words.proofs.Finishes.{ends}
 use Rattle.uni_words.proofs.log.WordLog.finish.Goals as goal

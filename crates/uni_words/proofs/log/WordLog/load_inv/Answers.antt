@@ -1,5 +1,4 @@
-use Rattle.uni_words.specs.View.Reading.{Invocation}
-use Rattle.uni_words.proofs.Names.{HasLooked, InvOf, name_of}
+use Rattle.uni_words.proofs.Vocabulary.{HasLooked, InvOf, Invocation, name_of}
 use Rattle.uni_words.proofs.Allowed.{may_step, cell_word, stands_still, goes_still, read_is}
 use Rattle.uni_words.proofs.Looks.{looks_inv}
 use Rattle.uni_words.proofs.log.WordLog.load_inv.Goals as goal

@@ -1,4 +1,4 @@
-use Rattle.uni_words.proofs.Names.{NewOf, TellsState, name_of, none, step}
+use Rattle.uni_words.proofs.Vocabulary.{NewOf, TellsState, name_of, none, step}
 use Rattle.uni_words.proofs.Allowed.{may_step, cell_word, stands_still, goes_still, read_is}
 use Rattle.uni_words.proofs.Looks.{told_state}
 use Rattle.uni_words.proofs.log.WordLog.load_new.Goals as goal

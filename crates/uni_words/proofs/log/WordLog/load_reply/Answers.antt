@@ -1,4 +1,4 @@
-use Rattle.uni_words.proofs.Names.{NewOf, TellsReply, name_of, none, step}
+use Rattle.uni_words.proofs.Vocabulary.{NewOf, TellsReply, name_of, none, step}
 use Rattle.uni_words.proofs.Allowed.{may_step, cell_word}
 use Rattle.uni_words.proofs.Finishes.{told_reply}
 use Rattle.uni_words.proofs.log.WordLog.load_reply.Goals as goal

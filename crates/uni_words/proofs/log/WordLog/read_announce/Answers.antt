@@ -1,5 +1,4 @@
-use Rattle.std.proofs.Common.{◌%◌, refl}
-use Rattle.std.proofs.lemmas.Nat.{mod_below}
+use Rattle.uni_words.proofs.Vocabulary.{mod_below, refl, ◌%◌}
 use Rattle.uni_words.proofs.Allowed.{goes_one, may_load, process_word, stands_next, within_here}
 use Rattle.uni_words.proofs.log.WordLog.read_announce.Goals as goal
 

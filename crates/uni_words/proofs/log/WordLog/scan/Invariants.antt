@@ -1,5 +1,4 @@
-use Rattle.std.proofs.Common.{◌≡◌, ◌*◌}
-use Rattle.uni_words.specs.Standing.{GetsOn, GoesBy, IsAtStage, cell_at, head_at, scan_stage}
+use Rattle.uni_words.proofs.Vocabulary.{GetsOn, GoesBy, IsAtStage, cell_at, head_at, scan_stage, ◌*◌, ◌≡◌}
 use Rattle.uni_words.proofs.log.WordLog.scan.Given as goal
 
 abbrev pub invariant-loop-q : goal.invariant-loop-q

@@ -1,7 +1,4 @@
-use Rattle.std.proofs.Common.{rules, refl, ◌+◌, ◌≡◌, ℕ, ◌-◌, arith, sym, ap, subst}
-use Rattle.uni_words.proofs.Names.{Me, Splits, View, first_alone, others}
-use Rattle.uni_words.specs.Rule.{Rule}
-use Rattle.uni_words.specs.Belongs.{AreFirstSeats}
+use Rattle.uni_words.proofs.Vocabulary.{AreFirstSeats, Me, Rule, Splits, View, ap, arith, first_alone, others, refl, rules, subst, sym, ℕ, ◌+◌, ◌-◌, ◌≡◌}
 use Rattle.uni_words.proofs.Seating.{all_own, one_more}
 use Rattle.uni_words.proofs.Splitting.{splits}
 use Rattle.uni_words.proofs.log.WordLog.seats.Goals as goal

@@ -1,5 +1,4 @@
-use Rattle.std.proofs.Common.{◌∙◌, ◌+◌, ◌*◌, arith, ap}
-use Rattle.uni_words.proofs.Names.{HasBegun, InvOf, Of, none, step}
+use Rattle.uni_words.proofs.Vocabulary.{HasBegun, InvOf, Of, ap, arith, none, step, ◌*◌, ◌+◌, ◌∙◌}
 use Rattle.uni_words.proofs.Allowed.{may_step, called_word, stands_begun}
 use Rattle.uni_words.proofs.Begins.{begins}
 use Rattle.uni_words.proofs.log.WordLog.store_inv.Goals as goal

@@ -1,6 +1,4 @@
-use Rattle.std.proofs.Common.{◌≡◌, ◌+◌, ◌*◌, ◌≤◌}
-use Rattle.uni_words.specs.Standing.{GetsOn, GoesBy, IsAtStage, cell_at, head_at}
-use Rattle.uni_model.specs.Stages.Stage.{Test}
+use Rattle.uni_words.proofs.Vocabulary.{GetsOn, GoesBy, IsAtStage, Test, cell_at, head_at, ◌*◌, ◌+◌, ◌≡◌, ◌≤◌}
 use Rattle.uni_words.proofs.log.WordLog.turns.Given as goal
 
 abbrev pub invariant-loop-turns : goal.invariant-loop-turns

@@ -1,5 +1,4 @@
-use Rattle.std.proofs.Common.{◌≡◌, ℕ, [], List, arith, sym, subst, ◌∙◌}
-use Rattle.uni_words.proofs.Names.{ShowsRun, first_view, first_words, opening}
+use Rattle.uni_words.proofs.Vocabulary.{List, ShowsRun, [], arith, first_view, first_words, opening, subst, sym, ℕ, ◌∙◌, ◌≡◌}
 use Rattle.uni_words.proofs.Opening.{opening_shows, words_made}
 use Rattle.uni_words.proofs.log.WordLog.with_one_seat.Goals as goal
 

@@ -1,6 +1,4 @@
-use Rattle.std.proofs.Common.{◌≡◌, ◌∙◌, ap, arith, refl, subst, Some}
-use Rattle.uni_words.proofs.Names.{HasAsked, Of, SeqOf, name_of, none, step, word_of}
-use Rattle.uni_model.proofs.Indices.{name_of-index_of}
+use Rattle.uni_words.proofs.Vocabulary.{HasAsked, Of, SeqOf, Some, ap, arith, name_of, name_of-index_of, none, refl, step, subst, word_of, ◌∙◌, ◌≡◌}
 use Rattle.uni_words.proofs.Allowed.{may_step, cell_word}
 use Rattle.uni_words.proofs.Asking.{asks}
 use Rattle.uni_words.proofs.seat.WordSeat.follows.Goals as goal

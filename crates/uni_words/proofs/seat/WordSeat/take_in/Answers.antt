@@ -1,6 +1,4 @@
-use Rattle.std.proofs.Common.{sym, subst, arith}
-use Rattle.uni_words.proofs.Names.{Joins, nobody, took_in}
-use Rattle.uni_words.specs.Rule.{Rule}
+use Rattle.uni_words.proofs.Vocabulary.{Joins, Rule, arith, nobody, subst, sym, took_in}
 use Rattle.uni_words.proofs.Joining.{joins}
 use Rattle.uni_words.proofs.seat.WordSeat.take_in.Goals as goal
 

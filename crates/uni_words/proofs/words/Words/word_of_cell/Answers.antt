@@ -1,5 +1,4 @@
-use Rattle.std.proofs.Common.{◌+◌, ◌*◌, sym, ap, ◌∙◌, slice_index}
-use Rattle.uni_words.specs.Belongs.{words_in}
+use Rattle.uni_words.proofs.Vocabulary.{ap, slice_index, sym, words_in, ◌*◌, ◌+◌, ◌∙◌}
 use Rattle.uni_words.proofs.Reading.{slice_index-get, start_of-cells}
 use Rattle.uni_words.proofs.words.Words.word_of_cell.Goals as goal
 

@@ -1,20 +1,10 @@
 -- A handle may go to another thread: what it owns is a box of what may, and the right to free it by any thread.
 use mir.Raw.{raw as bare}
-use base.Fraction.{full_share}
-use base.Shift.{Keyless}
-use denote.RattleType.{RattleType}
-use denote.Memory.{lone}
-use denote.Param.Send.{AllSend, IsSend, owning_send, part_keyless, sendable, struct_send}
-use denote.RawPtr.{Ptr, block_ptr, null_ptr}
+use Rattle.universal_c.proofs.Vocabulary.{AllSend, Global, IsSend, Keyless, Option, Ptr, RattleType, block_ptr, exits_of, full_share, lone, null_ptr, owned, owning_send, part_keyless, quiet, sendable, struct_send}
 use denote.Struct.Owning.{fields, shape, to}
-use denote.Struct.Struct.{exits_of}
-use Rattle.std.specs.declared.alloc.Global.{Global}
-use Rattle.std.specs.declared.option.Option.{Option}
 use Rattle.std.proofs.alloc.Global.TheSendSync as global
 use Rattle.std.proofs.Crossing.{frees}
-use Rattle.std_alloc.proofs.SendSync.{quiet}
 use Rattle.universal_c.proofs.Sent.{held_send}
-use Rattle.universal_c.specs.Owned.{owned}
 use Rattle.universal_c.specs.contracts.handle.Handle.{the_row, the_type}
 
 owned_keyless : (R : RattleType) → IsSend R → (heap : Global) (p : Ptr) (value : Option R.Denot) → Keyless (owned R heap p value)

@@ -1,28 +1,7 @@
 -- `empty`: null, beside the allocator.
-use Rattle.std.proofs.Common.{◌≡◌, List, [], ◌∷◌, ◌++◌, refl, sym, subst}
-use mir.Val.{Val}
-use base.Logic.{SProp, ent, emp, id⊢}
-use base.Fml.{ftrue}
-use prog.Wp.{WpFn}
-use types.Kit.{‵, raw, ◌⊛◌, ◌$◌, ◌∵◌, !, qed, by, move, keep, split, fsplit, fjoin, fpack, suffices, use0, rewrite}
-use types.Run.{lit, no_more, and_then, returns, enter}
-use types.ByLocal.{alloc_all, pass_all, free_all, look_at, get, sets}
-use types.Part.{agg}
-use contract.Monad.{fact, fact_i}
-use contract.Running.{tables}
-use denote.Exit.{yes}
-use denote.RattleType.{RattleType, owns}
-use denote.Signature.{types_at, plain}
-use denote.RawPtr.{null_ptr}
-use denote.Steps.{nothing}
-use denote.Param.{layout}
-use denote.Triple.Entry.{alive}
-use denote.Triple.Walked.{Stays, stay_dropped, walk_of, Goes-dropped}
-use Rattle.core.proofs.cell.Inside.{one}
-use Rattle.std.proofs.raw_atomic.Walks.{proved_at, leaves}
+use Rattle.universal_c.proofs.Vocabulary.{!, Goes-dropped, List, None, RattleType, SProp, Stays, Val, WpFn, [], agg, alive, alloc_all, and_then, by, emp, ent, enter, fact, fact_i, fjoin, fpack, free_all, fsplit, ftrue, get, id⊢, keep, layout, leaves, lit, look_at, move, no_more, nothing, null_ptr, one, owns, pass_all, plain, proved_at, qed, raw, refl, returns, rewrite, sets, split, stay_dropped, subst, suffices, sym, tables, types_at, use0, walk_of, yes, ‵, ◌$◌, ◌++◌, ◌∵◌, ◌∷◌, ◌≡◌, ◌⊛◌}
 use Rattle.std.specs.contracts.alloc.Global as global
 use Rattle.std.proofs.alloc.Global.TheLaws as global_laws
-use Rattle.std.specs.declared.option.Option.TheVariants.{None}
 use Rattle.universal_c.proofs.Pointers.{fields_in, fits_at, pointing}
 use Rattle.universal_c.specs.contracts.handle.Handle as handle
 use Rattle.universal_c.specs.contracts.handle.Handle.empty.{ended, clauses}

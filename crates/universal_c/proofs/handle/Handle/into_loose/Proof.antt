@@ -1,33 +1,10 @@
 -- `into_loose`: the pointer is null where the handle owns nothing, and else that of its box.
-use Rattle.std.proofs.Common.{◌≡◌, List, [], ◌∷◌, ◌++◌, refl, sym, subst, lit<}
-use mir.Val.{Val, vcons, vnil}
-use base.Logic.{SProp, ent, emp, id⊢}
-use prog.Wp.{WpFn}
-use types.Kit.{‵, raw, ◌⊛◌, at_ret, ◌$◌, ◌∵◌, !, qed, by, move, keep, split, fsplit, fjoin, suffices, use0, use1}
-use types.Run.{stop, fld, lit, of_opd, bin, no_more, and_then, first, branches, exec, returns, enter}
-use types.ByLocal.{alloc_all, pass_all, free_all, look_at, get, get_in, sets, sets_last, env}
-use types.Part.{agg, sub, whole}
+use Rattle.universal_c.proofs.Vocabulary.{!, Goes-dropped, Good, List, None, Ptr, Ptr-Good, RattleType, SProp, Some, Stays, Val, WpFn, [], after, agg, alive, alloc_all, and_then, and_tt, at_ret, bin, block_ptr, branches, by, emp, ent, enter, env, exec, fact, fact_i, first, fjoin, fld, free_all, fsplit, get, get_in, ghosts, id⊢, keep, layout, leaves, lit, look_at, move, no_more, nothing, null_ptr, of_opd, owns, pass_all, plain, proved_at, qed, raw, refl, returns, sets, sets_last, split, stay_dropped, stop, sub, subst, suffices, sym, tables, tests_null, type_at, types_at, use0, use1, vcons, vnil, walk_of, whole, yes, ‵, ◌$◌, ◌++◌, ◌∵◌, ◌∷◌, ◌≡◌, ◌⊛◌}
+use Rattle.std.proofs.Common.{lit<}
 use types.Match.{live}
-use contract.Monad.{fact, fact_i}
-use contract.Running.{tables}
-use denote.Exit.{yes}
-use denote.RattleType.{RattleType, owns}
-use denote.Signature.{types_at, type_at, plain}
-use denote.RawPtr.{Ptr, block_ptr, null_ptr, tests_null}
-use denote.Steps.{nothing}
-use denote.Param.{layout}
-use denote.Triple.Entry.{alive}
-use denote.Triple.Walked.{Stays, stay_dropped, walk_of, Goes-dropped}
-use Rattle.core.proofs.alloc.Shapes.{after}
-use Rattle.core.proofs.atomic.Steps.{Ptr-Good}
-use Rattle.core.proofs.cell.Inside.{Good}
 use Rattle.core.proofs.option.Made.{Some-of, none_of}
-use Rattle.std_alloc.proofs.ResultValues.{and_tt}
-use Rattle.std.proofs.raw_atomic.Walks.{proved_at, leaves}
 use Rattle.std.specs.contracts.alloc.Global as global
 use Rattle.std.proofs.alloc.Global.TheLaws as global_laws
-use Rattle.std.specs.contracts.impls.GlobalAllocator.TheImpl.{ghosts}
-use Rattle.std.specs.declared.option.Option.TheVariants.{None, Some}
 use Rattle.universal_c.proofs.Places.{by_place}
 use Rattle.universal_c.proofs.Pointers.{fields_in, fields_out, fits_at, pointing}
 use Rattle.universal_c.specs.contracts.held.Held as held

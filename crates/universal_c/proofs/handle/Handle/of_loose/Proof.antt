@@ -1,31 +1,8 @@
 -- `of_loose`: the same pointer, and what it owned.
-use Rattle.std.proofs.Common.{◌≡◌, List, [], ◌∷◌, ◌++◌, refl, sym, subst}
+use Rattle.universal_c.proofs.Vocabulary.{!, Goes-dropped, List, Ptr, RattleType, SProp, Some, Stays, Val, WpFn, [], agg, alive, alloc_all, and_then, block_ptr, boxed, by, emp, ent, enter, fact, fact_i, fex, fjoin, fld, fpack, free_all, fsep, fsplit, fst∗, ftrue, get, get_in, ghosts, id⊢, in_a_block, keep, leaves, lone, look_at, move, never, no_more, nothing, null_ptr, of_opd, owns, pass_all, plain, proved_at, qed, raw, refl, returns, sem, sets, split, stay_dropped, stop, sub, subst, suffices, sym, tables, types_at, use0, walk_of, whole, yes, ‵, ◌$◌, ◌++◌, ◌∵◌, ◌∷◌, ◌≡◌, ◌⊛◌}
 use mir.Raw.{raw as bare}
-use mir.Val.{Val}
-use base.Logic.{SProp, ent, emp, never, id⊢, fst∗}
-use base.Fml.{ftrue, fsep, fex}
-use prog.Wp.{WpFn}
-use types.Logic.{sem}
-use types.Kit.{‵, raw, ◌⊛◌, ◌$◌, ◌∵◌, !, qed, by, move, keep, split, fsplit, fjoin, fpack, suffices, use0}
-use types.Run.{stop, fld, of_opd, no_more, and_then, returns, enter}
-use types.ByLocal.{alloc_all, pass_all, free_all, look_at, get, get_in, sets}
-use types.Part.{agg, sub, whole}
-use contract.Monad.{fact, fact_i}
-use contract.Running.{tables}
-use denote.Exit.{yes}
-use denote.RattleType.{RattleType, owns}
-use denote.Signature.{types_at, plain}
-use denote.Memory.{lone}
-use denote.RawPtr.{Ptr, block_ptr, null_ptr, in_a_block}
-use denote.Steps.{nothing}
-use denote.Triple.Entry.{alive}
-use denote.Triple.Walked.{Stays, stay_dropped, walk_of, Goes-dropped}
-use Rattle.std.proofs.raw_atomic.Walks.{proved_at, leaves}
 use Rattle.std.specs.contracts.alloc.Global as global
 use Rattle.std.proofs.alloc.Global.TheLaws as global_laws
-use Rattle.std.specs.contracts.impls.GlobalAllocator.TheImpl.{ghosts}
-use Rattle.std.specs.declared.option.Option.TheVariants.{Some}
-use Rattle.universal_c.specs.Owned.{boxed}
 use Rattle.universal_c.proofs.Pointers.{fields_in, fields_out, fits_at, pointing}
 use Rattle.universal_c.specs.contracts.held.Held as held
 use Rattle.universal_c.specs.contracts.loose.Loose as loose

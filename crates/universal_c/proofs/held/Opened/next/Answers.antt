@@ -1,7 +1,4 @@
-use Rattle.std.proofs.Common.{◌∙◌, sym, subst, vec_len}
-use Rattle.std.specs.Option.{option_to_list}
-use Rattle.uni_words.specs.Belongs.{IsSeatOf}
-use Rattle.uni_words.specs.declared.log.WordLog.{WordLog}
+use Rattle.universal_c.proofs.Vocabulary.{IsSeatOf, WordLog, option_to_list, subst, sym, vec_len, ◌∙◌}
 use Rattle.universal_c.specs.declared.object.Object.{Object}
 use Rattle.universal_c.proofs.Seats.{prefix, the_last}
 use Rattle.universal_c.proofs.held.Opened.next.Goals as goal

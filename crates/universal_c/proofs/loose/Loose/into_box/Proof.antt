@@ -1,39 +1,9 @@
 -- `into_box`: what the struct owns is the box's again.
-use Rattle.std.proofs.Common.{◌≡◌, List, [], ◌∷◌, ◌++◌, refl, sym, ap, subst}
-use mir.Syntax.{a_type, dcons, dnil}
+use Rattle.universal_c.proofs.Vocabulary.{!, Goes-blank, Good, List, Ptr, RattleType, SProp, Stays, Val, WpFn, [], a_type, after, alloc_all, and_then, ap, at_ret, await, block_ptr, blocks, bounded, box_in, box_out, box_owns, by, calls_at_last, dcons, dnil, drop, ent, enter, env, exec, fact, feq_i, first, fjoin, fld, flft, fm, free_all, fsplit, fst∗, ftrue, get, get_in, id⊢, in_a_block, inst_fn, join, keep, lands_last, later, layout, leaves, look_at, move, never, no, no_more, nothing, null_ptr, of_opd, only, owns, param, param_laws, pass_all, pick, plain, proved_at, qed, raw, refl, returns, rewrite, sem, sets, some, split, split3, stay_dropped, stop, sub, subst, suffices, sym, tables, triple_of, types_at, use1, vptr, walk_of, whole, ‵, ◌$◌, ◌++◌, ◌∵◌, ◌∷◌, ◌≡◌, ◌⊛◌}
 use mir.Raw.{raw as bare}
-use mir.Val.{Val, vptr}
-use mir.MapTy.{inst_fn}
-use base.Logic.{SProp, ent, never, id⊢, fst∗}
-use base.Fml.{ftrue, flft}
-use prog.Wp.{WpFn}
-use types.Logic.{sem}
-use types.Kit.{‵, raw, ◌⊛◌, some, later, at_ret, ◌$◌, ◌∵◌, !, qed, by, move, keep, drop, split, split3, join, fsplit, fjoin, pick, suffices, use1, await, rewrite, feq_i}
-use types.Run.{stop, fld, of_opd, no_more, and_then, first, blocks, exec, returns, enter}
-use types.ByLocal.{alloc_all, pass_all, free_all, look_at, get, get_in, sets, lands_last, env}
-use types.Part.{sub, whole}
-use contract.Monad.{fact}
 use contract.BorrowLft.{◌⊑◌}
-use contract.Running.{tables}
-use denote.Exit.{no}
-use denote.RattleType.{RattleType, owns}
-use denote.Signature.{types_at, plain}
-use denote.RawPtr.{Ptr, block_ptr, null_ptr, in_a_block}
-use denote.Steps.{nothing, only}
-use denote.Param.{param, layout, bounded}
-use denote.Param.Laws.{param_laws}
 use denote.Triple.Clauses.{Lasts, lasts}
-use denote.Triple.Spec.{triple_of}
-use denote.Triple.Call.{calls_at_last}
-use denote.Triple.Walked.{Stays, stay_dropped, walk_of}
-use Rattle.core.proofs.alloc.Calls.{Goes-blank}
-use Rattle.core.proofs.alloc.Shapes.{after}
-use Rattle.core.proofs.atomic.Steps.{fm}
-use Rattle.core.proofs.cell.Inside.{Good}
-use Rattle.std.proofs.raw_atomic.Walks.{proved_at, leaves}
-use Rattle.std_alloc.specs.Box.Ownership.{box_owns}
 use Rattle.std_alloc.proofs.BoxSteps.Form as box
-use Rattle.std_alloc.proofs.BoxSteps.Steps.{box_out, box_in}
 use Rattle.std_alloc.specs.contracts.boxed.Box.from_raw as made
 use Rattle.std_alloc.proofs.boxed.Box.from_raw.Met.{met}
 use Rattle.universal_c.proofs.Pointers.{fields_out, fits_at, pointing}

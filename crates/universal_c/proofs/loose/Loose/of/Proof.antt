@@ -1,37 +1,8 @@
 -- `of`: what the box owned goes into the struct with its pointer.
-use Rattle.std.proofs.Common.{◌≡◌, ◌∙◌, List, [], ◌∷◌, ◌++◌, refl, sym, ap, subst}
-use mir.Syntax.{a_type, dcons, dnil}
+use Rattle.universal_c.proofs.Vocabulary.{!, Goes-blank, List, Ptr, RattleType, RawPtr, SProp, Stays, Val, WpFn, [], a_type, agg, alloc_all, and_then, ap, await, block_ptr, bounded, box_in, box_out, box_owns, by, calls_at, dcons, dnil, drop, emp, ent, enter, fact, fact_i, fjoin, fld, flft, fm, free_all, fsep, fsplit, fst∗, ftrue, get, get_in, heard, id⊢, in_a_block, inst_fn, join, keep, lands_as, later, layout, leaves, look_at, move, never, no, no_more, nothing, null_ptr, of_opd, only, owns, param, param_laws, pass_all, pick, plain, proved_at, qed, raw, refl, returns, rewrite, sem, sets, some, split, split3, stay_dropped, stop, sub, subst, suffices, sym, tables, triple_of, types_at, use0, use1, walk_of, whole, ‵, ◌$◌, ◌++◌, ◌∙◌, ◌∵◌, ◌∷◌, ◌≡◌, ◌⊛◌}
 use mir.Raw.{raw as bare}
-use mir.Val.{Val}
-use mir.MapTy.{inst_fn}
-use base.Logic.{SProp, ent, emp, never, id⊢, fst∗}
-use base.Fml.{ftrue, fsep, flft}
-use prog.Wp.{WpFn}
-use types.Logic.{sem}
-use types.Kit.{‵, raw, ◌⊛◌, some, later, ◌$◌, ◌∵◌, !, qed, by, move, keep, drop, split, split3, join, fsplit, fjoin, pick, suffices, use0, use1, await, rewrite}
-use types.Run.{stop, fld, of_opd, no_more, and_then, returns, enter}
-use types.ByLocal.{alloc_all, pass_all, free_all, look_at, get, get_in, sets, lands_as}
-use types.Part.{agg, sub, whole}
-use contract.Monad.{fact, fact_i}
-use contract.Running.{tables}
-use denote.Exit.{no}
-use denote.RattleType.{RattleType, owns}
-use denote.Signature.{types_at, plain}
-use denote.Builtin.{RawPtr}
-use denote.RawPtr.{Ptr, block_ptr, null_ptr, in_a_block}
-use denote.Steps.{nothing, only, heard}
-use denote.Param.{param, layout, bounded}
-use denote.Param.Laws.{param_laws}
 use denote.Struct.Tuple.{Tuple}
-use denote.Triple.Spec.{triple_of}
-use denote.Triple.Call.{calls_at}
-use denote.Triple.Walked.{Stays, stay_dropped, walk_of}
-use Rattle.core.proofs.alloc.Calls.{Goes-blank}
-use Rattle.core.proofs.atomic.Steps.{fm}
-use Rattle.std.proofs.raw_atomic.Walks.{proved_at, leaves}
-use Rattle.std_alloc.specs.Box.Ownership.{box_owns}
 use Rattle.std_alloc.proofs.BoxSteps.Form as box
-use Rattle.std_alloc.proofs.BoxSteps.Steps.{box_out, box_in}
 use Rattle.std_alloc.specs.contracts.boxed.Box.into_raw_with_allocator as taken
 use Rattle.std_alloc.proofs.boxed.Box.into_raw_with_allocator.Met.{met}
 use Rattle.universal_c.proofs.Pointers.{fields_in, fields_out, fits_at, pointing}

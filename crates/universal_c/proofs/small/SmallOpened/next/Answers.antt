@@ -1,7 +1,5 @@
-use Rattle.std.proofs.Common.{◌∙◌, sym, subst, vec_len}
-use Rattle.std.specs.Option.{option_to_list}
+use Rattle.universal_c.proofs.Vocabulary.{SmallShared, option_to_list, subst, sym, vec_len, ◌∙◌}
 use Rattle.uni_small.specs.Belongs.{IsSeatOf}
-use Rattle.uni_small.specs.declared.log.SmallShared.{SmallShared}
 use Rattle.universal_c.specs.declared.small_kind.SmallKind.{SmallKind}
 use Rattle.universal_c.proofs.Seats.{prefix_small, the_last_small}
 use Rattle.universal_c.proofs.small.SmallOpened.next.Goals as goal
