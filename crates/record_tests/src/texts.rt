@@ -5,7 +5,9 @@ use std::alloc::Global;
 use std::fmt;
 use std::io::Write;
 use std::process::Abort;
-use uni_core::{BeginFault, OpenFault, Refusal as CommandFault, ReshapeFault, StepFault, TrimFault};
+use uni_core::{
+    BeginFault, OpenFault, Refusal as CommandFault, ReshapeFault, StepFault, TrimFault,
+};
 use uni_record::{
     RecordBeginFault, RecordOpenFault, RecordReshapeFault, RecordStepFault, RecordTrimFault,
     Refusal,

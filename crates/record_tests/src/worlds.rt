@@ -10,8 +10,8 @@ use std::alloc::Global;
 use std::process::Abort;
 use std::test::Fail;
 use uni_core::{
-    BeginFault, Command, OpenFault, Outcome, Place, Refusal, ReshapeFault, StepKind, TrimFault, World,
-    reshape, trim,
+    BeginFault, Command, OpenFault, Outcome, Place, Refusal, ReshapeFault, StepKind, TrimFault,
+    World, reshape, trim,
 };
 
 /// Why no world is opened from this number, if none is.

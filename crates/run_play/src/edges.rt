@@ -11,11 +11,11 @@ ghost use Rattle.run_replay.specs.Frames.{frame_of};
 ghost use Rattle.run_replay.specs.ScenesShown.{begun_shown, frame_shown, step_shown};
 ghost use Rattle.run_play.specs.Edges.{begun_text, beside_text, edge_text, frame_text, step_text, AreEdges};
 
-use run_tell::{Member, Value, push_object, push_text_or_null};
 use ready_objects::Spoken;
 use run_graph::{Graph, Plan, keep_world, no_worlds, take_world};
 use run_layout::letter_of;
 use run_replay::{Begun, Frame, Step, begun_of, cell_text, step_of};
+use run_tell::{Member, Value, push_object, push_text_or_null};
 use std::alloc::{AllocError, Global};
 use uni_core::World;
 

@@ -16,9 +16,9 @@ use crate::edges::edge_texts;
 use crate::fault::{PlayFault, of_graph};
 use crate::plan::{has_one_era, plan_of};
 use crate::viewer::{END, START};
-use run_tell::{Member, Value, push_list, push_object};
 use ready_objects::Spoken;
 use run_graph::{Plan, explore};
+use run_tell::{Member, Value, push_list, push_object};
 use std::alloc::{AllocError, Global};
 use uni_record::Recorded;
 use uni_script::{

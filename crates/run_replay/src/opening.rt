@@ -12,7 +12,11 @@ use uni_record::Recorded;
 /// The world in which a record opened, over this object.
 ///
 /// An `Err` says that it couldn't be opened.
-pub(crate) fn reopened<O: Spoken>(alloc: Global, object: O, run: &Recorded<O>) -> Result<World<O>, AllocError>
+pub(crate) fn reopened<O: Spoken>(
+    alloc: Global,
+    object: O,
+    run: &Recorded<O>,
+) -> Result<World<O>, AllocError>
     ensures object { IfOk result (λ replay. replay.object ≡ object) }
     ensures world { IfOk result (λ replay. world_of replay
         ≡ opened_world run.now.processes (O.sequential object).initial run.now.first) }

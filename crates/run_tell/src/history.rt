@@ -8,10 +8,10 @@ ghost use Rattle.run_layout.specs.Subject.{HasTooManyEvents};
 ghost use Rattle.run_tell.specs.History.{IsHistory};
 
 use crate::history_lines::{push_observed, push_opening_line};
-use run_layout::PictureFault;
 use crate::opened::Opened;
 use crate::order::Telling;
 use crate::told::told_of;
+use run_layout::PictureFault;
 use run_replay::Scene;
 use std::alloc::{AllocError, Global};
 use uni_script::{PlacedRemark, TextIn};

@@ -11,10 +11,10 @@ ghost use Rattle.run_tell.specs.Told.{IsLinearizableSession};
 ghost use Rattle.run_tell.specs.Page.{IsPage, escaped, escaped_byte, page_between, page_text};
 
 use crate::rows::InRows;
-use crate::viewer::{END, MIDDLE, START};
-use crate::trace::InJson;
-use run_layout::PictureFault;
 use crate::told::trace_of_script;
+use crate::trace::InJson;
+use crate::viewer::{END, MIDDLE, START};
+use run_layout::PictureFault;
 use std::alloc::{AllocError, Global};
 use uni_script::{Options, ScriptRecord, ScriptRun, TextIn, run_of_script};
 

@@ -7,11 +7,13 @@ ghost use Rattle.run_replay.specs.ScenesShown.{begun_shown, change_shown, end_sh
 ghost use Rattle.run_tell.specs.Rows.{begun_cells, cell, changed_words, end_cells, frame_cells};
 ghost use Rattle.run_tell.specs.Rows.{reply_words, row_text, stage_words, step_cells, told_cells};
 
-use run_layout::{letter_of, name_of, push_counted};
-use crate::sentences::{opening_words, push_begun_sentence, push_end_sentence, push_step_sentence, remark_words};
-use crate::step_lines::push_change_words;
 use crate::opened::Opened;
 use crate::order::Telling;
+use crate::sentences::{
+    opening_words, push_begun_sentence, push_end_sentence, push_step_sentence, remark_words,
+};
+use crate::step_lines::push_change_words;
+use run_layout::{letter_of, name_of, push_counted};
 use run_replay::{Begun, Change, EndedEra, Frame, Scene, Step, cell_text, changes_of};
 use std::alloc::{AllocError, Global};
 use std::io::Write;

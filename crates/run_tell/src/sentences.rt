@@ -10,9 +10,9 @@ ghost use Rattle.run_tell.specs.Sentences.{number_words, opening_words, outcome_
 ghost use Rattle.run_tell.specs.Sentences.{proposed_words, refused_words, remark_words, reply_words, return_words};
 ghost use Rattle.run_tell.specs.Sentences.{role_of, sentence, spent_words, step_words};
 
-use run_layout::{letter_of, push_counted, refused_text};
 use crate::access::access_of;
 use crate::opened::Opened;
+use run_layout::{letter_of, push_counted, refused_text};
 use run_replay::{Begun, Change, EndedEra, Field, Held, Step, cell_text};
 use std::alloc::{AllocError, Global};
 use std::io::Write;

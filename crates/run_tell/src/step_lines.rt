@@ -8,9 +8,9 @@ ghost use Rattle.run_tell.specs.Opened.{opening_shown};
 ghost use Rattle.run_tell.specs.Sentences.{broken, change_words, changes_text, frame_text, indented, line_text};
 ghost use Rattle.run_tell.specs.Sentences.{opening_words, remark_words};
 
+use crate::opened::Opened;
 use crate::sentences::{begun_words, end_words, opening_words, remark_words, step_words};
 use run_layout::push_lines;
-use crate::opened::Opened;
 use run_replay::{Begun, Change, Frame, Step, changes_of};
 use std::alloc::{AllocError, Global};
 use uni_script::PlacedRemark;

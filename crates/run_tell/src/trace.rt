@@ -7,11 +7,11 @@ ghost use Rattle.uni_script.specs.declared.fault.BenchFault.{BenchFault as Fault
 ghost use Rattle.run_layout.specs.Subject.{HasTooManyEvents};
 ghost use Rattle.run_tell.specs.Trace.{IsTrace, IsWholeTrace};
 
-use crate::trace_lines::{push_opening_line, push_remark_line, push_scene_line};
-use run_layout::PictureFault;
 use crate::opened::Opened;
 use crate::order::Telling;
 use crate::told::told_of;
+use crate::trace_lines::{push_opening_line, push_remark_line, push_scene_line};
+use run_layout::PictureFault;
 use run_replay::Scene;
 use std::alloc::{AllocError, Global};
 use uni_script::{PlacedRemark, TextIn};

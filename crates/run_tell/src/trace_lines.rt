@@ -11,13 +11,13 @@ ghost use Rattle.run_tell.specs.TraceMembers.{opening_members, refusal_members, 
 ghost use Rattle.run_tell.specs.TraceMembers.{step_start};
 ghost use Rattle.run_tell.specs.Opened.{opening_shown};
 
+use crate::access::access_of;
+use crate::json::{push_members, push_more_members, push_object};
+use crate::opened::Opened;
 use crate::trace_members::{change_list, letter_text, next_letter, proposed_json, text_or_null};
 use crate::trace_memory::push_memory;
-use crate::json::{push_members, push_more_members, push_object};
 use crate::value::{Member, Value};
 use run_layout::{lane_of, meaning_of, refusal_of};
-use crate::access::access_of;
-use crate::opened::Opened;
 use run_replay::{Begun, EndedEra, Frame, Scene, Step, cell_text};
 use std::alloc::{AllocError, Global};
 use uni_script::{PlacedRemark, Refusal, Remark};

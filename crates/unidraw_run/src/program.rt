@@ -12,10 +12,10 @@ ghost use Rattle.unidraw_run.specs.Statuses.{IsStatusOfPicture, TellsPictureFaul
 
 use crate::words::{read_words, tip_for};
 use command_line::answer_words;
-use run_tell::{history_of, json_of, page_of, steps_of, whole_json_of};
 use run_layout::{PictureFault, Range};
 use run_lines::lines_of;
 use run_picture::picture_of;
+use run_tell::{history_of, json_of, page_of, steps_of, whole_json_of};
 use script_advice::{KeepsText, report_explained};
 use std::alloc::Global;
 use std::convert::AsStr;

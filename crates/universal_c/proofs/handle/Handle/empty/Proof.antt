@@ -1,5 +1,5 @@
 -- `empty`: null, beside the allocator.
-use Rattle.universal_c.proofs.Vocabulary.{!, Goes-dropped, List, None, RattleType, SProp, Stays, Val, WpFn, [], agg, alive, alloc_all, and_then, by, emp, ent, enter, fact, fact_i, fjoin, fpack, free_all, fsplit, ftrue, get, id⊢, keep, layout, leaves, lit, look_at, move, no_more, nothing, null_ptr, one, owns, pass_all, plain, proved_at, qed, raw, refl, returns, rewrite, sets, split, stay_dropped, subst, suffices, sym, tables, types_at, use0, walk_of, yes, ‵, ◌$◌, ◌++◌, ◌∵◌, ◌∷◌, ◌≡◌, ◌⊛◌}
+use Rattle.universal_c.proofs.Vocabulary.{ !, Goes-dropped, List, None, RattleType, SProp, Stays, Val, WpFn, [], agg, alive, alloc_all, and_then, by, emp, ent, enter, fact, fact_i, fjoin, fpack, free_all, fsplit, ftrue, get, id⊢, keep, layout, leaves, lit, look_at, move, no_more, nothing, null_ptr, one, owns, pass_all, plain, proved_at, qed, raw, refl, returns, rewrite, sets, split, stay_dropped, subst, suffices, sym, tables, types_at, use0, walk_of, yes, ‵, ◌$◌, ◌++◌, ◌∵◌, ◌∷◌, ◌≡◌, ◌⊛◌}
 use Rattle.std.specs.contracts.alloc.Global as global
 use Rattle.std.proofs.alloc.Global.TheLaws as global_laws
 use Rattle.universal_c.proofs.Pointers.{fields_in, fits_at, pointing}

@@ -1,5 +1,5 @@
 -- `into_loose`: the pointer is null where the handle owns nothing, and else that of its box.
-use Rattle.universal_c.proofs.Vocabulary.{!, Goes-dropped, Good, List, None, Ptr, Ptr-Good, RattleType, SProp, Some, Stays, Val, WpFn, [], after, agg, alive, alloc_all, and_then, and_tt, at_ret, bin, block_ptr, branches, by, emp, ent, enter, env, exec, fact, fact_i, first, fjoin, fld, free_all, fsplit, get, get_in, ghosts, id⊢, keep, layout, leaves, lit, look_at, move, no_more, nothing, null_ptr, of_opd, owns, pass_all, plain, proved_at, qed, raw, refl, returns, sets, sets_last, split, stay_dropped, stop, sub, subst, suffices, sym, tables, tests_null, type_at, types_at, use0, use1, vcons, vnil, walk_of, whole, yes, ‵, ◌$◌, ◌++◌, ◌∵◌, ◌∷◌, ◌≡◌, ◌⊛◌}
+use Rattle.universal_c.proofs.Vocabulary.{ !, Goes-dropped, Good, List, None, Ptr, Ptr-Good, RattleType, SProp, Some, Stays, Val, WpFn, [], after, agg, alive, alloc_all, and_then, and_tt, at_ret, bin, block_ptr, branches, by, emp, ent, enter, env, exec, fact, fact_i, first, fjoin, fld, free_all, fsplit, get, get_in, ghosts, id⊢, keep, layout, leaves, lit, look_at, move, no_more, nothing, null_ptr, of_opd, owns, pass_all, plain, proved_at, qed, raw, refl, returns, sets, sets_last, split, stay_dropped, stop, sub, subst, suffices, sym, tables, tests_null, type_at, types_at, use0, use1, vcons, vnil, walk_of, whole, yes, ‵, ◌$◌, ◌++◌, ◌∵◌, ◌∷◌, ◌≡◌, ◌⊛◌}
 use Rattle.std.proofs.Common.{lit<}
 use types.Match.{live}
 use Rattle.core.proofs.option.Made.{Some-of, none_of}

@@ -1,5 +1,5 @@
 -- `of_loose`: the same pointer, and what it owned.
-use Rattle.universal_c.proofs.Vocabulary.{!, Goes-dropped, List, Ptr, RattleType, SProp, Some, Stays, Val, WpFn, [], agg, alive, alloc_all, and_then, block_ptr, boxed, by, emp, ent, enter, fact, fact_i, fex, fjoin, fld, fpack, free_all, fsep, fsplit, fst∗, ftrue, get, get_in, ghosts, id⊢, in_a_block, keep, leaves, lone, look_at, move, never, no_more, nothing, null_ptr, of_opd, owns, pass_all, plain, proved_at, qed, raw, refl, returns, sem, sets, split, stay_dropped, stop, sub, subst, suffices, sym, tables, types_at, use0, walk_of, whole, yes, ‵, ◌$◌, ◌++◌, ◌∵◌, ◌∷◌, ◌≡◌, ◌⊛◌}
+use Rattle.universal_c.proofs.Vocabulary.{ !, Goes-dropped, List, Ptr, RattleType, SProp, Some, Stays, Val, WpFn, [], agg, alive, alloc_all, and_then, block_ptr, boxed, by, emp, ent, enter, fact, fact_i, fex, fjoin, fld, fpack, free_all, fsep, fsplit, fst∗, ftrue, get, get_in, ghosts, id⊢, in_a_block, keep, leaves, lone, look_at, move, never, no_more, nothing, null_ptr, of_opd, owns, pass_all, plain, proved_at, qed, raw, refl, returns, sem, sets, split, stay_dropped, stop, sub, subst, suffices, sym, tables, types_at, use0, walk_of, whole, yes, ‵, ◌$◌, ◌++◌, ◌∵◌, ◌∷◌, ◌≡◌, ◌⊛◌}
 use mir.Raw.{raw as bare}
 use Rattle.std.specs.contracts.alloc.Global as global
 use Rattle.std.proofs.alloc.Global.TheLaws as global_laws

@@ -1,5 +1,5 @@
 -- `into_box`: what the struct owns is the box's again.
-use Rattle.universal_c.proofs.Vocabulary.{!, Goes-blank, Good, List, Ptr, RattleType, SProp, Stays, Val, WpFn, [], a_type, after, alloc_all, and_then, ap, at_ret, await, block_ptr, blocks, bounded, box_in, box_out, box_owns, by, calls_at_last, dcons, dnil, drop, ent, enter, env, exec, fact, feq_i, first, fjoin, fld, flft, fm, free_all, fsplit, fst∗, ftrue, get, get_in, id⊢, in_a_block, inst_fn, join, keep, lands_last, later, layout, leaves, look_at, move, never, no, no_more, nothing, null_ptr, of_opd, only, owns, param, param_laws, pass_all, pick, plain, proved_at, qed, raw, refl, returns, rewrite, sem, sets, some, split, split3, stay_dropped, stop, sub, subst, suffices, sym, tables, triple_of, types_at, use1, vptr, walk_of, whole, ‵, ◌$◌, ◌++◌, ◌∵◌, ◌∷◌, ◌≡◌, ◌⊛◌}
+use Rattle.universal_c.proofs.Vocabulary.{ !, Goes-blank, Good, List, Ptr, RattleType, SProp, Stays, Val, WpFn, [], a_type, after, alloc_all, and_then, ap, at_ret, await, block_ptr, blocks, bounded, box_in, box_out, box_owns, by, calls_at_last, dcons, dnil, drop, ent, enter, env, exec, fact, feq_i, first, fjoin, fld, flft, fm, free_all, fsplit, fst∗, ftrue, get, get_in, id⊢, in_a_block, inst_fn, join, keep, lands_last, later, layout, leaves, look_at, move, never, no, no_more, nothing, null_ptr, of_opd, only, owns, param, param_laws, pass_all, pick, plain, proved_at, qed, raw, refl, returns, rewrite, sem, sets, some, split, split3, stay_dropped, stop, sub, subst, suffices, sym, tables, triple_of, types_at, use1, vptr, walk_of, whole, ‵, ◌$◌, ◌++◌, ◌∵◌, ◌∷◌, ◌≡◌, ◌⊛◌}
 use mir.Raw.{raw as bare}
 use contract.BorrowLft.{◌⊑◌}
 use denote.Triple.Clauses.{Lasts, lasts}
