@@ -1,20 +1,30 @@
 -- What a machine means, and what can be wrong with its tables.
-use Rattle.std.specs.Prelude.{◌≡◌, ℕ, ◌+◌, ◌-◌, ◌*◌, ◌^◌, ◌==◌, nat_lt, nat_le, min, if◌then◌else◌, List}
+use Rattle.std.specs.Prelude.{◌≡◌, ℕ, ◌+◌, ◌-◌, ◌*◌, ◌^◌, ◌==◌, nat_lt, nat_le, min, if◌then◌else◌}
 use Rattle.std.specs.Prelude.{[], ◌∷◌, length, slice_index, position, Option, Some, None, option_map, refl}
 use Rattle.std.specs.Option.{option_or}
 use Rattle.seq_object.specs.Sequential.{Sequential}
+use Rattle.uni_small.specs.Image.{Meaning}
+use Rattle.small_objects.specs.Encoding.{encoded, first_word, of_one_word, one_word}
 use Rattle.word_objects.specs.Tables.{Tables}
 use Rattle.word_objects.specs.declared.machine.MachineFault.{MachineFault}
 use Rattle.word_objects.specs.declared.machine.MachineFault.TheVariants.{BadStates, NoInvocation, NextSize, ReplySize, NextOutside}
 use Rattle.word_objects.specs.declared.machine.MachineFault.TheVariants.{ReplyOutside}
 
--- the entry of a state and an invocation; an invocation past the table is the last one
-abbrev pub entry : (invocations : ℕ) (table : List ℕ) (state inv : ℕ) → ℕ
-entry invocations table state inv = slice_index table (state * invocations + min inv (invocations - 1))
+-- where the entry of a state and an invocation is; an invocation past the table is the last one
+abbrev pub place : Tables → (state inv : ℕ) → ℕ
+place t state inv = state * t.invocations + min inv (t.invocations - 1)
 
 -- the object of the tables: it starts in state 0
 abbrev pub machine : Tables → Sequential ℕ ℕ ℕ
-machine t = record { initial = 0; next = entry t.invocations t.next; answer = entry t.invocations t.reply }
+machine t = record {
+  initial = 0;
+  next = λ state inv. slice_index t.next (place t state inv);
+  answer = λ state inv. slice_index t.reply (place t state inv);
+}
+
+-- the machine whose states, invocations and replies are one word each
+abbrev pub small_machine : Tables → Meaning
+small_machine t = of_one_word (encoded (machine t) one_word first_word)
 
 -- the first entry that is wrong: of the next states one that is no state, and then of the replies one that isn't below 2^31
 abbrev pub entry_fault : Tables → Option MachineFault
@@ -50,6 +60,12 @@ switch-past = refl
 
 switch-reply : (machine switch).answer 1 9 ≡ 1
 switch-reply = refl
+
+switch-words : (small_machine switch).object.next (1 ∷ []) (9 ∷ []) ≡ 0 ∷ []
+switch-words = refl
+
+switch-reply-words : (small_machine switch).object.answer (1 ∷ []) (9 ∷ []) ≡ 1 ∷ []
+switch-reply-words = refl
 
 -- a table of next states with a row too few, and one that leads to a state that isn't there
 short-next : machine_fault (record switch { next = 0 ∷ 1 ∷ [] }) ≡ Some NextSize

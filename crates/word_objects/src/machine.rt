@@ -1,8 +1,8 @@
 //! Any object of finitely many states, by its tables.
 
-ghost use Rattle.std.specs.Prelude.{◌≡◌, ◌+◌, ◌-◌, ◌*◌, ◌^◌, ◌<◌, min, nat_le, position};
+ghost use Rattle.std.specs.Prelude.{◌≡◌, ◌^◌, ◌<◌, nat_le, position};
 ghost use Rattle.std.specs.Prelude.{IfErr, IfNone, IfOk, OnOk};
-ghost use Rattle.word_objects.specs.Machine.{machine, machine_fault};
+ghost use Rattle.word_objects.specs.Machine.{machine, machine_fault, place};
 ghost use Rattle.word_objects.specs.Tables.{AreSound};
 
 use std::marker::Model;
@@ -45,7 +45,7 @@ pub enum MachineFault {
 /// invocation `i` is at `s * invocations + i`: a table has a row for each state.
 #[derive(Drop)]
 pub struct WordMachine {
-    states: u32,
+    pub(crate) states: u32,
     invocations: u32,
     next: Vec<u32>,
     reply: Vec<u32>,
@@ -167,7 +167,7 @@ impl WordMachine {
     /// The index of the entry of a state and an invocation.
     fn index_of(&self, state: u32, inv: u64) -> usize
         requires { state < 2 ^ 31 }
-        ensures { result ≡ state * self.now.invocations + min inv (self.now.invocations - 1) }
+        ensures { result ≡ place self.now state inv }
     {
         let row = state as u64 * self.invocations as u64;
         (row + inv.min(self.invocations as u64 - 1)) as usize
