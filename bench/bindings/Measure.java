@@ -5,7 +5,7 @@ import java.util.concurrent.CyclicBarrier;
 import java.util.concurrent.locks.ReentrantLock;
 import universal.Small;
 
-/** Calls on a shared counter or queue by the Java classes: Measure OBJECT FORM N K R, as in small.c. */
+/** Calls on a shared counter or queue by the Java classes: Measure OBJECT FORM N K R, as in measure.c. */
 public final class Measure {
     private static final int CAPACITY = 64;
 

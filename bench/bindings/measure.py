@@ -1,4 +1,4 @@
-"""Calls on a shared counter or queue by the Python package: small.py OBJECT FORM N K R, as in small.c."""
+"""Calls on a shared counter or queue by the Python package: measure.py OBJECT FORM N K R, as in measure.c."""
 
 import collections
 import sys
