@@ -13,8 +13,9 @@ use Rattle.small_objects.specs.Padded.{length-padded}
 use Rattle.small_objects.specs.Queue.{queue, queue_steady}
 use Rattle.small_objects.specs.Register.{spelled as register}
 use Rattle.small_objects.specs.Stack.{stack, stack_steady}
+use Rattle.word_objects.specs.Machine.{small_machine}
 use Rattle.universal_c.specs.declared.small_kind.SmallKind.{SmallKind}
-use Rattle.universal_c.specs.declared.small_kind.SmallKind.TheVariants.{Counter, Register, Counters, Queue, Stack, Map, Book}
+use Rattle.universal_c.specs.declared.small_kind.SmallKind.TheVariants.{Book, Counter, Counters, Machine, Map, Queue, Register, Stack}
 
 abbrev pub small_meaning : SmallKind → Meaning
 small_meaning Counter = of_one_word counter
@@ -24,6 +25,7 @@ small_meaning (Queue q) = of_one_word (queue q.capacity)
 small_meaning (Stack s) = of_one_word (stack s.capacity)
 small_meaning (Map m) = map m.capacity
 small_meaning Book = book
+small_meaning (Machine tables) = small_machine tables
 
 -- how many words a state has
 abbrev pub state_words : SmallKind → ℕ
@@ -34,6 +36,7 @@ state_words (Queue q) = q.capacity + 1
 state_words (Stack s) = s.capacity + 1
 state_words (Map m) = 2 * m.capacity + 1
 state_words Book = 16
+state_words (Machine tables) = 1
 
 -- the numbers of processes and words of an object of this kind that n processes share
 abbrev pub small_sizes : SmallKind → (n : ℕ) → Sizes
@@ -52,6 +55,7 @@ state_long (Queue q) = let e = length-padded q.capacity [] in omega arith
 state_long (Stack s) = let e = length-padded s.capacity [] in omega arith
 state_long (Map m) = let e = length-padded (2 * m.capacity) [] in omega arith
 state_long Book = refl
+state_long (Machine tables) = refl
 
 -- all states have as many words, and all replies
 pub small_steady : (kind : SmallKind) → IsSteady (small_meaning kind).object (small_meaning kind).reply
@@ -62,3 +66,4 @@ small_steady (Queue q) = λ state inv long. (queue_steady q.capacity state (firs
 small_steady (Stack s) = λ state inv long. (stack_steady s.capacity state (first_word inv) long, refl)
 small_steady (Map m) = map_steady m.capacity
 small_steady Book = book_steady
+small_steady (Machine tables) = λ state inv long. (refl, refl)

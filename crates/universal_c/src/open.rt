@@ -111,20 +111,20 @@ fn size_fault(n: u64, k: u64) -> Option<u32>
 }
 
 /// The machine of two tables, which are copied. Error: memory was refused.
-fn machine_of(
+pub(crate) fn machine_of(
     alloc: Global,
     states: u32,
     invocations: u32,
     next: &[u32],
     reply: &[u32],
-) -> Result<Object, AllocError>
+) -> Result<WordMachine, AllocError>
     requires { machine_fault (tables_of states invocations next.now reply.now) ≡ None }
-    ensures { IfOk result (λ object. object ≡ Machine (tables_of states invocations next.now reply.now)) }
+    ensures { IfOk result (λ machine. machine ≡ tables_of states invocations next.now reply.now) }
 {
     let next = Vec::from_slice(alloc, next)?;
     let reply = Vec::from_slice(alloc, reply)?;
     match WordMachine::new(states, invocations, next, reply) {
-        Ok(machine) => Ok(Object::Machine(machine)),
+        Ok(machine) => Ok(machine),
         Err(_) => unreachable!(),
     }
 }
@@ -159,7 +159,7 @@ pub extern "C" fn universal_open_machine(
         return status;
     }
     match machine_of(alloc, states, invocations, next, reply) {
-        Ok(machine) => open(alloc, machine, n, k, log),
+        Ok(machine) => open(alloc, Object::Machine(machine), n, k, log),
         Err(_) => MEMORY,
     }
 }

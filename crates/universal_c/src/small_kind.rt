@@ -6,9 +6,10 @@ use small_objects::{
     SmallBook, SmallCounter, SmallCounters, SmallMap, SmallQueue, SmallRegister, SmallStack,
 };
 use uni_small::SmallObject;
+use word_objects::WordMachine;
 
 /// A small object, by its kind.
-#[derive(Clone, Copy, Debug, Drop)]
+#[derive(Drop)]
 pub enum SmallKind {
     /// A counter of 64 bits.
     Counter,
@@ -24,6 +25,8 @@ pub enum SmallKind {
     Map(SmallMap),
     /// A book of sixteen accounts.
     Book,
+    /// An object of finitely many states, by its tables.
+    Machine(WordMachine),
 }
 
 #[tactic(auto, using(crate::specs::SmallMeaning::state_long))]
@@ -39,6 +42,7 @@ impl SmallObject for SmallKind {
             SmallKind::Stack(stack) => stack.width(),
             SmallKind::Map(map) => map.width(),
             SmallKind::Book => SmallBook.width(),
+            SmallKind::Machine(machine) => machine.width(),
         }
     }
 
@@ -51,6 +55,7 @@ impl SmallObject for SmallKind {
             SmallKind::Stack(stack) => stack.invocation_width(),
             SmallKind::Map(map) => map.invocation_width(),
             SmallKind::Book => SmallBook.invocation_width(),
+            SmallKind::Machine(machine) => machine.invocation_width(),
         }
     }
 
@@ -63,6 +68,7 @@ impl SmallObject for SmallKind {
             SmallKind::Stack(stack) => stack.reply_width(),
             SmallKind::Map(map) => map.reply_width(),
             SmallKind::Book => SmallBook.reply_width(),
+            SmallKind::Machine(machine) => machine.reply_width(),
         }
     }
 
@@ -75,6 +81,7 @@ impl SmallObject for SmallKind {
             SmallKind::Stack(stack) => stack.start(state),
             SmallKind::Map(map) => map.start(state),
             SmallKind::Book => SmallBook.start(state),
+            SmallKind::Machine(machine) => machine.start(state),
         }
     }
 
@@ -87,6 +94,7 @@ impl SmallObject for SmallKind {
             SmallKind::Stack(stack) => stack.apply(state, invocation, reply),
             SmallKind::Map(map) => map.apply(state, invocation, reply),
             SmallKind::Book => SmallBook.apply(state, invocation, reply),
+            SmallKind::Machine(machine) => machine.apply(state, invocation, reply),
         }
     }
 

@@ -1,19 +1,24 @@
 //! Opening a small object.
-ghost use Rattle.std.specs.Prelude.{◌≡◌, ◌≢◌, ◌↔◌, ◌⊎◌, ◌<◌, ◌≤◌};
+ghost use Rattle.std.specs.Prelude.{IsSome, ◌≡◌, ◌≢◌, ◌↔◌, ◌⊎◌, ◌<◌, ◌≤◌};
+ghost use Rattle.std.specs.declared.option.Option.TheVariants.{None};
+ghost use Rattle.word_objects.specs.Machine.{machine_fault};
+ghost use Rattle.universal_c.specs.Meaning.{tables_of};
 ghost use Rattle.universal_c.specs.SmallCalls.{HasOpenedSmall};
 ghost use Rattle.universal_c.specs.SmallMeaning.{state_words};
-ghost use Rattle.universal_c.specs.declared.small_kind.SmallKind.TheVariants.{Book, Counter, Counters, Map};
-ghost use Rattle.universal_c.specs.declared.small_kind.SmallKind.TheVariants.{Queue, Register, Stack};
+ghost use Rattle.universal_c.specs.declared.small_kind.SmallKind.TheVariants.{Book, Counter, Counters, Machine};
+ghost use Rattle.universal_c.specs.declared.small_kind.SmallKind.TheVariants.{Map, Queue, Register, Stack};
 
 use crate::handle::Handle;
 use crate::held::Held;
-use crate::open::put;
+use crate::open::{machine_of, put};
 use crate::small::SmallOpened;
 use crate::small_kind::SmallKind;
-use crate::status::{BAD_CAPACITY, BAD_COUNT, MEMORY};
+use crate::status::{BAD_CAPACITY, BAD_COUNT, BAD_TABLE, MEMORY};
 use small_objects::{SmallCounters, SmallMap, SmallQueue, SmallStack};
 use std::alloc::Global;
+use uni_model::MAX_PROCESSES;
 use uni_small::SmallOpenFault;
+use word_objects::table_fault;
 
 /// Opens a small object of this kind, with the statuses of `universal_open_queue`.
 fn open(alloc: Global, kind: SmallKind, n: u64, object: &mut Handle) -> u32
@@ -142,4 +147,36 @@ pub extern "C" fn universal_open_map(
     ensures opened { result ≡ 0 → HasOpenedSmall object.new.value (Map (record { capacity = capacity })) n }
 {
     open(alloc, SmallKind::Map(SmallMap { capacity }), n, object)
+}
+
+/// Opens the machine of two tables, which are copied.
+/// 8: the tables are wrong. Else the statuses are those of `universal_open_counter`.
+#[unsafe(no_mangle)]
+pub extern "C" fn universal_open_small_machine(
+    alloc: Global,
+    n: u64,
+    states: u32,
+    invocations: u32,
+    next: &[u32],
+    reply: &[u32],
+    object: &mut Handle,
+) -> u32
+    ensures table { (result ≡ 8) ↔ IsSome (machine_fault (tables_of states invocations next.now reply.now)) }
+    ensures count { (result ≡ 1) ↔
+        ((machine_fault (tables_of states invocations next.now reply.now) ≡ None) × ((n ≡ 0) ⊎ (64 < n))) }
+    ensures status { (result ≡ 0) ⊎ (result ≡ 1) ⊎ (result ≡ 3) ⊎ (result ≡ 8) }
+    ensures unchanged { result ≢ 0 → object.new ≡ object.old }
+    ensures opened { result ≡ 0 →
+        HasOpenedSmall object.new.value (Machine (tables_of states invocations next.now reply.now)) n }
+{
+    if table_fault(states, invocations, next, reply).is_some() {
+        return BAD_TABLE;
+    }
+    if n < 1 || n > MAX_PROCESSES {
+        return BAD_COUNT;
+    }
+    match machine_of(alloc, states, invocations, next, reply) {
+        Ok(machine) => open(alloc, SmallKind::Machine(machine), n, object),
+        Err(_) => MEMORY,
+    }
 }
