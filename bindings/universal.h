@@ -3,8 +3,8 @@
  * has the reply that it was given.
  *
  * n processes share an object, from 1 to 64. Each has a seat, by which it makes its calls. There are two kinds:
- *   - a small object: a counter, a register, an array of counters, a queue, a stack, a map, or a book of accounts, on words
- *     of 64 bits. Its seats make calls without end, and it keeps no history.
+ *   - a small object: a counter, a register, an array of counters, a queue, a stack, a map, a book of accounts, or a machine
+ *     of two tables, on words of 64 bits. Its seats make calls without end, and it keeps no history.
  *   - a log: a tally, a sticky register, a register, or a machine of two tables, on words of 31 bits. A seat makes up to k
  *     calls, at most 4,096, and the closed log tells all of them in their order.
  *
@@ -102,6 +102,7 @@ static inline const char *universal_strerror(uint32_t status) {
  * stack        1            1       1 + capacity: how many numbers, and then they, the newest last
  * map          3            2       1 + 2 * capacity: how many keys, and then each with its value, the oldest key first
  * book         4            2       16: the balances
+ * machine      1            1       1
  *
  * Where a state has W words, an invocation I and a reply R, a call takes at most 4W + (6 + 2I + 4R)n + I + R + 8 steps on
  * shared words.
@@ -184,6 +185,19 @@ enum {
     UNIVERSAL_BOOK_MOVED = 3,
     UNIVERSAL_BOOK_SUM = 4
 };
+
+/* Opens the machine of two tables, which are copied. Its states are the numbers below `states`, of which 0 is the start; its
+ * invocations are those below `invocations`, and each greater one is the last of them. In state s a call of invocation i is
+ * answered reply[s * invocations + i], and next[s * invocations + i] is the state after it.
+ *
+ * UNIVERSAL_BAD_TABLE: states isn't from 1 to 2^31; or invocations is 0; or a table hasn't states * invocations entries;
+ * or an entry of `next` isn't below states; or one of `reply` isn't below 2^31. Then come the statuses of
+ * universal_open_counter. After each *object is as it was. */
+uint32_t universal_open_small_machine(uint64_t n, uint32_t states, uint32_t invocations, const uint32_t *next,
+                                      size_t next_count, const uint32_t *reply, size_t reply_count,
+                                      universal_handle *object);
+
+#define UNIVERSAL_MACHINE_CALL(invocation) {(uint64_t)(invocation)}
 
 /* Gives out the next seat of a small object: that of the greatest process that has none yet. *process is which it is. What
  * *seat had before is dropped. A seat may be used, and closed, after the object's own handle is dropped.
@@ -271,13 +285,8 @@ uint32_t universal_open_register(uint64_t n, uint64_t k, universal_handle *log);
 #define UNIVERSAL_COMPARE_EXCHANGE(expected, value) \
     (((((uint64_t)1 << 31) + UNIVERSAL_31_BITS(expected)) << 31) + UNIVERSAL_31_BITS(value))
 
-/* Opens a log of the machine of two tables, which are copied. Its states are the numbers below `states`, of which 0 is
- * the start; its invocations are those below `invocations`, and each greater inv is the last of them. In state s a call
- * of inv i is answered reply[s * invocations + i], and next[s * invocations + i] is the state after it.
- *
- * UNIVERSAL_BAD_TABLE: states isn't from 1 to 2^31; or invocations is 0; or a table hasn't states * invocations entries;
- * or an entry of `next` isn't below states; or one of `reply` isn't below 2^31. Then come the statuses of
- * universal_open_tally. After each *log is as it was. */
+/* Opens a log of a machine of two tables, as universal_open_small_machine does. UNIVERSAL_BAD_TABLE comes before the
+ * statuses of universal_open_tally. After each *log is as it was. */
 uint32_t universal_open_machine(uint64_t n, uint64_t k, uint32_t states, uint32_t invocations, const uint32_t *next,
                                 size_t next_count, const uint32_t *reply, size_t reply_count, universal_handle *log);
 

@@ -87,6 +87,18 @@ static void use_small(uint32_t (*open)(universal_handle *)) {
     expect(asked == before, "calls and closing take no memory");
 }
 
+/* Opening alone. */
+static void opens(uint32_t (*open)(universal_handle *)) {
+    universal_handle object = UNIVERSAL_NONE;
+    uint32_t status = open(&object);
+    if (status == UNIVERSAL_MEMORY) {
+        expect(object.at == NULL, "the handle is as it was");
+        status = open(&object);
+    }
+    expect(status == UNIVERSAL_DONE, "an object opens");
+    universal_drop(&object);
+}
+
 static uint32_t map(universal_handle *object) {
     return universal_open_map(2, 3, object);
 }
@@ -98,6 +110,11 @@ static uint32_t tally(universal_handle *log) {
 static uint32_t machine(universal_handle *log) {
     const uint32_t next[] = {0, 1, 1, 0}, reply[] = {0, 0, 1, 1};
     return universal_open_machine(2, 3, 2, 2, next, 4, reply, 4, log);
+}
+
+static uint32_t small_machine(universal_handle *object) {
+    const uint32_t next[] = {0, 1, 1, 0}, reply[] = {0, 0, 1, 1};
+    return universal_open_small_machine(2, 2, 2, next, 4, reply, 4, object);
 }
 
 static long each(void (*run)(uint32_t (*)(universal_handle *)), uint32_t (*open)(universal_handle *)) {
@@ -118,7 +135,8 @@ int main(void) {
     expect(universal_open_machine(2, 3, 2, 2, outside, 4, outside, 4, &log) == UNIVERSAL_BAD_TABLE && asked == 0,
            "bad tables are told before memory is asked for");
     long of_tally = each(use, tally), of_machine = each(use, machine), of_map = each(use_small, map);
-    expect(of_tally > 0 && of_machine > of_tally && of_map > 0, "there were allocations to refuse");
-    printf("refused: %ld, %ld and %ld allocations, each in turn\n", of_tally, of_machine, of_map);
+    long of_small_machine = each(opens, small_machine);
+    expect(of_tally > 0 && of_machine > of_tally && of_map > 0 && of_small_machine > 2, "there were allocations to refuse");
+    printf("refused: %ld, %ld, %ld and %ld allocations, each in turn\n", of_tally, of_machine, of_map, of_small_machine);
     return 0;
 }

@@ -133,6 +133,31 @@ static void book(void) {
     closes(&seat, state, 16);
 }
 
+/* A switch: 0 asks, and each greater invocation turns it over. */
+static void machine(void) {
+    uint32_t next[] = {0, 1, 1, 0}, told[] = {0, 0, 1, 1}, past[] = {0, 1, 2, 0}, high[] = {0, 0, 1, 1u << 31};
+    universal_handle object = UNIVERSAL_NONE, seat;
+    IS(universal_open_small_machine(1, 0, 2, next, 4, told, 4, &object), UNIVERSAL_BAD_TABLE);
+    IS(universal_open_small_machine(1, 2, 0, next, 4, told, 4, &object), UNIVERSAL_BAD_TABLE);
+    IS(universal_open_small_machine(1, 2, 2, next, 3, told, 4, &object), UNIVERSAL_BAD_TABLE);
+    IS(universal_open_small_machine(1, 2, 2, next, 4, told, 0, &object), UNIVERSAL_BAD_TABLE);
+    IS(universal_open_small_machine(1, 2, 2, past, 4, told, 4, &object), UNIVERSAL_BAD_TABLE);
+    IS(universal_open_small_machine(0, 2, 2, next, 4, high, 4, &object), UNIVERSAL_BAD_TABLE);
+    IS(universal_open_small_machine(0, 2, 2, next, 4, told, 4, &object), UNIVERSAL_BAD_COUNT);
+    IS(universal_open_small_machine(65, 2, 2, next, 4, told, 4, &object), UNIVERSAL_BAD_COUNT);
+    IS(object.at != NULL, 0);
+    IS(universal_open_small_machine(1, 2, 2, next, 4, told, 4, &object), UNIVERSAL_DONE);
+    memset(next, 255, sizeof next);
+    memset(told, 255, sizeof told);
+    seat = only_seat(&object);
+    IS(CALL(&seat, 1, UNIVERSAL_MACHINE_CALL(0)), 0);
+    IS(CALL(&seat, 1, UNIVERSAL_MACHINE_CALL(-1)), 0);
+    IS(CALL(&seat, 1, UNIVERSAL_MACHINE_CALL(0)), 1);
+    IS(CALL(&seat, 1, UNIVERSAL_MACHINE_CALL(1)), 1);
+    IS(CALL(&seat, 1, UNIVERSAL_MACHINE_CALL(2)), 0);
+    closes(&seat, (const uint64_t[]){1}, 1);
+}
+
 static void bad_sizes(void) {
     universal_handle object = UNIVERSAL_NONE;
     IS(universal_open_counter(0, &object), UNIVERSAL_BAD_COUNT);
@@ -286,6 +311,7 @@ int main(void) {
     rows();
     map();
     book();
+    machine();
     bad_sizes();
     widths();
     seats_end();

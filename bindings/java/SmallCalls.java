@@ -73,6 +73,20 @@ public final class SmallCalls {
         state(book.finish(), 0, 0, 0, 5, 0, 0, 0, 0, 0, 0, 0, 0, 0, 0, 0, 4);
     }
 
+    /** A switch: 0 asks, and each other invocation turns it over. */
+    private static void machine() throws Exception {
+        int[][] next = {{0, 1}, {1, 0}}, reply = {{0, 0}, {1, 1}};
+        Small.Machine machine = only(Small.Machine.open(1, next, reply));
+        is(List.of(machine.call(0), machine.call(1), machine.call(0), machine.call(-1), machine.call(1)), List.of(0L, 0L, 1L, 1L, 0L));
+        state(machine.finish(), 1);
+        refuses(Fault.BAD_TABLE, () -> Small.Machine.open(0, new int[][] {}, new int[][] {}));
+        refuses(Fault.BAD_TABLE, () -> Small.Machine.open(0, new int[][] {{0, 1}, {1, 2}}, reply));
+        refuses(Fault.BAD_TABLE, () -> Small.Machine.open(0, next, new int[][] {{0, 0}, {1, -1}}));
+        refuses(Fault.BAD_TABLE, () -> Small.Machine.open(0, next, new int[][] {{0, 0}}));
+        refuses(Fault.BAD_TABLE, () -> Small.Machine.open(0, new int[][] {{0, 1}, {1}}, reply));
+        refuses(Fault.BAD_COUNT, () -> Small.Machine.open(65, next, reply));
+    }
+
     private static void refusals() throws Exception {
         refuses(Fault.BAD_COUNT, () -> Small.Counter.open(0));
         refuses(Fault.BAD_COUNT, () -> Small.Book.open(65));
@@ -184,6 +198,7 @@ public final class SmallCalls {
     /** The arguments are how many calls each thread makes, and how many threads there are, once or more. */
     public static void main(String[] arguments) throws Exception {
         objects();
+        machine();
         refusals();
         seats();
         for (int i = 1; i < arguments.length; i++) {

@@ -5,7 +5,7 @@ import queue
 import unittest
 
 from universal import Fault, Log, Refused
-from universal.small import Book, Counter, Counters, Full, Map, Over, Queue, Register, Short, Stack, in_threads
+from universal.small import Book, Counter, Counters, Full, Machine, Map, Over, Queue, Register, Short, Stack, in_threads
 
 MOST = (1 << 64) - 1
 
@@ -74,6 +74,17 @@ class Calls(unittest.TestCase):
             self.assertRaises(ValueError, lambda: book.deposit(*bad))
         self.assertEqual(book.total(), 9)
         self.assertEqual(book.finish(), [0, 0, 0, 5, *[0] * 11, 4])
+
+    def test_machine(self):
+        # a switch: 0 asks, and each greater invocation turns it over
+        next, reply = [[0, 1], [1, 0]], [[0, 0], [1, 1]]
+        switch = only_seat(Machine.open(1, next, reply))
+        self.assertEqual([switch.call(invocation) for invocation in [0, 1, 0, MOST, 1]], [0, 0, 1, 1, 0])
+        self.assertRaises(ValueError, lambda: switch.call(-1))
+        self.assertEqual(switch.finish(), 1)
+        for bad in [([], []), ([[0, 1], [1, 2]], reply), (next, [[0, 0], [1, 1 << 31]]), (next, [[0, 0]]), ([[0, 1], [1]], reply)]:
+            self.refuses(Fault.BAD_TABLE, lambda: Machine.open(0, *bad))
+        self.refuses(Fault.BAD_COUNT, lambda: Machine.open(65, next, reply))
 
     def test_bad_sizes(self):
         self.refuses(Fault.BAD_COUNT, lambda: Counter.open(0))

@@ -1,6 +1,5 @@
 package universal;
 
-import static java.lang.foreign.ValueLayout.JAVA_INT;
 import static java.lang.foreign.ValueLayout.JAVA_LONG;
 
 import java.lang.foreign.Arena;
@@ -59,26 +58,9 @@ public final class Log implements AutoCloseable {
 
     /** The machine of two tables with a row for each state and an entry for each invocation; state 0 is the start. */
     public static Log machine(long n, long k, int[][] next, int[][] reply) throws Refused {
-        int invocations = next.length == 0 ? 0 : next[0].length;
-        try (Arena arena = Arena.ofConfined()) {
-            int[] nexts = flat(next, invocations), replies = flat(reply, invocations);
-            MemorySegment first = arena.allocate(JAVA_INT, Math.max(1, nexts.length)), second = arena.allocate(JAVA_INT, Math.max(1, replies.length));
-            MemorySegment.copy(nexts, 0, first, JAVA_INT, 0, nexts.length);
-            MemorySegment.copy(replies, 0, second, JAVA_INT, 0, replies.length);
-            return opened(log -> (int) Universal.OPEN_MACHINE.invokeExact(n, k, next.length, invocations, first, (long) nexts.length,
-                    second, (long) replies.length, log));
-        }
-    }
-
-    private static int[] flat(int[][] table, int invocations) throws Refused {
-        int[] entries = new int[table.length * invocations];
-        for (int s = 0; s < table.length; s++) {
-            if (table[s].length != invocations) {
-                throw new Refused(Fault.BAD_TABLE);
-            }
-            System.arraycopy(table[s], 0, entries, s * invocations, invocations);
-        }
-        return entries;
+        Universal.Tables tables = Universal.Tables.of(next, reply);
+        return opened(log -> (int) Universal.OPEN_MACHINE.invokeExact(n, k, tables.states(), tables.invocations(), tables.next(),
+                tables.nexts(), tables.reply(), tables.replies(), log));
     }
 
     /** The seat of the greatest process that has none yet. Refused: all are given out; memory. */

@@ -348,6 +348,26 @@ public final class Small<S extends Small.Seat> implements AutoCloseable {
         }
     }
 
+    /** A seat of a machine by its tables. A state is the number of its state. */
+    public static final class Machine extends Seat {
+        private Machine(Handle handle, long process, int width) {
+            super(handle, process, width);
+        }
+
+        /** The machine of two tables with a row for each state and an entry for each invocation; state 0 is the start. */
+        public static Small<Machine> open(long n, int[][] next, int[][] reply) throws Refused {
+            Universal.Tables tables = Universal.Tables.of(next, reply);
+            Small<Machine> object = new Small<>(1, Machine::new);
+            return object.opened(() -> (int) Universal.OPEN_SMALL_MACHINE.invokeExact(n, tables.states(), tables.invocations(),
+                    tables.next(), tables.nexts(), tables.reply(), tables.replies(), object.handle.at));
+        }
+
+        /** A call: the reply. An invocation past the tables, read as an unsigned one, is the last one. */
+        public long call(long invocation) throws Refused {
+            return ask(invocation);
+        }
+    }
+
     private static long notZero(long number) {
         if (number == 0) {
             throw new IllegalArgumentException("0 can't be put in");

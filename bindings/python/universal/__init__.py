@@ -103,21 +103,13 @@ class _Entry(ctypes.Structure):
     ]
 
 
+_TABLES = [c_uint32, c_uint32, POINTER(c_uint32), c_size_t, POINTER(c_uint32), c_size_t]
+
 _SIGNATURES = {
     "universal_open_tally": [c_uint64, c_uint64, POINTER(_Handle)],
     "universal_open_sticky": [c_uint64, c_uint64, POINTER(_Handle)],
     "universal_open_register": [c_uint64, c_uint64, POINTER(_Handle)],
-    "universal_open_machine": [
-        c_uint64,
-        c_uint64,
-        c_uint32,
-        c_uint32,
-        POINTER(c_uint32),
-        c_size_t,
-        POINTER(c_uint32),
-        c_size_t,
-        POINTER(_Handle),
-    ],
+    "universal_open_machine": [c_uint64, c_uint64, *_TABLES, POINTER(_Handle)],
     "universal_open_counter": [c_uint64, POINTER(_Handle)],
     "universal_open_register64": [c_uint64, POINTER(_Handle)],
     "universal_open_book": [c_uint64, POINTER(_Handle)],
@@ -125,6 +117,7 @@ _SIGNATURES = {
     "universal_open_queue": [c_uint64, c_uint32, POINTER(_Handle)],
     "universal_open_stack": [c_uint64, c_uint32, POINTER(_Handle)],
     "universal_open_map": [c_uint64, c_uint32, POINTER(_Handle)],
+    "universal_open_small_machine": [c_uint64, *_TABLES, POINTER(_Handle)],
     "universal_small_seat": [POINTER(_Handle), POINTER(_Handle), POINTER(c_uint64)],
     "universal_small_apply": [
         POINTER(_Handle),
@@ -154,6 +147,17 @@ def _number(value: int, bits: int) -> int:
     if not 0 <= value < 1 << bits:
         raise ValueError(f"{value} isn't from 0 to 2^{bits} - 1")
     return value
+
+
+def _tables(next: Sequence[Sequence[int]], reply: Sequence[Sequence[int]]) -> list[object]:
+    states, invocations = len(next), len(next[0]) if next else 0
+    if any(len(row) != invocations for row in [*next, *reply]) or len(reply) != states:
+        raise Refused(Fault.BAD_TABLE)
+    tables: list[object] = [states, invocations]
+    for table in (next, reply):
+        entries = [_number(entry, 32) for row in table for entry in row]
+        tables += [(c_uint32 * max(1, len(entries)))(*entries), len(entries)]
+    return tables
 
 
 class _Held:
@@ -270,23 +274,7 @@ class Log(_Shared):
 
         Raises `Refused`: the tables aren't those of a machine; and then as `tally`.
         """
-        states, invocations = len(next), len(next[0]) if next else 0
-        if any(len(row) != invocations for row in [*next, *reply]) or len(reply) != states:
-            raise Refused(Fault.BAD_TABLE)
-        flat = [[_number(entry, 32) for row in table for entry in row] for table in (next, reply)]
-        tables = [(c_uint32 * max(1, len(table)))(*table) for table in flat]
-        count = states * invocations
-        return cls._open(
-            _LIBRARY.universal_open_machine,
-            _number(n, 64),
-            _number(k, 64),
-            states,
-            invocations,
-            tables[0],
-            count,
-            tables[1],
-            count,
-        )
+        return cls._open(_LIBRARY.universal_open_machine, _number(n, 64), _number(k, 64), *_tables(next, reply))
 
     def seat(self) -> Seat:
         """The seat of the greatest process that has none yet. Raises `Refused`: all are given out, or memory."""

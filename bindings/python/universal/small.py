@@ -1,5 +1,5 @@
-"""Objects on words of 64 bits, whose seats make calls without end: `Counter`, `Register`, `Counters`, `Queue`, `Stack`, `Map`
-and `Book`.
+"""Objects on words of 64 bits, whose seats make calls without end: `Counter`, `Register`, `Counters`, `Queue`, `Stack`, `Map`,
+`Book` and `Machine`.
 
 `open` of a class gives a `Small`, the object for n processes, with its seats of that class:
 
@@ -19,9 +19,10 @@ from ctypes import byref, c_uint32, c_uint64
 from queue import Full
 from typing import Generic, TypeVar
 
-from . import _LIBRARY, Fault, Refused, _Held, _number, _Shared, in_threads
+from . import _LIBRARY, Fault, Refused, _Held, _number, _Shared, _tables, in_threads
 
-__all__ = ["Book", "Counter", "Counters", "Full", "Map", "Over", "Queue", "Register", "Short", "Small", "Stack", "in_threads"]
+__all__ = ["Book", "Counter", "Counters", "Full", "Machine", "Map", "Over", "Queue", "Register", "Short", "Small", "Stack"]
+__all__ += ["in_threads"]
 
 
 class Over(Exception):
@@ -95,7 +96,7 @@ class Small(_Shared, Generic[_S]):
         return f"<Small {name}, closed>" if self._is_closed() else f"<Small {name}>"
 
     @classmethod
-    def _open(cls, seats_of: type[_S], width: int, function: Callable[..., int], *args: int) -> Small[_S]:
+    def _open(cls, seats_of: type[_S], width: int, function: Callable[..., int], *args: object) -> Small[_S]:
         opened = cls(seats_of, width)
         status = function(*args, opened._at)
         if status != 0:
@@ -306,3 +307,23 @@ class Book(_Seat):
     def total(self) -> int:
         """The sum of all balances."""
         return self._number_of(3, 0, 0, 0)
+
+
+class Machine(_Seat):
+    """A seat of a machine by its tables. The last state is the number of its state."""
+
+    @classmethod
+    def open(cls, n: int, next: Sequence[Sequence[int]], reply: Sequence[Sequence[int]]) -> Small[Machine]:
+        """The machine of two tables with a row for each state and an entry for each invocation; 0 is the start.
+
+        Raises `Refused`: the tables aren't those of a machine; and then as `Counter.open`.
+        """
+        return Small._open(cls, 1, _LIBRARY.universal_open_small_machine, _number(n, 64), *_tables(next, reply))
+
+    def call(self, invocation: int) -> int:
+        """A call: the reply. An invocation past the tables is the last one."""
+        return self._apply(_number(invocation, 64))[0]
+
+    @classmethod
+    def _state(cls, words: list[int]) -> int:
+        return words[0]

@@ -78,6 +78,16 @@ extern "C" {
     fn universal_open_queue(n: u64, capacity: u32, object: &mut Handle) -> u32;
     fn universal_open_stack(n: u64, capacity: u32, object: &mut Handle) -> u32;
     fn universal_open_map(n: u64, capacity: u32, object: &mut Handle) -> u32;
+    fn universal_open_small_machine(
+        n: u64,
+        states: u32,
+        invocations: u32,
+        next: *const u32,
+        next_count: usize,
+        reply: *const u32,
+        reply_count: usize,
+        object: &mut Handle,
+    ) -> u32;
     fn universal_small_seat(object: &mut Handle, seat: &mut Handle, process: &mut u64) -> u32;
     fn universal_small_apply(
         seat: &mut Handle,
@@ -145,6 +155,23 @@ pub(crate) fn open_stack(n: u64, capacity: u32, object: &mut Handle) -> u32 {
 
 pub(crate) fn open_map(n: u64, capacity: u32, object: &mut Handle) -> u32 {
     unsafe { universal_open_map(n, capacity, object) }
+}
+
+pub(crate) fn open_small_machine(n: u64, machine: Machine<'_>, object: &mut Handle) -> u32 {
+    let Machine { states, invocations, next, reply } = machine;
+    // SAFETY: as of `open_machine`.
+    unsafe {
+        universal_open_small_machine(
+            n,
+            states,
+            invocations,
+            next.as_ptr(),
+            next.len(),
+            reply.as_ptr(),
+            reply.len(),
+            object,
+        )
+    }
 }
 
 impl Handle {

@@ -1,7 +1,7 @@
 //! Objects on words of 64 bits, whose seats make calls without end.
 //!
-//! [`Counter`], [`Register`], [`Counters`], [`Queue`], [`Stack`], [`Map`] and [`Book`] are seats. `open` gives a [`Small`],
-//! the object with its seats. A call comes with a version: a number of the object's state, in which the call is
+//! [`Counter`], [`Register`], [`Counters`], [`Queue`], [`Stack`], [`Map`], [`Book`] and [`Machine`] are seats. `open` gives a
+//! [`Small`], the object with its seats. A call comes with a version: a number of the object's state, in which the call is
 //! ([`SmallSeat::version`]). Who is told a version, by whatever means, can follow it ([`SmallSeat::follows`]).
 //!
 //! ```
@@ -67,6 +67,7 @@ pub mod kinds {
         Stack: Vec<u64>, words => words[1..][..words[0] as usize].to_vec();
         Map: Vec<(u64, u64)>, words => words[1..].chunks(2).take(words[0] as usize).map(|pair| (pair[0], pair[1])).collect();
         Book: [u64; 16], words => std::array::from_fn(|account| words[account]);
+        Machine: u64, words => words[0];
     }
 }
 
@@ -90,6 +91,9 @@ pub type Map = SmallSeat<kinds::Map>;
 
 /// A seat of a book of sixteen accounts, each with a balance up to 999,999,999,999 that is 0 at the start.
 pub type Book = SmallSeat<kinds::Book>;
+
+/// A seat of a machine by its tables. The last state is the number of its state.
+pub type Machine = SmallSeat<kinds::Machine>;
 
 /// The seat has made all the calls that it can make, which are 2^50. Nothing is changed.
 #[derive(Clone, Copy, Debug, PartialEq, Eq)]
@@ -459,5 +463,17 @@ impl Book {
     pub fn total(&mut self) -> Result<u64, Spent> {
         let [_, sum] = self.apply(&[3, 0, 0, 0])?;
         Ok(sum)
+    }
+}
+
+impl Machine {
+    /// The machine of two tables, which are copied, for `n` processes. Errors: `BadTable`, `BadCount`, `Memory`.
+    pub fn open(n: u64, tables: crate::Machine<'_>) -> Result<Small<kinds::Machine>, Fault> {
+        Small::opened(1, |object| raw::open_small_machine(n, tables, object))
+    }
+
+    /// A call: the reply. An invocation past the tables is the last one.
+    pub fn call(&mut self, invocation: u64) -> Result<u64, Spent> {
+        self.ask(&[invocation])
     }
 }

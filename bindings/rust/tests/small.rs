@@ -1,9 +1,9 @@
 //! Small objects: each call on its happy path, each refusal, and what its types keep.
 use std::num::NonZeroU64;
 use universal::small::{
-    Book, BookFault, Busy, Counter, Counters, Map, PutFault, Queue, Register, Small, SmallSeat, Stack,
+    Book, BookFault, Busy, Counter, Counters, Machine, Map, PutFault, Queue, Register, Small, SmallSeat, Stack,
 };
-use universal::Fault;
+use universal::{Fault, Machine as Tables};
 
 fn number(of: u64) -> NonZeroU64 {
     NonZeroU64::new(of).unwrap()
@@ -68,6 +68,24 @@ fn a_book_keeps_its_balances() {
     assert_eq!(book.total(), Ok(9));
     let balances = book.close().unwrap();
     assert_eq!((balances[3], balances[15], balances.iter().sum()), (5, 4, 9u64));
+}
+
+#[test]
+fn a_machine_goes_by_its_tables() {
+    let tables = Tables { states: 2, invocations: 2, next: &[0, 1, 1, 0], reply: &[0, 0, 1, 1] };
+    let mut switch = only_seat!(Machine::open(1, tables));
+    assert_eq!([0, 1, 0, u64::MAX, 1].map(|invocation| switch.call(invocation)), [0, 0, 1, 1, 0].map(Ok));
+    assert_eq!(switch.close().unwrap(), 1);
+    let bad = [
+        Tables { invocations: 1, ..tables },
+        Tables { next: &[0, 1, 2, 0], ..tables },
+        Tables { reply: &[0, 0, 1, 1 << 31], ..tables },
+        Tables { reply: &[0, 0, 1], ..tables },
+    ];
+    for tables in bad {
+        assert_eq!(Machine::open(0, tables).unwrap_err(), Fault::BadTable, "{tables:?}");
+    }
+    assert_eq!(Machine::open(65, tables).unwrap_err(), Fault::BadCount);
 }
 
 #[test]
