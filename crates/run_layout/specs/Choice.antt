@@ -1,8 +1,9 @@
 -- Some events of a run, and what is drawn of it where these are chosen.
 use Rattle.std.specs.Prelude.{◌≡◌, ℕ, ◌+◌, ◌-◌, ◌==◌, ◌&&◌, ◌||◌, not, min, max, nat_le, if◌then◌else◌, Bool, true, false}
-use Rattle.std.specs.Prelude.{List, [], ◌∷◌, map, Option, Some, None, option_and_then, refl}
+use Rattle.std.specs.Prelude.{List, [], ◌∷◌, map, Option, Some, None, Vec, option_and_then, refl}
 use Rattle.std.specs.List.{filter, list_any}
 use Rattle.std.specs.Option.{option_map_or}
+use Rattle.std.specs.declared.alloc.Global.{Global}
 use Rattle.uni_script.specs.declared.remarks.Remark.{Remark}
 use Rattle.uni_script.specs.declared.remarks.Remark.TheVariants.{Heading, Note, Refused}
 use Rattle.uni_script.specs.declared.remarks.PlacedRemark.{PlacedRemark}
@@ -126,8 +127,10 @@ bars_of_three : map (bar_in ten_to_twenty) (filter (is_bar_in ten_to_twenty 27) 
 bars_of_three = refl
 
 -- a refusal before event 10 and one before event 20 are told, and none before event 21
-abbrev refused : (before : ℕ) → PlacedRemark
-refused before = record { line = 7; before = before; remark = Refused [] Sequence }
+module _ (command : Vec ℕ Global) where
+  abbrev refused : (before : ℕ) → PlacedRemark
+  refused before = record { line = 7; before = before; remark = Refused command Sequence }
 
-remarks_of_four : chosen_remarks ten_to_twenty (refused 9 ∷ refused 10 ∷ refused 20 ∷ refused 21 ∷ []) ≡ refused 0 ∷ refused 10 ∷ []
-remarks_of_four = refl
+  remarks_of_four : chosen_remarks ten_to_twenty (refused 9 ∷ refused 10 ∷ refused 20 ∷ refused 21 ∷ [])
+      ≡ refused 0 ∷ refused 10 ∷ []
+  remarks_of_four = refl

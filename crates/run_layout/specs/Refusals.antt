@@ -1,8 +1,9 @@
 -- Refusals as they are drawn: equal ones side by side have one mark.
 use Rattle.std.specs.Prelude.{◌≡◌, ℕ, ◌+◌, ◌==◌, ◌&&◌, if◌then◌else◌, nat_eq, Bool, false, List, [], ◌∷◌, ◌++◌, Option, Some, None}
-use Rattle.std.specs.Prelude.{option_map, codes, refl}
+use Rattle.std.specs.Prelude.{Vec, option_map, codes, refl}
 use Rattle.std.specs.Fmt.{decimal, digits}
 use Rattle.std.specs.Cmp.Lexicographic.{pointwise}
+use Rattle.std.specs.declared.alloc.Global.{Global}
 use Rattle.uni_script.specs.declared.answer.Refusal.{Refusal}
 use Rattle.uni_script.specs.declared.answer.Refusal.TheVariants.{Process, Busy, Row, Idle, Pending, Sequence, History, Count}
 use Rattle.uni_script.specs.declared.remarks.Remark.{Remark}
@@ -76,13 +77,14 @@ abbrev pub labels_of : List PlacedRemark → List Label
 labels_of remarks = labels_from 0 remarks
 
 -- two equal refusals have one label, and one of another process has its own
-abbrev idle : (process : ℕ) → PlacedRemark
-idle process = record { line = 7; before = 3; remark = Refused [] (Idle process) }
+module _ (command : Vec ℕ Global) where
+  abbrev idle : (process : ℕ) → PlacedRemark
+  idle process = record { line = 7; before = 3; remark = Refused command (Idle process) }
 
-labels_of_three : labels_of (idle 0 ∷ idle 0 ∷ idle 1 ∷ [])
-    ≡ record { before = 3; text = None }
-    ∷ record { before = 3; text = Some (codes "step refused: P0 idle x2") }
-    ∷ record { before = 3; text = Some (codes "step refused: P1 idle") }
-    ∷ []
-unfolding labels_from digits
-labels_of_three = refl
+  labels_of_three : labels_of (idle 0 ∷ idle 0 ∷ idle 1 ∷ [])
+      ≡ record { before = 3; text = None }
+      ∷ record { before = 3; text = Some (codes "step refused: P0 idle x2") }
+      ∷ record { before = 3; text = Some (codes "step refused: P1 idle") }
+      ∷ []
+  unfolding labels_from digits
+  labels_of_three = refl

@@ -1,7 +1,8 @@
 -- The order in which a run is told.
 use Rattle.std.specs.Prelude.{◌≡◌, ℕ, ◌+◌, nat_le, Bool, List, [], ◌∷◌, ◌++◌, take, drop, slice_get}
-use Rattle.std.specs.Prelude.{Option, Some, None, refl}
+use Rattle.std.specs.Prelude.{Option, Some, None, Vec, refl}
 use Rattle.std.specs.List.{flat_map, prefix_len}
+use Rattle.std.specs.declared.alloc.Global.{Global}
 use Rattle.uni_script.specs.declared.remarks.PlacedRemark.{PlacedRemark}
 use Rattle.uni_script.specs.declared.remarks.Remark.TheVariants.{Refused}
 use Rattle.uni_script.specs.declared.answer.Refusal.TheVariants.{Sequence}
@@ -25,9 +26,10 @@ event_text words k line (Some scene) = words.event k line scene
 abbrev pub told_before : (event : ℕ) → List PlacedRemark → ℕ
 told_before k remarks = prefix_len (λ one. nat_le one.before k) remarks
 
-told_before_the_second : told_before 1 (record { line = 3; before = 1; remark = Refused [] Sequence }
-    ∷ record { line = 5; before = 2; remark = Refused [] Sequence } ∷ []) ≡ 1
-told_before_the_second = refl
+told_before_the_second : (command : Vec ℕ Global)
+    → told_before 1 (record { line = 3; before = 1; remark = Refused command Sequence }
+    ∷ record { line = 5; before = 2; remark = Refused command Sequence } ∷ []) ≡ 1
+told_before_the_second command = refl
 
 -- the texts of events from one on, each behind what is told before it, and of what is told after the last; `lines` has the line of
 -- each event, from the first on
