@@ -7,7 +7,7 @@ use std::alloc::Global;
 use std::env::Env;
 use std::process::ExitCode;
 use std::{env, io};
-use uni_script::{Checked, report_fault, tell};
+use uni_script::{Checked, refuse_words, report_fault, tell};
 
 /// What the program does, which flaws there are, and how it ends.
 const HELP: &[u8] = b"\
@@ -48,7 +48,9 @@ enum Request {
     Flaw(Flaw),
 }
 
-/// What the words ask for; `None` where they name no flaw, or can't be read.
+/// What the words ask for; `None` where they name no flaw.
+///
+/// An `Err` says that memory was refused, or that a word isn't UTF-8.
 fn request_of<R: Env + Alloc<A = Global>>(rt: &R) -> io::Result<Option<Request>> {
     let words: Vec<String> = env::args(rt)?.collect(rt.alloc())?;
     match words.as_slice() {
@@ -81,9 +83,10 @@ fn main(rt: HostRuntime) -> ExitCode {
             tell(&mut Checked::new(rt.stdout()), HELP);
             ExitCode::SUCCESS
         }
-        _ => {
+        Ok(None) => {
             tell(&mut Checked::new(rt.stderr()), NO_FLAW);
             ExitCode::from(2)
         }
+        Err(error) => ExitCode::from(refuse_words(&error, &mut Checked::new(rt.stderr()))),
     }
 }
