@@ -64,9 +64,9 @@ fn equal_refusals_have_one_label(rt: HostRuntime) -> Result<(), Fail> {
     let told = told_of(rt.alloc(), &subject.remarks)?;
     assert!(rt; told.len() == 4);
     assert!(rt; is_labelled(&told, 0, None));
-    assert!(rt; is_labelled(&told, 1, Some("step refused: P0 idle x2")));
-    assert!(rt; is_labelled(&told, 2, Some("step refused: P1 idle")));
-    assert!(rt; is_labelled(&told, 3, Some("step refused: P0 idle")));
+    assert!(rt; is_labelled(&told, 1, Some("step 0 refused: P0 has no call pending x2")));
+    assert!(rt; is_labelled(&told, 2, Some("step 1 refused: P1 has no call pending")));
+    assert!(rt; is_labelled(&told, 3, Some("step 0 refused: P0 has no call pending")));
     Ok(())
 }
 
@@ -75,21 +75,22 @@ fn has_columns(axis: &Axis) -> bool {
     // The label has nine letters and the room beside them, of which the step after it takes one.
     let events = axis.event(0) == (Column { left: 0, width: 9 })
         && axis.event(1) == (Column { left: 9, width: 1 })
-        && axis.event(2) == (Column { left: 65, width: 0 });
-    // The mark, and "call refused: P1 busy" or "end of era refused: P1 pending" with the room beside it.
+        && axis.event(2) == (Column { left: 90, width: 0 });
+    // The mark, and "call 1 deq refused: P1 has a call pending" or "trim refused: P1 has a call pending" with the room
+    // beside it.
     let remarks = axis.remark(1)
         == (Column {
             left: 10,
-            width: 23,
+            width: 43,
         })
-        && axis.remark(2) == (Column { left: 33, width: 0 })
+        && axis.remark(2) == (Column { left: 53, width: 0 })
         && axis.remark(3)
             == (Column {
-                left: 33,
-                width: 32,
+                left: 53,
+                width: 37,
             })
-        && axis.remark(4) == (Column { left: 65, width: 0 });
-    events && remarks && axis.end == 65
+        && axis.remark(4) == (Column { left: 90, width: 0 });
+    events && remarks && axis.end == 90
 }
 
 #[test]

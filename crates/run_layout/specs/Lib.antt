@@ -1,3 +1,4 @@
+pub mod Shortening
 pub mod Wording
 pub mod Wrapping
 pub mod Refusals

@@ -10,27 +10,32 @@ use Rattle.uni_script.specs.declared.remarks.Remark.{Remark}
 use Rattle.uni_script.specs.declared.remarks.Remark.TheVariants.{Heading, Note, Refused}
 use Rattle.uni_script.specs.declared.remarks.PlacedRemark.{PlacedRemark}
 use Rattle.run_layout.specs.declared.refusals.Told.{Told}
-use Rattle.run_layout.specs.Wording.{name_text, refusal_words, lane_of}
+use Rattle.run_layout.specs.Shortening.{shortened}
+use Rattle.run_layout.specs.Wording.{name_text}
 
--- the command that was refused, where the refusal tells it
-abbrev pub command_of : Refusal → List ℕ
-command_of (Process process) = []
-command_of (Busy process) = codes "call "
-command_of (Row process) = codes "call "
-command_of (Idle process) = codes "step "
-command_of (Pending process) = codes "end of era "
-command_of Sequence = codes "end of era "
-command_of History = []
-command_of (Count count) = codes "reshape "
-
--- the process that is the reason, if one is
-abbrev pub process_text : Option ℕ → List ℕ
-process_text (Some process) = name_text process ++ codes " "
-process_text None = []
+-- why a command was refused
+abbrev pub reason_text : Refusal → List ℕ
+reason_text (Process process) = codes "no such process"
+reason_text (Busy process) = name_text process ++ codes " has a call pending"
+reason_text (Row process) = name_text process ++ codes " has a full row"
+reason_text (Idle process) = name_text process ++ codes " has no call pending"
+reason_text (Pending process) = name_text process ++ codes " has a call pending"
+reason_text Sequence = codes "the numbers are used up"
+reason_text History = codes "the history is full"
+reason_text (Count count) = decimal count ++ codes " isn't from 1 to 64"
 
 -- what was refused, and why
-abbrev pub refused_text : Refusal → List ℕ
-refused_text refusal = command_of refusal ++ codes "refused: " ++ process_text (lane_of refusal) ++ refusal_words refusal
+abbrev pub refused_text : (command : List ℕ) → Refusal → List ℕ
+refused_text command refusal = shortened command ++ codes " refused: " ++ reason_text refusal
+
+-- a command of a process that there isn't, and one that is too long to be told
+refused_process : refused_text (codes "call 64 deq") (Process 64) ≡ codes "call 64 deq refused: no such process"
+refused_process = refl
+
+refused_long : refused_text (codes "call 0 transfer 0 12 3456") (Busy 0)
+    ≡ codes "call 0 transfer 0 12 3.. refused: P0 has a call pending"
+unfolding digits
+refused_long = refl
 
 -- what is drawn of a remark: the label of its mark, if it has one, after so many events
 pub record Label : Type 0 where
@@ -46,13 +51,14 @@ times_text times = if times == 1 then [] else codes " x" ++ decimal times
 
 -- the label of a remark that was told so often in a row; a note has none
 abbrev pub told_text : (times : ℕ) → Remark → Option (List ℕ)
-told_text times (Refused command refusal) = Some (refused_text refusal ++ times_text times)
+told_text times (Refused command refusal) = Some (refused_text command.items refusal ++ times_text times)
 told_text times (Heading text) = None
 told_text times (Note text) = None
 
 -- whether both are refusals with the same text
 abbrev pub have_same_text : Remark → Remark → Bool
-have_same_text (Refused command one) (Refused other_command other) = pointwise nat_eq (refused_text one) (refused_text other)
+have_same_text (Refused command why) (Refused command' why') =
+    pointwise nat_eq (refused_text command.items why) (refused_text command'.items why')
 have_same_text _ _ = false
 
 -- whether a refusal comes again at once, after as many events
@@ -77,14 +83,14 @@ abbrev pub labels_of : List PlacedRemark → List Label
 labels_of remarks = labels_from 0 remarks
 
 -- two equal refusals have one label, and one of another process has its own
-module _ (command : Vec ℕ Global) where
-  abbrev idle : (process : ℕ) → PlacedRemark
-  idle process = record { line = 7; before = 3; remark = Refused command (Idle process) }
+module _ (one other : Vec ℕ Global) (is_one : one.items ≡ codes "step 0") (is_other : other.items ≡ codes "step 1 9") where
+  abbrev idle : Vec ℕ Global → (process : ℕ) → PlacedRemark
+  idle command process = record { line = 7; before = 3; remark = Refused command (Idle process) }
 
-  labels_of_three : labels_of (idle 0 ∷ idle 0 ∷ idle 1 ∷ [])
+  labels_of_three : labels_of (idle one 0 ∷ idle one 0 ∷ idle other 1 ∷ [])
       ≡ record { before = 3; text = None }
-      ∷ record { before = 3; text = Some (codes "step refused: P0 idle x2") }
-      ∷ record { before = 3; text = Some (codes "step refused: P1 idle") }
+      ∷ record { before = 3; text = Some (codes "step 0 refused: P0 has no call pending x2") }
+      ∷ record { before = 3; text = Some (codes "step 1 9 refused: P1 has no call pending") }
       ∷ []
   unfolding labels_from digits
-  labels_of_three = refl
+  labels_of_three = rw (is_one, is_other) refl

@@ -1,6 +1,6 @@
 -- The texts of a picture.
 use Rattle.std.specs.Prelude.{◌≡◌, ℕ, ◌==◌, if◌then◌else◌, List, [], ◌∷◌, ◌++◌, length, Option, Some, None}
-use Rattle.std.specs.Prelude.{codes, refl, Bool, true, false, ◌&&◌, not, nat_le, replicate, option_and_then}
+use Rattle.std.specs.Prelude.{codes, refl, Bool, true, false, ◌&&◌, not, option_map, replicate}
 use Rattle.std.specs.List.{find}
 use Rattle.std.specs.Fmt.{decimal, digits}
 use Rattle.std.specs.Option.{option_map_or}
@@ -15,6 +15,7 @@ use Rattle.run_replay.specs.declared.marks.EraEnd.{EraEnd}
 use Rattle.run_replay.specs.declared.marks.EraEnd.TheVariants.{Trim, Reshape}
 use Rattle.run_replay.specs.declared.marks.EraLine.{EraLine}
 use Rattle.run_replay.specs.Marks.{End, Called, Cell, RunMarks, lanes_of}
+use Rattle.run_layout.specs.Shortening.{shortened}
 
 -- the letter of a kind of step
 abbrev pub letter_of : StepKind → ℕ
@@ -100,10 +101,9 @@ lane_of (Count count) = None
 abbrev pub cell_words : Cell → List ℕ
 cell_words cell = cell.words ++ codes " -> " ++ option_map_or (λ reply. reply) cell.reply (codes "?")
 
--- the state after a cell, where that is settled and has at most 24 letters
+-- the state after a cell, where that is settled, in at most 24 letters
 abbrev pub cell_state : Cell → Option (List ℕ)
-cell_state cell =
-    option_and_then (λ state. if nat_le (length state) 24 then Some (codes "state " ++ state) else None) cell.state
+cell_state cell = option_map (λ state. codes "state " ++ shortened state) cell.state
 
 -- whether a dot is of this cell's call, and another process linked the cell
 abbrev pub is_help : Cell → Dot → Bool
@@ -155,7 +155,7 @@ name_of_helped : cell_name (record { event = 9; call = record { process = 1; nth
 unfolding digits
 name_of_helped = refl
 
--- the state after a cell that is settled, and one of 25 letters, which isn't told
+-- the state after a cell that is settled, and one of 25 letters, which is shortened
 abbrev with_state : List ℕ → Cell
 with_state state =
     record { number = 2; call = record { process = 1; nth = 0 }; words = codes "deq"; reply = Some (codes "5"); state = Some state }
@@ -166,5 +166,5 @@ state_of_two = refl
 state_of_24_letters : cell_state (with_state (replicate 24 120)) ≡ Some (codes "state " ++ replicate 24 120)
 state_of_24_letters = refl
 
-state_of_25_letters : cell_state (with_state (replicate 25 120)) ≡ None
+state_of_25_letters : cell_state (with_state (codes "[1 2 3 4 5 6 7 8 9 10 11]")) ≡ Some (codes "state [1 2 3 4 5 6 7 8 9 10 ..")
 state_of_25_letters = refl

@@ -6,6 +6,7 @@ mod axis;
 mod choice;
 mod marked;
 mod refusals;
+mod shortening;
 mod subject;
 mod titles;
 mod wording;

@@ -2,11 +2,11 @@
 
 ghost use Rattle.std.specs.Prelude.{◌≡◌, ◌++◌, ◌+◌, ◌≤◌, ◌<◌, ◌^◌, ◌∷◌, []};
 ghost use Rattle.std.specs.Prelude.{IfOk, OnOk, length, map, option_map};
-ghost use Rattle.run_layout.specs.Refusals.{command_of, process_text, refused_text, times_text};
+ghost use Rattle.run_layout.specs.Refusals.{reason_text, refused_text, times_text};
 ghost use Rattle.run_layout.specs.Refusals.{told_shown, told_text, have_same_text, comes_again};
 ghost use Rattle.run_layout.specs.Refusals.{label_after, times_after, labels_of};
 
-use crate::wording::{lane_of, refusal_of};
+use crate::shortening::push_shortened;
 use std::alloc::{AllocError, Global};
 use std::io::Write;
 use uni_script::{PlacedRemark, Refusal, Remark};
@@ -20,42 +20,36 @@ pub struct Told {
     pub label: Option<Vec<u8>>,
 }
 
-/// The command that was refused, where the refusal tells it, with a space after it.
-fn command_of(refusal: Refusal) -> &'static str
-    ensures { result.now ≡ command_of refusal }
+/// Adds why a command was refused.
+///
+/// An `Err` says that memory was refused.
+fn push_reason(text: &mut Vec<u8>, refusal: Refusal) -> Result<(), AllocError>
+    ensures { OnOk result (text.new.items ≡ text.old.items ++ reason_text refusal) }
 {
     match refusal {
-        Refusal::Process(_) | Refusal::History => "",
-        Refusal::Busy(_) | Refusal::Row(_) => "call ",
-        Refusal::Idle(_) => "step ",
-        Refusal::Pending(_) | Refusal::Sequence => "end of era ",
-        Refusal::Count(_) => "reshape ",
+        Refusal::Process(_) => write!(text, "no such process"),
+        Refusal::Busy(process) | Refusal::Pending(process) => {
+            write!(text, "P{process} has a call pending")
+        }
+        Refusal::Row(process) => write!(text, "P{process} has a full row"),
+        Refusal::Idle(process) => write!(text, "P{process} has no call pending"),
+        Refusal::Sequence => write!(text, "the numbers are used up"),
+        Refusal::History => write!(text, "the history is full"),
+        Refusal::Count(count) => write!(text, "{count} isn't from 1 to 64"),
     }
+    .map_err(|_| AllocError)
 }
 
-/// Adds the process that is the reason of a refusal, if one is.
+/// What was refused, in at most 24 letters, and why.
 ///
 /// An `Err` says that memory was refused.
-fn push_process(text: &mut Vec<u8>, process: Option<u64>) -> Result<(), AllocError>
-    ensures { OnOk result (text.new.items ≡ text.old.items ++ process_text process) }
-{
-    match process {
-        Some(process) => write!(text, "P{process} ").map_err(|_| AllocError),
-        None => Ok(()),
-    }
-}
-
-/// What was refused, and why.
-///
-/// An `Err` says that memory was refused.
-pub fn refused_text(alloc: Global, refusal: Refusal) -> Result<Vec<u8>, AllocError>
-    ensures { IfOk result (λ text. text.items ≡ refused_text refusal) }
+pub fn refused_text(alloc: Global, command: &[u8], refusal: Refusal) -> Result<Vec<u8>, AllocError>
+    ensures { IfOk result (λ text. text.items ≡ refused_text command.now refusal) }
 {
     let mut text = Vec::new(alloc);
-    text.extend_from_slice(command_of(refusal).as_bytes())?;
-    text.extend_from_slice(b"refused: ")?;
-    push_process(&mut text, lane_of(refusal))?;
-    text.extend_from_slice(&refusal_of(alloc, refusal)?)?;
+    push_shortened(command, &mut text)?;
+    text.extend_from_slice(b" refused: ")?;
+    push_reason(&mut text, refusal)?;
     Ok(text)
 }
 
@@ -78,8 +72,8 @@ fn told_text(alloc: Global, times: u64, remark: &Remark) -> Result<Option<Vec<u8
     ensures { IfOk result (λ label. option_map (λ text. text.items) label ≡ told_text times remark.now) }
 {
     match remark {
-        Remark::Refused { refusal, .. } => {
-            let mut text = refused_text(alloc, *refusal)?;
+        Remark::Refused { command, refusal } => {
+            let mut text = refused_text(alloc, command, *refusal)?;
             push_times(&mut text, times)?;
             Ok(Some(text))
         }
@@ -95,14 +89,14 @@ fn have_same_text(alloc: Global, one: &Remark, other: &Remark) -> Result<bool, A
 {
     match (one, other) {
         (
-            Remark::Refused { refusal: first, .. },
+            Remark::Refused { command, refusal },
             Remark::Refused {
-                refusal: second,
-                ..
+                command: next,
+                refusal: why,
             },
         ) => {
-            let text = refused_text(alloc, *first)?;
-            let other = refused_text(alloc, *second)?;
+            let text = refused_text(alloc, command, *refusal)?;
+            let other = refused_text(alloc, next, *why)?;
             Ok(text.as_slice() == other.as_slice())
         }
         _ => Ok(false),

@@ -9,6 +9,7 @@ ghost use Rattle.run_layout.specs.Wording.{letter_of, meaning_of, label_text, co
 ghost use Rattle.run_layout.specs.Wording.{refusal_words, lane_of, cell_words, cell_state, cell_name, title_text};
 ghost use Rattle.run_layout.specs.Wording.{name_text};
 
+use crate::shortening::push_shortened;
 use run_replay::{Bar, BarEnd, CellBox, Dot, EraEnd, EraLine, Marks, StepMark};
 use std::alloc::{AllocError, Global};
 use std::io::Write;
@@ -73,9 +74,6 @@ const KINDS: [StepKind; 13] = [
     StepKind::WriteHead,
     StepKind::Finish,
 ];
-
-/// How many letters a state has at most where a cell tells it.
-const MOST_STATE: usize = 24;
 
 /// The kinds of step that are among some, in the order in which a call takes them.
 ///
@@ -212,7 +210,7 @@ pub fn cell_words(alloc: Global, cell: &CellBox) -> Result<Vec<u8>, AllocError>
     Ok(text)
 }
 
-/// The state after a cell, where that is settled and short.
+/// The state after a cell in at most 24 letters, where it is settled.
 ///
 /// An `Err` says that memory was refused.
 pub fn cell_state(alloc: Global, cell: &CellBox) -> Result<Option<Vec<u8>>, AllocError>
@@ -220,13 +218,13 @@ pub fn cell_state(alloc: Global, cell: &CellBox) -> Result<Option<Vec<u8>>, Allo
         ≡ cell_state (cell_shown cell.now)) }
 {
     match &cell.state {
-        Some(state) if state.len() <= MOST_STATE => {
+        Some(state) => {
             let mut text = Vec::new(alloc);
             text.extend_from_slice(b"state ")?;
-            text.extend_from_slice(state)?;
+            push_shortened(state, &mut text)?;
             Ok(Some(text))
         }
-        _ => Ok(None),
+        None => Ok(None),
     }
 }
 

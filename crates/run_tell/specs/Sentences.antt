@@ -139,8 +139,8 @@ frame_text k (Ends e) = line_text (end_words k e)
 
 -- ---- what is told beside the events
 
-abbrev pub refused_words : Refusal → List ℕ
-refused_words refusal = refused_text refusal ++ codes "."
+abbrev pub refused_words : (command : List ℕ) → Refusal → List ℕ
+refused_words command refusal = refused_text command refusal ++ codes "."
 
 abbrev pub note_words : List ℕ → List ℕ
 note_words text = codes "# " ++ text
@@ -148,7 +148,7 @@ note_words text = codes "# " ++ text
 abbrev pub remark_words : Remark → List ℕ
 remark_words (Heading text) = note_words text.items
 remark_words (Note text) = note_words text.items
-remark_words (Refused command refusal) = refused_words refusal
+remark_words (Refused command refusal) = refused_words command.items refusal
 
 -- ---- the run
 

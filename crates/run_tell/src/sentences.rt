@@ -304,10 +304,10 @@ pub fn end_words(alloc: Global, event: u64, end: &EndedEra) -> Result<Vec<u8>, A
 /// The sentence of a refusal.
 ///
 /// An `Err` says that memory was refused.
-fn refused_words(alloc: Global, refusal: Refusal) -> Result<Vec<u8>, AllocError>
-    ensures { IfOk result (λ words. words.items ≡ refused_words refusal) }
+fn refused_words(alloc: Global, command: &[u8], refusal: Refusal) -> Result<Vec<u8>, AllocError>
+    ensures { IfOk result (λ words. words.items ≡ refused_words command.now refusal) }
 {
-    let mut words = refused_text(alloc, refusal)?;
+    let mut words = refused_text(alloc, command, refusal)?;
     words.push(b'.')?;
     Ok(words)
 }
@@ -333,7 +333,7 @@ pub fn remark_words(alloc: Global, remark: &Remark) -> Result<Vec<u8>, AllocErro
     match remark {
         Remark::Heading(note) => note_words(alloc, note),
         Remark::Note(note) => note_words(alloc, note),
-        Remark::Refused { refusal, .. } => refused_words(alloc, *refusal),
+        Remark::Refused { command, refusal } => refused_words(alloc, command, *refusal),
     }
 }
 
