@@ -1,6 +1,6 @@
 -- The shapes that the strip of an SVG is to have, sign by sign, from the lowest on, and those of the boxes of cells.
-use Rattle.std.specs.Prelude.{◌≡◌, ℕ, ◌+◌, Bool, true, false, List, [], ◌∷◌, ◌++◌, map, Option, Some, None, option_map, codes, refl}
-use Rattle.std.specs.List.{flat_map}
+use Rattle.std.specs.Prelude.{◌≡◌, ℕ, ◌+◌, ◌==◌, if◌then◌else◌, Bool, true, false, List, [], ◌∷◌, ◌++◌, map, Option, Some, None}
+use Rattle.std.specs.Prelude.{option_map, codes, refl}
 use Rattle.std.specs.Fmt.{decimal}
 use Rattle.std.specs.Option.{option_map_or}
 use Rattle.signs.specs.declared.sign.Look.{Look}
@@ -45,13 +45,27 @@ anywhere look text = record { look = look; columns = (edge.Start, edge.End); lan
 abbrev pub box_parts : List (List ℕ) → List Meaning
 box_parts lines = anywhere look.Bar [] ∷ map (anywhere look.Text) lines
 
--- a cell: its number and its call, its words and its reply, and where it is settled and short the state after it
+-- a cell: its number and its call, its words and its reply, and where it is settled the state after it
 abbrev pub cell_lines : List Dot → Cell → List (List ℕ)
 cell_lines dots cell = cell_name dots cell ∷ cell_words cell ∷ option_map_or (λ state. state ∷ []) (cell_state cell) []
 
--- its box, with the arrow to it
-abbrev pub cell_parts : List Dot → Cell → List Meaning
-cell_parts dots cell = anywhere look.Arrow [] ∷ anywhere look.Tip [] ∷ box_parts (cell_lines dots cell)
+-- whether a cell of this number is the next one in the list after that of another
+abbrev pub is_next : (before number : ℕ) → Bool
+is_next before number = number == before + 1
+
+-- a break on the arrow to a cell, where the cell before it in the list isn't drawn
+abbrev pub break_parts : (before number : ℕ) → List Meaning
+break_parts before number = if is_next before number then [] else anywhere look.Text (codes "..") ∷ []
+
+-- its box, with the arrow to it from the box of this number
+abbrev pub cell_parts : List Dot → (before : ℕ) → Cell → List Meaning
+cell_parts dots before cell =
+    anywhere look.Arrow [] ∷ anywhere look.Tip [] ∷ break_parts before cell.number ++ box_parts (cell_lines dots cell)
+
+-- cells in the order of the list, after the box of this number
+abbrev pub cells_from : List Dot → (before : ℕ) → List Cell → List Meaning
+cells_from dots before [] = []
+cells_from dots before (cell ∷ cells) = cell_parts dots before cell ++ cells_from dots cell.number cells
 
 abbrev pub anchor_lines : (anchor : ℕ) → List (List ℕ)
 anchor_lines anchor = (decimal anchor ++ codes ":") ∷ codes "anchor" ∷ []
@@ -62,7 +76,7 @@ era_name place = codes "era " ++ decimal (place + 1)
 
 abbrev pub era_parts : List Dot → (place : ℕ) → EraMarks → List Meaning
 era_parts dots place era =
-    anywhere look.Text (era_name place) ∷ box_parts (anchor_lines era.anchor) ++ flat_map (cell_parts dots) era.cells
+    anywhere look.Text (era_name place) ∷ box_parts (anchor_lines era.anchor) ++ cells_from dots era.anchor era.cells
 
 abbrev pub eras_from : List Dot → (place : ℕ) → List EraMarks → List Meaning
 eras_from dots place [] = []
@@ -74,3 +88,7 @@ up_of_two = record { mark = mark.Up; columns = (edge.Before 7, edge.After 7); la
 
 tip_of_up : map (λ p. p.lanes) (parts_of up_of_two) ≡ Some (1, 2) ∷ Some (1, 1) ∷ []
 tip_of_up = refl
+
+-- after the anchor 1 an arrow leads to cell 2, and a broken one to cell 3
+break_before_the_third : break_parts 1 2 ∷ break_parts 1 3 ∷ [] ≡ [] ∷ (anywhere look.Text (codes "..") ∷ []) ∷ []
+break_before_the_third = refl

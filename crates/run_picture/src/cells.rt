@@ -4,7 +4,7 @@ ghost use Rattle.std.specs.Prelude.{◌≤◌, ◌<◌, ◌^◌, ◌+◌, IfOk};
 
 use crate::figures::{Toward, push_line, push_rect, push_text, push_tip, width_of};
 use crate::lanes::MARGIN;
-use crate::parts::{anchor_lines, cell_lines, era_name};
+use crate::parts::{anchor_lines, cell_lines, era_name, is_next};
 use run_replay::{CellBox, Dot, Era};
 use std::alloc::{AllocError, Global};
 use svg_text::{Paint, Shape};
@@ -79,8 +79,10 @@ fn push_era(
     push_text(shapes, MARGIN, top + 27, era_name(alloc, place)?)?;
     let anchor = anchor_lines(alloc, era.anchor)?;
     let mut spot = push_box(Spot { left: FIRST, top }, anchor, shapes)?;
+    let mut before = era.anchor;
     for cell in &era.cells {
-        spot = push_cell(alloc, dots, cell, width, spot, shapes)?;
+        spot = push_cell(alloc, dots, before, cell, width, spot, shapes)?;
+        before = cell.number;
     }
     Ok(spot.top + BOX)
 }
@@ -93,26 +95,30 @@ pub fn lower(top: u64, by: u64) -> u64
     top.min(LOWEST) + by
 }
 
-/// Adds a cell after the box that ends at a place; the answer is where its own ends.
+/// Adds a cell after the box of this number, which ends at a place; the answer is where its own ends.
 ///
 /// An `Err` says that memory was refused.
 fn push_cell(
     alloc: Global,
     dots: &[Dot],
+    before: u64,
     cell: &CellBox,
     width: u64,
-    before: Spot,
+    end: Spot,
     shapes: &mut Vec<Shape>,
 ) -> Result<Spot, AllocError>
     requires wide { width < 2 ^ 36 }
-    requires near { before.left < 2 ^ 37 }
-    requires low { before.top < 2 ^ 34 }
+    requires near { end.left < 2 ^ 37 }
+    requires low { end.top < 2 ^ 34 }
     ensures near { IfOk result (λ end. end.left < 2 ^ 37) }
     ensures low { IfOk result (λ end. end.top < 2 ^ 34) }
 {
     let lines = cell_lines(alloc, dots, cell)?;
-    let at = box_spot(before, box_width(&lines), width);
+    let at = box_spot(end, box_width(&lines), width);
     push_link(at, shapes)?;
+    if !is_next(before, cell.number) {
+        push_text(shapes, at.left - 21, at.top + 13, b"..".to_vec(alloc)?)?;
+    }
     push_box(at, lines, shapes)
 }
 

@@ -6,7 +6,7 @@ ghost use Rattle.signs.specs.Signs.{meaning};
 ghost use Rattle.run_replay.specs.MarksShown.{cell_shown, era_shown};
 ghost use Rattle.run_layout.specs.Marked.{sign_shown};
 ghost use Rattle.run_picture.specs.Parts.{anchor_lines, anywhere, box_parts, cell_lines};
-ghost use Rattle.run_picture.specs.Parts.{cell_parts, era_name, era_parts};
+ghost use Rattle.run_picture.specs.Parts.{cell_parts, era_name, era_parts, is_next};
 ghost use Rattle.run_picture.specs.Parts.{eras_from, parts_of, step_look};
 
 use run_layout::{
@@ -154,20 +154,31 @@ pub fn era_name(alloc: Global, place: u64) -> Result<Vec<u8>, AllocError>
     Ok(name)
 }
 
-/// Adds a cell.
+/// Whether a cell of this number is the next one in the list after that of another.
+pub fn is_next(before: u64, number: u64) -> bool
+    ensures { result ≡ is_next before number }
+{
+    number > before && number - before == 1
+}
+
+/// Adds a cell, after the box of this number.
 ///
 /// An `Err` says that memory was refused.
 fn push_cell(
     alloc: Global,
     dots: &[Dot],
+    before: u64,
     cell: &CellBox,
     parts: &mut Vec<Part>,
 ) -> Result<(), AllocError>
     ensures { OnOk result (map meaning parts.new.items
-        ≡ map meaning parts.old.items ++ cell_parts dots.now (cell_shown cell.now)) }
+        ≡ map meaning parts.old.items ++ cell_parts dots.now before (cell_shown cell.now)) }
 {
     push_anywhere(Look::Arrow, Vec::new(alloc), parts)?;
     push_anywhere(Look::Tip, Vec::new(alloc), parts)?;
+    if !is_next(before, cell.number) {
+        push_anywhere(Look::Text, b"..".to_vec(alloc)?, parts)?;
+    }
     push_box(alloc, cell_lines(alloc, dots, cell)?, parts)
 }
 
@@ -187,8 +198,10 @@ fn push_era(
 {
     push_anywhere(Look::Text, era_name(alloc, place)?, parts)?;
     push_box(alloc, anchor_lines(alloc, era.anchor)?, parts)?;
+    let mut before = era.anchor;
     for cell in &era.cells {
-        push_cell(alloc, dots, cell, parts)?;
+        push_cell(alloc, dots, before, cell, parts)?;
+        before = cell.number;
     }
     Ok(())
 }
