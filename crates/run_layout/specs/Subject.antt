@@ -1,5 +1,5 @@
 -- What a picture shows of a script.
-use Rattle.std.specs.Prelude.{◌≡◌, ◌<◌, ◌≤◌, ℕ, List, length, map, Option, None, Some, codes}
+use Rattle.std.specs.Prelude.{◌≡◌, ◌<◌, ◌≤◌, ℕ, List, ◌++◌, length, map, Option, None, Some, codes}
 use Rattle.ready_objects.specs.Directory.{pairs_text}
 use Rattle.ready_objects.specs.Number.{numbers_text}
 use Rattle.ready_objects.specs.Sticky.{sticky_text}
@@ -55,10 +55,14 @@ events_of_record (Sticky r) = length (events_shown r.events)
 abbrev pub marks_of_session : ScriptSession → RunMarks
 marks_of_session b = marks_of_named b.object b.session.processes b.session.first b.session.events
 
+-- that there are too many events, for what was asked for
+abbrev pub too_many_text : (form : List ℕ) → List ℕ
+too_many_text form = codes "too many events for " ++ form ++ codes ": at most 2000"
+
 -- the text of a fault
 abbrev pub picture_fault_text : PictureFault → List ℕ
 picture_fault_text (Script e) = fault_text e
-picture_fault_text TooManyEvents = codes "too many events for a picture"
+picture_fault_text TooManyEvents = too_many_text (codes "a picture")
 picture_fault_text Misdrawn = codes "the picture does not show its run"
 
 -- those of a session of scripts over one object, which this word names

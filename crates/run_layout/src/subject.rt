@@ -40,7 +40,9 @@ impl fmt::Display for PictureFault {
     fn fmt<W: fmt::Write>(&self, f: &mut fmt::Formatter<W>) -> fmt::Result {
         match self {
             PictureFault::Script(fault) => write!(f, "{fault}"),
-            PictureFault::TooManyEvents => write!(f, "too many events for a picture"),
+            PictureFault::TooManyEvents => {
+                write!(f, "too many events for a picture: at most 2000")
+            }
             PictureFault::Misdrawn => write!(f, "the picture does not show its run"),
         }
     }

@@ -50,23 +50,23 @@ drawn_of_memory form left old status four =
     record { drawn = λ e. absurd (omega arith); bad = λ e. absurd (omega arith); prefix = λ e. absurd (omega arith); nothing = λ _. refl }
 
 -- the line of a fault and more is told by its bytes
-pub told_as : (is_explained : Bool) (fault : PictureFault) (more line : List ℕ) (old new : Option (List ℕ)) (failed : Bool) (status : ℕ) → (is_explained ≡ false → more ≡ [])
-    → status ≡ status_of_picture fault → line ≡ picture_fault_line fault ++ more → AppendsPrefix old new line → (failed ≡ false → Appends old new line) → TellsPictureFault is_explained old new failed status
-told_as is_explained fault more line old new failed status none ends is prefix whole = (
+pub told_as : (form : Form) (is_explained : Bool) (fault : PictureFault) (more line : List ℕ) (old new : Option (List ℕ)) (failed : Bool) (status : ℕ) → (is_explained ≡ false → more ≡ [])
+    → status ≡ status_of_picture fault → line ≡ picture_fault_line form fault ++ more → AppendsPrefix old new line → (failed ≡ false → Appends old new line) → TellsPictureFault form is_explained old new failed status
+told_as form is_explained fault more line old new failed status none ends is prefix whole = (
   more,
   none,
   record { fault = fault; status_is = ends; prefix = subst (AppendsPrefix old new) is prefix; whole = λ good. subst (Appends old new) is (whole good) },
 )
 
 -- and so is the line alone, and that of a fault of a script
-pub told_alone : (is_explained : Bool) (fault : PictureFault) (line : List ℕ) (old new : Option (List ℕ)) (failed : Bool) (status : ℕ)
-    → status ≡ status_of_picture fault → line ≡ picture_fault_line fault → AppendsPrefix old new line → (failed ≡ false → Appends old new line) → TellsPictureFault is_explained old new failed status
-told_alone is_explained fault line old new failed status ends is prefix whole =
-    told_as is_explained fault [] line old new failed status (λ _. refl) ends (is ∙ sym (append-nil (picture_fault_line fault))) prefix whole
+pub told_alone : (form : Form) (is_explained : Bool) (fault : PictureFault) (line : List ℕ) (old new : Option (List ℕ)) (failed : Bool) (status : ℕ)
+    → status ≡ status_of_picture fault → line ≡ picture_fault_line form fault → AppendsPrefix old new line → (failed ≡ false → Appends old new line) → TellsPictureFault form is_explained old new failed status
+told_alone form is_explained fault line old new failed status ends is prefix whole =
+    told_as form is_explained fault [] line old new failed status (λ _. refl) ends (is ∙ sym (append-nil (picture_fault_line form fault))) prefix whole
 
-pub told_of_fault : (is_explained : Bool) (old new : Option (List ℕ)) (failed : Bool) (status : ℕ) → TellsFault old new failed status → TellsPictureFault is_explained old new failed status
-told_of_fault is_explained old new failed status told =
-    told_alone is_explained (Script told.fault) (fault_line told.fault) old new failed status told.status_is refl told.prefix told.whole
+pub told_of_fault : (form : Form) (is_explained : Bool) (old new : Option (List ℕ)) (failed : Bool) (status : ℕ) → TellsFault old new failed status → TellsPictureFault form is_explained old new failed status
+told_of_fault form is_explained old new failed status told =
+    told_alone form is_explained (Script told.fault) (fault_line told.fault) old new failed status told.status_is refl told.prefix told.whole
 
 -- what isn't there is nothing
 pub not_some : {A : Type 0} (x : Option A) → is_some x ≡ false → x ≡ None
@@ -74,12 +74,12 @@ not_some None is = refl
 not_some (Some a) is = cc
 
 -- a fault of a script is told with more only where it is explained
-pub told_of_more : (is_explained : Bool) (old new : Option (List ℕ)) (failed : Bool) (status : ℕ) → TellsMore old new failed status → (is_explained ≡ false → TellsFault old new failed status)
-    → TellsPictureFault is_explained old new failed status
-told_of_more true old new failed status told alone =
-    let line = told.1 in told_as true (Script line.fault) told.0 (fault_line line.fault ++ told.0) old new failed status (λ e. cc) line.status_is refl line.prefix line.whole
-told_of_more false old new failed status told alone = told_of_fault false old new failed status (alone refl)
+pub told_of_more : (form : Form) (is_explained : Bool) (old new : Option (List ℕ)) (failed : Bool) (status : ℕ) → TellsMore old new failed status → (is_explained ≡ false → TellsFault old new failed status)
+    → TellsPictureFault form is_explained old new failed status
+told_of_more form true old new failed status told alone =
+    let line = told.1 in told_as form true (Script line.fault) told.0 (fault_line line.fault ++ told.0) old new failed status (λ e. cc) line.status_is refl line.prefix line.whole
+told_of_more form false old new failed status told alone = told_of_fault form false old new failed status (alone refl)
 
 -- what is told of a fault that isn't explained may be told where it is
-pub told_wider : (script asked : Bool) (old new : Option (List ℕ)) (failed : Bool) (status : ℕ) → (asked ≡ false → script ≡ false) → TellsPictureFault script old new failed status → TellsPictureFault asked old new failed status
-told_wider script asked old new failed status narrow told = (told.0, λ e. told.1 (narrow e), told.2)
+pub told_wider : (form : Form) (script asked : Bool) (old new : Option (List ℕ)) (failed : Bool) (status : ℕ) → (asked ≡ false → script ≡ false) → TellsPictureFault form script old new failed status → TellsPictureFault form asked old new failed status
+told_wider form script asked old new failed status narrow told = (told.0, λ e. told.1 (narrow e), told.2)

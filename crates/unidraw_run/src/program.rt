@@ -8,7 +8,7 @@ ghost use Rattle.uni_script.specs.declared.fault.BenchFault.{BenchFault as Fault
 ghost use Rattle.run_layout.specs.Subject.{HasTooManyEvents};
 ghost use Rattle.unidraw_run.specs.CommandLine.{form_of_words, request_of_words, IsRefused};
 ghost use Rattle.unidraw_run.specs.Drawn.{IsPictureIn, IsDrawn};
-ghost use Rattle.unidraw_run.specs.Statuses.{IsStatusOfPicture, TellsPictureFault};
+ghost use Rattle.unidraw_run.specs.Statuses.{IsStatusOfPicture, TellsPictureFault, picture_fault_line};
 
 use crate::words::{read_words, tip_for};
 use command_line::answer_words;
@@ -75,7 +75,7 @@ pub fn run<S: AsStr, I: KeepsText, O: TextOut, F: TextOut>(
     ensures written { O.has_failed output.new ≡ true → result ≡ 3 }
     ensures silent { result ≡ 0 → faults.new ≡ faults.old }
     ensures told { (r : Request) → request_of_words (map S.text words.now) ≡ Some r → result ≢ 0
-        → TellsPictureFault r.is_explained (F.contents faults.old) (F.contents faults.new)
+        → TellsPictureFault r.form r.is_explained (F.contents faults.old) (F.contents faults.new)
         (F.has_failed faults.new) result }
     ensures unread { form_of_words (map S.text words.now) ≡ None → input.new ≡ input.old }
     ensures refused { IsRefused (map S.text words.now)
@@ -111,17 +111,26 @@ fn draw<I: KeepsText, O: TextOut, F: TextOut>(
         result }
     ensures written { O.has_failed output.new ≡ true → result ≡ 3 }
     ensures silent { result ≡ 0 → faults.new ≡ faults.old }
-    ensures told { result ≢ 0 → TellsPictureFault request.is_explained (F.contents faults.old)
+    ensures told { result ≢ 0 → TellsPictureFault request.form request.is_explained (F.contents faults.old)
         (F.contents faults.new) (F.has_failed faults.new) result }
 {
     keep_if(alloc, request.is_explained, input);
     match picture_in(alloc, request.form, input) {
         Ok(text) => match write_all(output, text.as_slice()) {
             Ok(()) => 0,
-            Err(Failed) => report(alloc, PictureFault::Script(BenchFault::Write), None, faults),
+            Err(Failed) => {
+                let fault = PictureFault::Script(BenchFault::Write);
+                report(alloc, request.form, fault, None, faults)
+            }
         },
-        Err(fault) if request.is_explained => report(alloc, fault, input.kept(), faults),
-        Err(fault) => report(alloc, fault, None, faults),
+        Err(fault) if request.is_explained => report(
+            alloc,
+            request.form,
+            fault,
+            input.kept(),
+            faults,
+        ),
+        Err(fault) => report(alloc, request.form, fault, None, faults),
     }
 }
 
@@ -148,23 +157,39 @@ fn picture_in<I: TextIn>(alloc: Global, form: Form, reader: &mut I) -> Result<Ve
     }
 }
 
-/// Says why there is no picture and, of a line of the script, why it is bad, where the script is there; as far as the
-/// end takes it. The answer is the status. Where the text of a fault of the script is refused memory, that is what is
-/// told, with its status.
+/// The line that says that there are too many events for a form.
+fn too_many_line(form: Form) -> &'static str
+    ensures { result.now ≡ picture_fault_line form PictureFault.TooManyEvents }
+{
+    match form {
+        Form::Svg(_) => "too many events for an SVG: at most 2000\n",
+        Form::Lines(_, _) => "too many events for --text: at most 2000\n",
+        Form::Steps => "too many events for --steps: at most 2000\n",
+        Form::Json => "too many events for --json: at most 2000\n",
+        Form::Full => "too many events for --json --full: at most 2000\n",
+        Form::Html => "too many events for --html: at most 2000\n",
+        Form::History => "too many events for --history: at most 2000\n",
+    }
+}
+
+/// Says why there is no picture in this form and, of a line of the script, why it is bad, where the script is there;
+/// as far as the end takes it. The answer is the status. Where the text of a fault of the script is refused memory,
+/// that is what is told, with its status.
 fn report<F: TextOut>(
     alloc: Global,
+    form: Form,
     fault: PictureFault,
     script: Option<&[u8]>,
     faults: &mut F,
 ) -> u8
     ensures status { IsStatusOfPicture fault result }
-    ensures told { TellsPictureFault (is_some script.entry) (F.contents faults.old) (F.contents faults.new)
-        (F.has_failed faults.new) result }
+    ensures told { TellsPictureFault form (is_some script.entry) (F.contents faults.old)
+        (F.contents faults.new) (F.has_failed faults.new) result }
 {
     match fault {
         PictureFault::Script(fault) => report_explained(alloc, fault, script, faults),
         PictureFault::TooManyEvents => {
-            tell(faults, b"too many events for a picture\n");
+            tell(faults, too_many_line(form).as_bytes());
             2
         }
         PictureFault::Misdrawn => {

@@ -12,7 +12,7 @@ pub returns-in-Err-clause-told : goal.returns-in-Err-clause-told
 returns-in-Err-clause-told g c = λ request asks some.
     let has : HasKind (faults_of_words (map g.S.AsStr.text c.args.words.now)) c.in-Err.error = search rules in
     let four = c.answer_words.ensures.memory.0 (memory_of_request _ c.in-Err.error _ request has asks) in
-    told_of_fault _ _ _ _ _ (c.answer_words.ensures.told four)
+    told_of_fault _ _ _ _ _ _ (c.answer_words.ensures.told four)
 
 pub returns-in-Err-clause-refused : goal.returns-in-Err-clause-refused
 returns-in-Err-clause-refused g c = λ none.
