@@ -83,7 +83,8 @@ abbrev pub labels_of : List PlacedRemark → List Label
 labels_of remarks = labels_from 0 remarks
 
 -- two equal refusals have one label, and one of another process has its own
-module _ (one other : Vec ℕ Global) (is_one : one.items ≡ codes "step 0") (is_other : other.items ≡ codes "step 1 9") where
+module _ (one other : Vec ℕ Global) (is_one : one.items ≡ codes "step 0")
+    (is_other : other.items ≡ codes "step 1 9") where
   abbrev idle : Vec ℕ Global → (process : ℕ) → PlacedRemark
   idle command process = record { line = 7; before = 3; remark = Refused command (Idle process) }
 

@@ -166,5 +166,6 @@ state_of_two = refl
 state_of_24_letters : cell_state (with_state (replicate 24 120)) ≡ Some (codes "state " ++ replicate 24 120)
 state_of_24_letters = refl
 
-state_of_25_letters : cell_state (with_state (codes "[1 2 3 4 5 6 7 8 9 10 11]")) ≡ Some (codes "state [1 2 3 4 5 6 7 8 9 10 ..")
+state_of_25_letters : cell_state (with_state (codes "[1 2 3 4 5 6 7 8 9 10 11]"))
+    ≡ Some (codes "state [1 2 3 4 5 6 7 8 9 10 ..")
 state_of_25_letters = refl

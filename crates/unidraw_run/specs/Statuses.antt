@@ -41,7 +41,9 @@ picture_fault_line form fault = fault_text_in form fault ++ 10 ∷ []
 
 -- known bytes grew by the line of a fault that ends with this status, and where it is explained by some text after it: by all of it,
 -- where the end hasn't failed, else by a prefix
-abbrev pub TellsPictureFault : Form → (is_explained : Bool) (old new : Option (List ℕ)) (failed : Bool) (status : ℕ) → Type 0
+abbrev pub TellsPictureFault : Form → (is_explained : Bool) (old new : Option (List ℕ)) (failed : Bool) (status : ℕ)
+    → Type 0
 TellsPictureFault form is_explained old new failed status =
     (more : List ℕ) × (is_explained ≡ false → more ≡ [])
-    × TellsLine (λ fault status. status ≡ status_of_picture fault) (λ fault. picture_fault_line form fault ++ more) old new failed status
+    × TellsLine (λ fault status. status ≡ status_of_picture fault) (λ fault. picture_fault_line form fault ++ more)
+    old new failed status
