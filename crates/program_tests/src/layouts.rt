@@ -1,7 +1,7 @@
 //! Tests of the labels of equal refusals, of columns, and of the longest picture.
 
 use run_layout::{
-    Axis, Column, MOST_EVENTS, MOST_REMARKS, PictureFault, Scale, Subject, Told, axis_of,
+    Axis, Column, MOST_EVENTS, MOST_REMARKS, PictureFault, Range, Scale, Subject, Told, axis_of,
     subject_of, told_of,
 };
 use std::alloc::Global;
@@ -30,7 +30,7 @@ const NARROW: Scale = Scale {
 
 /// What a picture shows of a good script.
 fn subject(alloc: Global, script: &str) -> Result<Subject, Fail> {
-    match subject_of(alloc, &mut Checked::new(script.as_bytes())) {
+    match subject_of(alloc, Range::all(), &mut Checked::new(script.as_bytes())) {
         Ok(subject) => Ok(subject),
         Err(_) => Err(Fail::from("the script should be drawn")),
     }
@@ -115,11 +115,13 @@ fn long_script(alloc: Global, steps: u64) -> Result<Vec<u8>, Fail> {
 }
 
 #[test]
-fn a_picture_has_2000_events(rt: HostRuntime) -> Result<(), Fail> {
-    for (steps, fault) in [(4, None), (5, Some(PictureFault::TooManyEvents))] {
+fn a_picture_shows_2000_events(rt: HostRuntime) -> Result<(), Fail> {
+    let many = Some(PictureFault::TooManyEvents);
+    for (steps, from, fault) in [(4, 0, None), (5, 0, many), (5, 1, None)] {
         let script = long_script(rt.alloc(), steps)?;
-        let subject = subject_of(rt.alloc(), &mut Checked::new(script.as_slice()));
-        assert!(rt; subject.err() == fault, "{steps}");
+        let range = Range { from, to: None };
+        let subject = subject_of(rt.alloc(), range, &mut Checked::new(script.as_slice()));
+        assert!(rt; subject.err() == fault, "{steps} steps, from {from}");
     }
     Ok(())
 }

@@ -2,7 +2,7 @@
 
 ghost use Rattle.std.specs.Prelude.{◌≤◌, IfOk, length};
 
-use run_layout::{PictureFault, Subject, subject_of};
+use run_layout::{PictureFault, Range, Subject, subject_of};
 use run_lines::{COLUMNS, Ink, Sketch, Stroke, sketch_of};
 use run_picture::{Drawn, draw};
 use std::alloc::{AllocError, Global};
@@ -74,7 +74,7 @@ fn subject(alloc: Global) -> Result<Subject, Fail>
     ensures few { IfOk result (λ subject. subject.marks.events ≤ 2000) }
     ensures remarks { IfOk result (λ subject. length subject.remarks.items ≤ 100000) }
 {
-    match subject_of(alloc, &mut Checked::new(SCRIPT.as_bytes())) {
+    match subject_of(alloc, Range::all(), &mut Checked::new(SCRIPT.as_bytes())) {
         Ok(subject) => Ok(subject),
         Err(_) => Err(Fail::from("the script should be drawn")),
     }

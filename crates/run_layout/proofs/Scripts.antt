@@ -13,6 +13,8 @@ use Rattle.uni_script.specs.declared.options.Echo.TheVariants.{Off}
 use Rattle.uni_script.specs.Scripts.{ScriptSession, own_scripts, own_scripts_of}
 use Rattle.uni_script.specs.Remarks.{remark_at}
 use Rattle.run_layout.specs.declared.subject.Subject.{Subject}
+use Rattle.run_layout.specs.declared.choice.Range.{Range}
+use Rattle.run_layout.specs.Choice.{count_in}
 
 marks_of_session-record : (version : Version) (r : ScriptRecord) → marks_of_session (session_of_record version r) ≡ marks_of_record r
 marks_of_session-record version (Queue r) = refl
@@ -48,9 +50,9 @@ pub default_own_run : {O S I R : Type 0} (o : SpokenObject S I R) (name : List �
     → HasRunWhole (own_scripts o name (record { history = 1048576; echo = Off })) left (λ b remarks. IsOwnRunOf o b remarks run)
 default_own_run o name options left run same is = subst (λ options. HasRunWhole (own_scripts o name options) left (λ b remarks. IsOwnRunOf o b remarks run)) same is
 
-pub IsSubject-run : (left : Option (List ℕ)) (run : ScriptRun ScriptRecord) → IsScriptRun (record { history = 1048576; echo = Off }) left run → (subject : Subject) → events_of_record run.record ≤ 2000
-    → marks_shown subject.marks ≡ marks_of_record run.record → subject.remarks.items ≡ run.remarks.items → IsSubject left (marks_shown subject.marks) subject.remarks.items
-IsSubject-run left run is subject few marks remarks =
+pub IsSubject-run : (range : Range) (left : Option (List ℕ)) (run : ScriptRun ScriptRecord) → IsScriptRun (record { history = 1048576; echo = Off }) left run → (subject : Subject) → count_in range (events_of_record run.record) ≤ 2000
+    → marks_shown subject.marks ≡ marks_of_record run.record → subject.remarks.items ≡ run.remarks.items → IsSubject range left (marks_shown subject.marks) subject.remarks.items
+IsSubject-run range left run is subject few marks remarks =
     let b = is.3.0 in
     let of = is.3.2 in record {
       script = is.0;
@@ -58,17 +60,17 @@ IsSubject-run left run is subject few marks remarks =
       good = is.2;
       session = b;
       session_is = is.3.1;
-      few = subst (λ n. n ≤ 2000) (sym (events-run b of.version run.record of.session)) few;
+      few = subst (λ n. count_in range n ≤ 2000) (sym (events-run b of.version run.record of.session)) few;
       marks_are = marks ∙ sym (marks_of_session-record of.version run.record) ∙ ap marks_of_session (sym of.session);
       remarks_are = of.remarks_are ∙ ap (map remark_at) (sym remarks);
     }
 
 -- a subject has as many events as its record
-pub few-run : (r : ScriptRecord) (subject : Subject) → marks_shown subject.marks ≡ marks_of_record r → events_of_record r ≤ 2000 → subject.marks.events ≤ 2000
-few-run r subject marks few = subst (λ n. n ≤ 2000) (sym (ap (λ m. m.events) marks ∙ events-marks r)) few
+pub few-run : (range : Range) (r : ScriptRecord) (subject : Subject) → marks_shown subject.marks ≡ marks_of_record r → count_in range (events_of_record r) ≤ 2000 → count_in range subject.marks.events ≤ 2000
+few-run range r subject marks few = subst (λ n. count_in range n ≤ 2000) (sym (ap (λ m. m.events) marks ∙ events-marks r)) few
 
-pub HasTooManyEvents-run : (left : Option (List ℕ)) (run : ScriptRun ScriptRecord) → IsScriptRun (record { history = 1048576; echo = Off }) left run → 2000 < events_of_record run.record → HasTooManyEvents left
-HasTooManyEvents-run left run is many =
+pub HasTooManyEvents-run : (range : Range) (left : Option (List ℕ)) (run : ScriptRun ScriptRecord) → IsScriptRun (record { history = 1048576; echo = Off }) left run → 2000 < count_in range (events_of_record run.record) → HasTooManyEvents range left
+HasTooManyEvents-run range left run is many =
     let b = is.3.0 in
     let of = is.3.2 in record {
       script = is.0;
@@ -76,17 +78,17 @@ HasTooManyEvents-run left run is many =
       good = is.2;
       session = b;
       session_is = is.3.1;
-      many = subst (λ n. 2000 < n) (sym (events-run b of.version run.record of.session)) many;
+      many = subst (λ n. 2000 < count_in range n) (sym (events-run b of.version run.record of.session)) many;
     }
 
 -- the same of the run of a script over one object
-module _ {O S I R : Type 0} (o : SpokenObject S I R) (text : S → List ℕ) (name : List ℕ) (left : Option (List ℕ)) (run : ScriptRun (Recording O S I R))
+module _ {O S I R : Type 0} (o : SpokenObject S I R) (text : S → List ℕ) (name : List ℕ) (range : Range) (left : Option (List ℕ)) (run : ScriptRun (Recording O S I R))
     (is : HasRunWhole (own_scripts_of o name 1048576) left (λ b remarks. IsOwnRunOf o b remarks run)) where
   abbrev stored : List (Event I)
   stored = events_shown run.record.events
 
-  pub own_subject : (marks : RunMarks) (remarks : List PlacedRemark) → remarks ≡ run.remarks.items → length stored ≤ 2000 → marks ≡ marks_of_events o text name run.record.processes run.record.first stored
-      → IsSubjectOf (own_scripts_of o name 1048576) (marks_of_own o text name) left marks remarks
+  pub own_subject : (marks : RunMarks) (remarks : List PlacedRemark) → remarks ≡ run.remarks.items → count_in range (length stored) ≤ 2000 → marks ≡ marks_of_events o text name run.record.processes run.record.first stored
+      → IsSubjectOf (own_scripts_of o name 1048576) (marks_of_own o text name) range left marks remarks
   own_subject marks remarks same_remarks few same =
       let of = is.3.2 in record {
         script = is.0;
@@ -94,19 +96,19 @@ module _ {O S I R : Type 0} (o : SpokenObject S I R) (text : S → List ℕ) (na
         good = is.2;
         session = is.3.0;
         session_is = is.3.1;
-        few = subst (λ (s : Session S I R). length s.events ≤ 2000) (sym of.session) few;
+        few = subst (λ (s : Session S I R). count_in range (length s.events) ≤ 2000) (sym of.session) few;
         marks_are = same ∙ ap (λ (s : Session S I R). marks_of_events o text name s.processes s.first s.events) (sym of.session);
         remarks_are = of.remarks_are ∙ ap (map remark_at) (sym same_remarks);
       }
 
-  pub own_few : (marks : RunMarks) → length stored ≤ 2000 → marks ≡ marks_of_events o text name run.record.processes run.record.first stored → marks.events ≤ 2000
+  pub own_few : (marks : RunMarks) → count_in range (length stored) ≤ 2000 → marks ≡ marks_of_events o text name run.record.processes run.record.first stored → count_in range marks.events ≤ 2000
   unfolding marks_of_events
-  own_few marks few same = subst (λ n. n ≤ 2000) (sym (ap (λ (m : RunMarks). m.events) same)) few
+  own_few marks few same = subst (λ n. count_in range n ≤ 2000) (sym (ap (λ (m : RunMarks). m.events) same)) few
 
   pub own_remarks : length run.remarks.items ≤ 100000
   own_remarks = is.3.2.few
 
-  pub own_more : 2000 < length stored → HasMoreEvents (own_scripts_of o name 1048576) left
+  pub own_more : 2000 < count_in range (length stored) → HasMoreEvents (own_scripts_of o name 1048576) range left
   own_more many =
       let of = is.3.2 in record {
         script = is.0;
@@ -114,7 +116,7 @@ module _ {O S I R : Type 0} (o : SpokenObject S I R) (text : S → List ℕ) (na
         good = is.2;
         session = is.3.0;
         session_is = is.3.1;
-        many = subst (λ (s : Session S I R). 2000 < length s.events) (sym of.session) many;
+        many = subst (λ (s : Session S I R). 2000 < count_in range (length s.events)) (sym of.session) many;
       }
 
 -- three facts of an answer that is Ok

@@ -20,6 +20,8 @@ use Rattle.uni_script.specs.Remarks.{remark_at, remarks_of_script}
 use Rattle.run_replay.specs.Marks.{RunMarks, marks_of_run}
 use Rattle.run_layout.specs.declared.subject.PictureFault.{PictureFault}
 use Rattle.run_layout.specs.declared.subject.PictureFault.TheVariants.{Script, TooManyEvents, Misdrawn}
+use Rattle.run_layout.specs.declared.choice.Range.{Range}
+use Rattle.run_layout.specs.Choice.{count_in}
 
 -- the text of the states of a named object
 abbrev pub state_text_of : (object : ObjectName) → StateOf object → List ℕ
@@ -69,30 +71,31 @@ picture_fault_text Misdrawn = codes "the picture does not show its run"
 abbrev pub marks_of_own : {S I R : Type 0} → SpokenObject S I R → (S → List ℕ) → (name : List ℕ) → OwnSession S I R → RunMarks
 marks_of_own o text name b = marks_of_events o text name b.session.processes b.session.first b.session.events
 
--- the reader had a script without a fault and with at most 2,000 events; these are the marks of its session, and what it tells
-pub record IsSubjectOf {B : Type 0} (kind : Kind B) (marks_in : B → RunMarks) (left : Option (List ℕ)) (marks : RunMarks)
+-- the reader had a script without a fault of which at most 2,000 events are chosen; these are the marks of its session, and what
+-- it tells
+pub record IsSubjectOf {B : Type 0} (kind : Kind B) (marks_in : B → RunMarks) (range : Range) (left : Option (List ℕ)) (marks : RunMarks)
     (remarks : List PlacedRemark) : Type 0 where
   pub script : List ℕ
   pub input : IsInput left script
   pub good : fault_of_script kind script ≡ None
   pub session : B
   pub session_is : (outcome_of_script kind script).session ≡ Some session
-  pub few : kind.events session ≤ 2000
+  pub few : count_in range (kind.events session) ≤ 2000
   pub marks_are : marks ≡ marks_in session
   pub remarks_are : remarks_of_script kind script ≡ map remark_at remarks
 
--- the reader had a script without a fault and with more events
-pub record HasMoreEvents {B : Type 0} (kind : Kind B) (left : Option (List ℕ)) : Type 0 where
+-- the reader had a script without a fault of which more events are chosen
+pub record HasMoreEvents {B : Type 0} (kind : Kind B) (range : Range) (left : Option (List ℕ)) : Type 0 where
   pub script : List ℕ
   pub input : IsInput left script
   pub good : fault_of_script kind script ≡ None
   pub session : B
   pub session_is : (outcome_of_script kind script).session ≡ Some session
-  pub many : 2000 < kind.events session
+  pub many : 2000 < count_in range (kind.events session)
 
 -- the same of scripts over the named objects
-abbrev pub IsSubject : (left : Option (List ℕ)) (marks : RunMarks) (remarks : List PlacedRemark) → Type 0
-IsSubject left marks remarks = IsSubjectOf (scripts_of 1048576) marks_of_session left marks remarks
+abbrev pub IsSubject : Range → (left : Option (List ℕ)) (marks : RunMarks) (remarks : List PlacedRemark) → Type 0
+IsSubject range left marks remarks = IsSubjectOf (scripts_of 1048576) marks_of_session range left marks remarks
 
-abbrev pub HasTooManyEvents : (left : Option (List ℕ)) → Type 0
-HasTooManyEvents left = HasMoreEvents (scripts_of 1048576) left
+abbrev pub HasTooManyEvents : Range → (left : Option (List ℕ)) → Type 0
+HasTooManyEvents range left = HasMoreEvents (scripts_of 1048576) range left

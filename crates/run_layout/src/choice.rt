@@ -58,7 +58,7 @@ impl Range {
     }
 
     /// How many of so many events it has.
-    fn count(self, events: u64) -> u64
+    pub(crate) fn count(self, events: u64) -> u64
         ensures small { result ≤ events }
         ensures count { result ≡ count_in self events }
     {

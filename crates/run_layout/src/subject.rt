@@ -7,7 +7,7 @@ ghost use Rattle.uni_script.specs.Replay.{HasFault, IsFaultOfScript};
 ghost use Rattle.uni_script.specs.Scripts.{scripts_of, own_scripts_of};
 ghost use Rattle.uni_script.specs.declared.fault.BenchFault.{BenchFault as Fault};
 ghost use Rattle.run_replay.specs.MarksShown.{marks_shown};
-ghost use Rattle.run_layout.specs.Choice.{chosen, chosen_remarks};
+ghost use Rattle.run_layout.specs.Choice.{chosen, chosen_remarks, count_in};
 ghost use Rattle.run_layout.specs.Subject.{marks_of_events, marks_of_record, marks_of_own, events_of_record};
 ghost use Rattle.run_layout.specs.Subject.{picture_fault_text, IsSubject, IsSubjectOf, HasTooManyEvents, HasMoreEvents};
 
@@ -28,7 +28,7 @@ use uni_script::{
 pub enum PictureFault {
     /// The script has this fault, or its run has.
     Script(BenchFault),
-    /// The script has more than 2,000 events.
+    /// More than 2,000 events of the script are chosen.
     TooManyEvents,
     /// The drawing of its run does not show what it is to show: no script is known to come to this.
     Misdrawn,
@@ -87,7 +87,7 @@ impl Subject {
     pub fn chosen(self, alloc: Global, range: Range) -> Result<Subject, AllocError>
         ensures marks { IfOk result (λ part. marks_shown part.marks ≡ chosen range (marks_shown self.marks)) }
         ensures remarks { IfOk result (λ part. part.remarks.items ≡ chosen_remarks range self.remarks.items) }
-        ensures events { IfOk result (λ part. part.marks.events ≤ self.marks.events) }
+        ensures events { IfOk result (λ part. part.marks.events ≡ count_in range self.marks.events) }
         ensures told { IfOk result (λ part. length part.remarks.items ≤ length self.remarks.items) }
     {
         Ok(Subject {
@@ -97,92 +97,119 @@ impl Subject {
     }
 }
 
-/// The marks of the run that a record has stored, on an object of this name; `object` is a further value of
-/// that object.
+/// The marks of the run that a record has stored, on an object of this name, of which these events are to be chosen;
+/// `object` is a further value of that object.
 ///
-/// Errors: `TooManyEvents` where it has more than 2,000; else `Memory`.
+/// Errors: `TooManyEvents` where more than 2,000 are chosen; else `Memory`.
 fn marks_of_events<O: Spoken>(
     alloc: Global,
+    range: Range,
     name: &str,
     object: O,
     recorded: &Recorded<O>,
 ) -> Result<Marks, PictureFault>
-    ensures few { OnOk result (length (events_shown recorded.now.events) ≤ 2000) }
+    ensures few { OnOk result (count_in range (length (events_shown recorded.now.events)) ≤ 2000) }
     ensures marks { IfOk result (λ marks. marks_shown marks
         ≡ marks_of_events (record { object = O.sequential object; language = O.language }) O.state_text name.now
         recorded.now.processes recorded.now.first (events_shown recorded.now.events)) }
-    ensures many { IsErrOf result PictureFault.TooManyEvents → 2000 < length (events_shown recorded.now.events) }
+    ensures many { IsErrOf result PictureFault.TooManyEvents
+        → 2000 < count_in range (length (events_shown recorded.now.events)) }
     ensures memory { (e : Fault) → IsErrOf result (PictureFault.Script e) → e ≡ Fault.Memory }
 {
-    if recorded.events().len() as u64 > MOST_EVENTS {
+    if range.count(recorded.events().len() as u64) > MOST_EVENTS {
         return Err(PictureFault::TooManyEvents);
     }
     Ok(marks_of(alloc, name, object, recorded)?)
 }
 
-/// The marks of a record, by its object.
+/// The marks of a record, by its object, of which these events are to be chosen.
 ///
-/// Errors: `TooManyEvents` where it has more than 2,000 events; else `Memory`.
-fn marks_of_record(alloc: Global, stored: &ScriptRecord) -> Result<Marks, PictureFault>
-    ensures few { OnOk result (events_of_record stored.now ≤ 2000) }
+/// Errors: `TooManyEvents` where more than 2,000 are chosen; else `Memory`.
+fn marks_of_record(
+    alloc: Global,
+    range: Range,
+    stored: &ScriptRecord,
+) -> Result<Marks, PictureFault>
+    ensures few { OnOk result (count_in range (events_of_record stored.now) ≤ 2000) }
     ensures marks { IfOk result (λ marks. marks_shown marks ≡ marks_of_record stored.now) }
-    ensures many { IsErrOf result PictureFault.TooManyEvents → 2000 < events_of_record stored.now }
+    ensures many { IsErrOf result PictureFault.TooManyEvents → 2000 < count_in range (events_of_record stored.now) }
     ensures memory { (e : Fault) → IsErrOf result (PictureFault.Script e) → e ≡ Fault.Memory }
 {
     match stored {
         ScriptRecord::Queue(recorded) => {
-            marks_of_events(alloc, ObjectName::Queue.word(), QueueObject, recorded)
+            marks_of_events(
+                alloc,
+                range,
+                ObjectName::Queue.word(),
+                QueueObject,
+                recorded,
+            )
         }
         ScriptRecord::Directory(recorded) => {
             marks_of_events(
                 alloc,
+                range,
                 ObjectName::Directory.word(),
                 DirectoryObject,
                 recorded,
             )
         }
         ScriptRecord::Book(recorded) => {
-            marks_of_events(alloc, ObjectName::Book.word(), BookObject, recorded)
+            marks_of_events(alloc, range, ObjectName::Book.word(), BookObject, recorded)
         }
         ScriptRecord::Sticky(recorded) => {
-            marks_of_events(alloc, ObjectName::Sticky.word(), StickyObject, recorded)
+            marks_of_events(
+                alloc,
+                range,
+                ObjectName::Sticky.word(),
+                StickyObject,
+                recorded,
+            )
         }
     }
 }
 
-/// What a picture shows of the run of a script.
+/// What a picture shows of the run of a script, of which these events are to be chosen.
 ///
-/// Errors: `TooManyEvents` where it has more than 2,000 events; else `Memory`.
-fn subject_of_run(alloc: Global, run: ScriptRun<ScriptRecord>) -> Result<Subject, PictureFault>
-    ensures few { OnOk result (events_of_record run.record ≤ 2000) }
+/// Errors: `TooManyEvents` where more than 2,000 are chosen; else `Memory`.
+fn subject_of_run(
+    alloc: Global,
+    range: Range,
+    run: ScriptRun<ScriptRecord>,
+) -> Result<Subject, PictureFault>
+    ensures few { OnOk result (count_in range (events_of_record run.record) ≤ 2000) }
     ensures marks { IfOk result (λ subject. marks_shown subject.marks ≡ marks_of_record run.record) }
     ensures remarks { IfOk result (λ subject. subject.remarks.items ≡ run.remarks.items) }
-    ensures many { IsErrOf result PictureFault.TooManyEvents → 2000 < events_of_record run.record }
+    ensures many { IsErrOf result PictureFault.TooManyEvents → 2000 < count_in range (events_of_record run.record) }
     ensures memory { (e : Fault) → IsErrOf result (PictureFault.Script e) → e ≡ Fault.Memory }
 {
-    let marks = marks_of_record(alloc, &run.record)?;
+    let marks = marks_of_record(alloc, range, &run.record)?;
     Ok(Subject {
         marks,
         remarks: run.remarks,
     })
 }
 
-/// What a picture shows of the script that a reader has.
+/// What a picture shows of the script that a reader has, of which these events are to be chosen.
 ///
 /// An `Err` is the first fault of the script; `Read` where the reader failed; `Memory` where memory was
-/// refused; or `TooManyEvents` of a good script that has more than 2,000 events.
-pub fn subject_of<I: TextIn>(alloc: Global, reader: &mut I) -> Result<Subject, PictureFault>
+/// refused; or `TooManyEvents` of a good script of which more than 2,000 events are chosen.
+pub fn subject_of<I: TextIn>(
+    alloc: Global,
+    range: Range,
+    reader: &mut I,
+) -> Result<Subject, PictureFault>
     requires { I.has_failed reader.old ≡ false }
-    ensures subject { IfOk result (λ subject. IsSubject (I.remaining reader.old)
+    ensures subject { IfOk result (λ subject. IsSubject range (I.remaining reader.old)
         (marks_shown subject.marks) subject.remarks.items) }
-    ensures few { IfOk result (λ subject. subject.marks.events ≤ 2000) }
+    ensures few { IfOk result (λ subject. count_in range subject.marks.events ≤ 2000) }
     ensures remarks { IfOk result (λ subject. length subject.remarks.items ≤ 100000) }
-    ensures many { IsErrOf result PictureFault.TooManyEvents → HasTooManyEvents (I.remaining reader.old) }
+    ensures many { IsErrOf result PictureFault.TooManyEvents → HasTooManyEvents range (I.remaining reader.old) }
     ensures fault { (e : Fault) → IsErrOf result (PictureFault.Script e) → IsFaultOfScript e
         → HasFault (scripts_of 1048576) (I.remaining reader.old) e }
 {
     let run = run_of_script(alloc, reader, &Options::default())?;
-    subject_of_run(alloc, run)
+    subject_of_run(alloc, range, run)
 }
 
 /// What a picture shows of the script over an object that a reader has, whose header names the object by this word, as
@@ -193,44 +220,48 @@ pub fn subject_of_object<O: Spoken + Copy, I: TextIn>(
     alloc: Global,
     object: O,
     name: &str,
+    range: Range,
     reader: &mut I,
 ) -> Result<Subject, PictureFault>
     requires { I.has_failed reader.old ≡ false }
     ensures subject { IfOk result (λ subject. IsSubjectOf
         (own_scripts_of (spoken O.sequential O.language object) name.now 1048576)
-        (marks_of_own (spoken O.sequential O.language object) O.state_text name.now) (I.remaining reader.old)
+        (marks_of_own (spoken O.sequential O.language object) O.state_text name.now) range (I.remaining reader.old)
         (marks_shown subject.marks) subject.remarks.items) }
-    ensures few { IfOk result (λ subject. subject.marks.events ≤ 2000) }
+    ensures few { IfOk result (λ subject. count_in range subject.marks.events ≤ 2000) }
     ensures remarks { IfOk result (λ subject. length subject.remarks.items ≤ 100000) }
     ensures many { IsErrOf result PictureFault.TooManyEvents
         → HasMoreEvents (own_scripts_of (spoken O.sequential O.language object) name.now 1048576)
-        (I.remaining reader.old) }
+        range (I.remaining reader.old) }
     ensures fault { (e : Fault) → IsErrOf result (PictureFault.Script e) → IsFaultOfScript e
         → HasFault (own_scripts_of (spoken O.sequential O.language object) name.now 1048576)
         (I.remaining reader.old) e }
 {
     let run = run_of_object(alloc, object, name, reader, &Options::default())?;
-    subject_of_own_run(alloc, object, name, run)
+    subject_of_own_run(alloc, object, name, range, run)
 }
 
-/// What a picture shows of the run of a script over an object; `object` is a further value of it.
+/// What a picture shows of the run of a script over an object, of which these events are to be chosen; `object` is a
+/// further value of it.
 ///
-/// Errors: `TooManyEvents` where it has more than 2,000; else `Memory`.
+/// Errors: `TooManyEvents` where more than 2,000 are chosen; else `Memory`.
 fn subject_of_own_run<O: Spoken>(
     alloc: Global,
     object: O,
     name: &str,
+    range: Range,
     run: ScriptRun<Recorded<O>>,
 ) -> Result<Subject, PictureFault>
-    ensures few { OnOk result (length (events_shown run.record.events) ≤ 2000) }
+    ensures few { OnOk result (count_in range (length (events_shown run.record.events)) ≤ 2000) }
     ensures marks { IfOk result (λ subject. marks_shown subject.marks
         ≡ marks_of_events (record { object = O.sequential object; language = O.language }) O.state_text name.now
         run.record.processes run.record.first (events_shown run.record.events)) }
     ensures remarks { IfOk result (λ subject. subject.remarks.items ≡ run.remarks.items) }
-    ensures many { IsErrOf result PictureFault.TooManyEvents → 2000 < length (events_shown run.record.events) }
+    ensures many { IsErrOf result PictureFault.TooManyEvents
+        → 2000 < count_in range (length (events_shown run.record.events)) }
     ensures memory { (e : Fault) → IsErrOf result (PictureFault.Script e) → e ≡ Fault.Memory }
 {
-    let marks = marks_of_events(alloc, name, object, &run.record)?;
+    let marks = marks_of_events(alloc, range, name, object, &run.record)?;
     Ok(Subject {
         marks,
         remarks: run.remarks,

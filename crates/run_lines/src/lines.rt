@@ -6,7 +6,7 @@ ghost use Rattle.uni_script.specs.Replay.{HasFault, IsFaultOfScript};
 ghost use Rattle.uni_script.specs.Scripts.{scripts_of, own_scripts_of};
 ghost use Rattle.uni_script.specs.declared.fault.BenchFault.{BenchFault as Fault};
 ghost use Rattle.run_replay.specs.MarksShown.{marks_shown};
-ghost use Rattle.run_layout.specs.Choice.{chosen, chosen_remarks};
+ghost use Rattle.run_layout.specs.Choice.{chosen, chosen_remarks, count_in};
 ghost use Rattle.run_layout.specs.Subject.{HasTooManyEvents, HasMoreEvents, marks_of_own};
 ghost use Rattle.run_lines.specs.Lines.{IsLines, IsLinesOf};
 ghost use Rattle.run_lines.specs.Sheet.{IsTextOf};
@@ -26,7 +26,7 @@ fn text_of_subject(
     columns: u64,
     subject: Subject,
 ) -> Result<Vec<u8>, PictureFault>
-    requires events { subject.marks.events ≤ 2000 }
+    requires events { count_in range subject.marks.events ≤ 2000 }
     requires remarks { length subject.remarks.items ≤ 100000 }
     ensures text { IfOk result (λ text. IsTextOf columns (chosen range (marks_shown subject.marks))
         (chosen_remarks range subject.remarks.items) text.items) }
@@ -42,7 +42,7 @@ fn text_of_subject(
 /// A block has at least one column behind the names of lanes, and at most 1,000.
 ///
 /// An `Err` is the first fault of the script; `Read` where the reader failed; `Memory` where memory was
-/// refused; `TooManyEvents` of a good script that has more than 2,000 events; or `Misdrawn` where what is
+/// refused; `TooManyEvents` of a good script of which more than 2,000 events are chosen; or `Misdrawn` where what is
 /// drawn of its run does not show its marks, of which no script is known.
 pub fn lines_of<I: TextIn>(
     alloc: Global,
@@ -52,11 +52,11 @@ pub fn lines_of<I: TextIn>(
 ) -> Result<Vec<u8>, PictureFault>
     requires { I.has_failed reader.old ≡ false }
     ensures lines { IfOk result (λ text. IsLines range columns (I.remaining reader.old) text.items) }
-    ensures many { IsErrOf result PictureFault.TooManyEvents → HasTooManyEvents (I.remaining reader.old) }
+    ensures many { IsErrOf result PictureFault.TooManyEvents → HasTooManyEvents range (I.remaining reader.old) }
     ensures fault { (e : Fault) → IsErrOf result (PictureFault.Script e) → IsFaultOfScript e
         → HasFault (scripts_of 1048576) (I.remaining reader.old) e }
 {
-    let subject = subject_of(alloc, reader)?;
+    let subject = subject_of(alloc, range, reader)?;
     text_of_subject(alloc, range, columns, subject)
 }
 
@@ -79,11 +79,11 @@ pub fn lines_of_object<O: Spoken + Copy, I: TextIn>(
         range columns (I.remaining reader.old) text.items) }
     ensures many { IsErrOf result PictureFault.TooManyEvents
         → HasMoreEvents (own_scripts_of (spoken O.sequential O.language object) name.now 1048576)
-        (I.remaining reader.old) }
+        range (I.remaining reader.old) }
     ensures fault { (e : Fault) → IsErrOf result (PictureFault.Script e) → IsFaultOfScript e
         → HasFault (own_scripts_of (spoken O.sequential O.language object) name.now 1048576)
         (I.remaining reader.old) e }
 {
-    let subject = subject_of_object(alloc, object, name, reader)?;
+    let subject = subject_of_object(alloc, object, name, range, reader)?;
     text_of_subject(alloc, range, columns, subject)
 }

@@ -15,7 +15,7 @@ pub record IsPictureOf {B : Type 0} (kind : Kind B) (marks_in : B → RunMarks) 
     (svg : List ℕ) : Type 0 where
   pub marks : RunMarks
   pub remarks : List PlacedRemark
-  pub subject : IsSubjectOf kind marks_in left marks remarks
+  pub subject : IsSubjectOf kind marks_in range left marks remarks
   pub drawn : IsSvgOf (chosen range marks) (chosen_remarks range remarks) svg
 
 -- the same of a script over the named objects

@@ -6,7 +6,7 @@ ghost use Rattle.uni_script.specs.Replay.{HasFault, IsFaultOfScript};
 ghost use Rattle.uni_script.specs.Scripts.{scripts_of, own_scripts_of};
 ghost use Rattle.uni_script.specs.declared.fault.BenchFault.{BenchFault as Fault};
 ghost use Rattle.run_replay.specs.MarksShown.{marks_shown};
-ghost use Rattle.run_layout.specs.Choice.{chosen, chosen_remarks};
+ghost use Rattle.run_layout.specs.Choice.{chosen, chosen_remarks, count_in};
 ghost use Rattle.run_layout.specs.Subject.{HasTooManyEvents, HasMoreEvents, marks_of_own};
 ghost use Rattle.run_picture.specs.Drawn.{IsSvgOf};
 ghost use Rattle.run_picture.specs.Picture.{IsPicture, IsPictureOf};
@@ -24,7 +24,7 @@ use uni_script::TextIn;
 /// An `Err` is `Misdrawn` where the drawing does not show it, or says that memory was refused.
 #[tactic(auto, using(crate::proofs::Looking::svg_of_drawing))]
 fn svg_of_subject(alloc: Global, range: Range, subject: Subject) -> Result<Vec<u8>, PictureFault>
-    requires events { subject.marks.events ≤ 2000 }
+    requires events { count_in range subject.marks.events ≤ 2000 }
     requires remarks { length subject.remarks.items ≤ 100000 }
     ensures svg { IfOk result (λ svg. IsSvgOf (chosen range (marks_shown subject.marks))
         (chosen_remarks range subject.remarks.items) svg.items) }
@@ -40,7 +40,7 @@ fn svg_of_subject(alloc: Global, range: Range, subject: Subject) -> Result<Vec<u
 /// The picture of the run of the script that a reader has, where these events are chosen, as the text of an SVG.
 ///
 /// An `Err` is the first fault of the script; `Read` where the reader failed; `Memory` where memory was
-/// refused; `TooManyEvents` of a good script that has more than 2,000 events; or `Misdrawn` where the drawing
+/// refused; `TooManyEvents` of a good script of which more than 2,000 events are chosen; or `Misdrawn` where the drawing
 /// of its run does not show its marks, of which no script is known.
 pub fn picture_of<I: TextIn>(
     alloc: Global,
@@ -49,11 +49,11 @@ pub fn picture_of<I: TextIn>(
 ) -> Result<Vec<u8>, PictureFault>
     requires { I.has_failed reader.old ≡ false }
     ensures picture { IfOk result (λ svg. IsPicture range (I.remaining reader.old) svg.items) }
-    ensures many { IsErrOf result PictureFault.TooManyEvents → HasTooManyEvents (I.remaining reader.old) }
+    ensures many { IsErrOf result PictureFault.TooManyEvents → HasTooManyEvents range (I.remaining reader.old) }
     ensures fault { (e : Fault) → IsErrOf result (PictureFault.Script e) → IsFaultOfScript e
         → HasFault (scripts_of 1048576) (I.remaining reader.old) e }
 {
-    let subject = subject_of(alloc, reader)?;
+    let subject = subject_of(alloc, range, reader)?;
     svg_of_subject(alloc, range, subject)
 }
 
@@ -75,11 +75,11 @@ pub fn picture_of_object<O: Spoken + Copy, I: TextIn>(
         range (I.remaining reader.old) svg.items) }
     ensures many { IsErrOf result PictureFault.TooManyEvents
         → HasMoreEvents (own_scripts_of (spoken O.sequential O.language object) name.now 1048576)
-        (I.remaining reader.old) }
+        range (I.remaining reader.old) }
     ensures fault { (e : Fault) → IsErrOf result (PictureFault.Script e) → IsFaultOfScript e
         → HasFault (own_scripts_of (spoken O.sequential O.language object) name.now 1048576)
         (I.remaining reader.old) e }
 {
-    let subject = subject_of_object(alloc, object, name, reader)?;
+    let subject = subject_of_object(alloc, object, name, range, reader)?;
     svg_of_subject(alloc, range, subject)
 }

@@ -7,8 +7,8 @@ pub mod PlacesMore
 pub mod Lists
 pub mod Walked
 pub mod Ends
-pub mod Dots
 pub mod Replayed
+pub mod Linking
 pub mod WholeMarks
 pub mod Logged
 pub mod Boxed

@@ -1,11 +1,10 @@
 -- The marks of an event that is replayed.
 use Rattle.run_replay.proofs.Vocabulary.{Act, Called, End, EraMarks, Invoked, Linearize, List, Memory, Name, None, Option, Pending, Progress, Respond, RunMarks, Sequential, Some, SpokenObject, Step, WorldOf, [], acts_of, ap, append-nil, bar_ended, calls_of, dots_by, dots_of, drop, end_of_step, entry_shown, kind_of, length, length-map, linearized_in, log, map, name_in, option_map, option_map_or, place_named, place_of, progress_of, refl, response_after, response_of_step, responses_of, steps_by, sym, world_after, world_after_step, ℕ, ◌++◌, ◌-◌, ◌∙◌, ◌∷◌, ◌≡◌, ◌≢◌}
 use Rattle.std.specs.Prelude.{Bool}
-use Rattle.uni_model.specs.Chain.{Entry as Logged, invoked_at}
+use Rattle.uni_model.specs.Chain.{invoked_at}
 use Rattle.uni_core.specs.declared.fault.Progress.TheVariants.{Done}
 use Rattle.uni_core.specs.declared.stage.StepKind.{StepKind}
 use Rattle.uni_core.specs.declared.stage.Place.{Place as PlaceById}
-use Rattle.uni_log.specs.declared.entry.Entry.{Entry}
 use Rattle.run_replay.specs.declared.marks.StepMark.{StepMark}
 use Rattle.run_replay.specs.Changes.{has_changed, standing_at, changes_place}
 
@@ -26,6 +25,24 @@ module _ {S I R : Type 0} where
     by_call None = refl
     by_call (Some c) = refl
 
+  -- whether a step that was taken has changed its place, by what stood there before and after it
+  pub changes-taken : (object : Sequential S I R) (w v : WorldOf S I R) (p : ℕ) (kind : StepKind) (at : PlaceById) (before : ℕ) (changed : Bool) (c : Pending)
+      → kind_of c.stage ≡ kind
+      → place_of w.n p c.mine c.stage ≡ place_named (name_in w) at
+      → v ≡ world_after object w (Step p)
+      → before ≡ standing_at w.memory (place_named (name_in w) at)
+      → changed ≡ has_changed kind before (standing_at v.memory (place_named (name_in v) at))
+      → changed ≡ changes_place object w p c
+  changes-taken object w v p kind at before changed c same there world stood has =
+      let now : standing_at v.memory (place_named (name_in v) at) ≡ standing_at (world_after object w (Step p)).memory (place_of w.n p c.mine c.stage) =
+      ap (λ name. standing_at v.memory (place_named name at)) (names_kept object w v p world)
+      ∙ ap (λ (u : WorldOf S I R). standing_at u.memory (place_named (name_in w) at)) world
+      ∙ ap (standing_at (world_after object w (Step p)).memory) (sym there) in
+      let was : before ≡ standing_at w.memory (place_of w.n p c.mine c.stage) = stood ∙ ap (standing_at w.memory) (sym there) in
+      has ∙ ap (λ k. has_changed k before (standing_at v.memory (place_named (name_in v) at))) (sym same)
+      ∙ ap (λ n. has_changed (kind_of c.stage) n (standing_at v.memory (place_named (name_in v) at))) was
+      ∙ ap (has_changed (kind_of c.stage) (standing_at w.memory (place_of w.n p c.mine c.stage))) now
+
   -- a step of a call that is pending, with its kind, and whether it has changed its place
   pub steps_by-taken : (object : Sequential S I R) (w v : WorldOf S I R) (place p nth number : ℕ) (kind : StepKind) (at : PlaceById) (before : ℕ) (changed : Bool)
       → option_map (λ (c : Pending). kind_of c.stage) (w.call p) ≡ Some kind
@@ -45,15 +62,7 @@ module _ {S I R : Type 0} where
       by_call (Some c) e f =
           let same : kind_of c.stage ≡ kind = cc in
           let there : place_of w.n p c.mine c.stage ≡ place_named (name_in w) at = cc in
-          let now : standing_at v.memory (place_named (name_in v) at) ≡ standing_at (world_after object w (Step p)).memory (place_of w.n p c.mine c.stage) =
-          ap (λ name. standing_at v.memory (place_named name at)) (names_kept object w v p world)
-          ∙ ap (λ (u : WorldOf S I R). standing_at u.memory (place_named (name_in w) at)) world
-          ∙ ap (standing_at (world_after object w (Step p)).memory) (sym there) in
-          let was : before ≡ standing_at w.memory (place_of w.n p c.mine c.stage) = stood ∙ ap (standing_at w.memory) (sym there) in
-          let is : changed ≡ changes_place object w p c =
-          has ∙ ap (λ k. has_changed k before (standing_at v.memory (place_named (name_in v) at))) (sym same)
-          ∙ ap (λ n. has_changed (kind_of c.stage) n (standing_at v.memory (place_named (name_in v) at))) was
-          ∙ ap (has_changed (kind_of c.stage) (standing_at w.memory (place_of w.n p c.mine c.stage))) now in
+          let is = changes-taken object w v p kind at before changed c same there world stood has in
           let u = world_after object w (Step p) in
           ap (λ k. let m : StepMark = record { event = place; process = p; nth = u.begun p - 1; number = u.steps p; kind = k; changed = changes_place object w p c } in m ∷ []) same
           ∙ ap (λ b. let m : StepMark = record { event = place; process = p; nth = u.begun p - 1; number = u.steps p; kind = kind; changed = b } in m ∷ []) (sym is)
@@ -78,11 +87,6 @@ none_linearized {S} {I} {R} m p mine (Some r) = by_invoked (invoked_at m mine)
     by_invoked None = refl
     by_invoked (Some c) = refl
 
--- as many calls as entries
-pub length-calls_of : {S I R : Type 0} (entries : List (Entry I R)) (w : WorldOf S I R) → map entry_shown entries ≡ log w → length entries ≡ length (calls_of w)
-length-calls_of {S} {I} {R} entries w logged =
-    sym (length-map entries entry_shown) ∙ ap length logged ∙ sym (length-map (log w) (λ (e : Logged I R). e.call))
-
 module _ {S I R : Type 0} where
   -- the calls that take effect by a step are those that the list has more after it
   pub linearized_by_step : (object : Sequential S I R) (w : WorldOf S I R) (p : ℕ)
@@ -95,13 +99,6 @@ module _ {S I R : Type 0} where
       by_call : (o : Option Pending) → linearized_in {I = I} {R = R} (option_map_or (λ (call : Pending). responses_of w.memory p call.mine (response_after call.mine call.stage w.memory)) o []) ≡ []
       by_call None = refl
       by_call (Some call) = none_linearized w.memory p call.mine (response_after call.mine call.stage w.memory)
-
-  pub dots_by-step : (object : Sequential S I R) (w v : WorldOf S I R) (place p before : ℕ) → v ≡ world_after object w (Step p) → before ≡ length (calls_of w)
-      → dots_of place p (drop before (calls_of v)) ≡ dots_by object w place (Step p)
-  dots_by-step object w v place p before after all =
-      ap (λ u. dots_of place p (drop before (calls_of u))) after
-      ∙ ap (λ k. dots_of place p (drop k (calls_of (world_after object w (Step p))))) all
-      ∙ ap (dots_of place p) (sym (linearized_by_step object w p))
 
   module _ (o : SpokenObject S I R) (w : WorldOf S I R) (place p : ℕ) where
     pub end_of_step-none : response_of_step w p ≡ None → end_of_step o w place p ≡ None

@@ -2,19 +2,6 @@
 use Rattle.run_replay.proofs.Vocabulary.{List, [], ap, append_assoc, arith, at_drop_all, at_drop_more, drop, drop_all, get_or, length, map, map-append, refl, slice_set, suc, sym, take, take_all, take_more_set, zero, ℕ, ◌++◌, ◌+◌, ◌<◌, ◌∙◌, ◌∷◌, ◌≡◌, ◌≤◌}
 use Rattle.std.proofs.Common.{append-nil}
 
-module _ {X Y : Type 0} (f : X → Y) where
-  -- one element more is taken
-  pub walked-more : (made more : List Y) (xs : List X) (i : ℕ) (x : X) → i < length xs → x ≡ get_or xs i x → more ≡ made ++ f x ∷ []
-      → more ++ map f (drop (i + 1) xs) ≡ made ++ map f (drop i xs)
-  walked-more made more xs i x within is added =
-      ap (λ l. l ++ map f (drop (i + 1) xs)) added
-      ∙ append_assoc made (f x ∷ []) (map f (drop (i + 1) xs))
-      ∙ ap (λ l. made ++ l) (sym (at_drop_more (map f) xs i x within ∙ ap (λ y. f y ∷ map f (drop (i + 1) xs)) (sym is)))
-
-  -- none is left
-  pub walked-end : (made : List Y) (xs : List X) (i : ℕ) → length xs ≤ i → made ++ map f (drop i xs) ≡ made
-  walked-end made xs i past = ap (λ l. made ++ l) (at_drop_all (map f) xs i past) ∙ append-nil made
-
 pub map-map : {X Y Z : Type 0} (f : X → Y) (g : Y → Z) (xs : List X) → map g (map f xs) ≡ map (λ x. g (f x)) xs
 map-map f g [] = refl
 map-map f g (x ∷ xs) = ap (λ l. g (f x) ∷ l) (map-map f g xs)

@@ -1,28 +1,25 @@
 //! The marks of a run, by the replay of its events.
 
 ghost use Rattle.std.specs.Prelude.{◌≡◌, ℕ, ◌<◌, ◌++◌, ◌∷◌, [], ◌^◌, IfOk, OnOk};
-ghost use Rattle.std.specs.Prelude.{IfSome, IsSome, Some, drop, map, option_map};
+ghost use Rattle.std.specs.Prelude.{IsSome, map, option_map};
 ghost use Rattle.std.specs.Option.{option_copied};
 ghost use Rattle.cell_arena.specs.Arena.{cell_of};
-ghost use Rattle.uni_model.specs.Places.{head_seq};
-ghost use Rattle.uni_model.specs.Transition.{place_of};
 ghost use Rattle.uni_model.specs.Worlds.{opened_world, world_after};
 ghost use Rattle.uni_model.specs.Worlds.Event.{Call, Step};
-ghost use Rattle.uni_model.specs.History.{calls_of};
-ghost use Rattle.uni_core.specs.Readers.{kind_of, place_named};
+ghost use Rattle.uni_core.specs.Readers.{place_named, IsPlaceIn};
 ghost use Rattle.uni_core.specs.World.{name_in, world_of};
 ghost use Rattle.uni_log.specs.Entry.{entry_shown};
 ghost use Rattle.uni_record.specs.Event.{event_lent, event_shown, events_shown};
-ghost use Rattle.run_replay.specs.Marks.{marks_of_run, bar_begun, box_of, dots_of, era_of};
+ghost use Rattle.run_replay.specs.Marks.{marks_of_run, bar_begun, box_of, era_of};
 ghost use Rattle.run_replay.specs.MarksShown.{bar_shown, cell_shown, era_shown, marks_shown};
-ghost use Rattle.run_replay.specs.Marking.{marks_with, from_with, bar_ended};
+ghost use Rattle.run_replay.specs.Marking.{marks_with, from_with, bar_ended, dot_linked};
 ghost use Rattle.run_replay.specs.Changes.{announces, has_changed, presence, standing_at};
 
 use crate::marks::{Bar, BarEnd, CellBox, Dot, Era, EraEnd, EraLine, Marks, StepMark};
 use crate::opening::reopened;
+use crate::scenes::{Coming, coming_step, take_step};
 use cell_arena::CellId;
 use ready_objects::Spoken;
-use seq_object::CallId;
 use std::alloc::{AllocError, Global};
 use uni_core::{Place, Progress, StepKind, World, reshape, trim};
 use uni_log::{Entry, Log};
@@ -148,29 +145,6 @@ fn replay_call<O: Spoken>(
     Ok(())
 }
 
-/// Whether there is a cell in a world.
-///
-/// An `Err` says that there isn't.
-fn check_there<O: Spoken>(world: &World<O>, cell: CellId) -> Result<(), AllocError>
-    ensures { OnOk result (IsSome (cell_of world.now.shared.cells cell)) }
-{
-    world.shape();
-    if cell.index() == 0 {
-        return Ok(());
-    }
-    let place = u64::from(cell.index()) - 1;
-    let process = place % world.processes();
-    let first = world
-        .begun(process)
-        .saturating_sub(world.calls_in_era(process));
-    let nth = first.saturating_add(place / world.processes());
-    let process = process as u32;
-    match world.cell_of(CallId { process, nth }) {
-        Some(found) if found.index() == cell.index() => Ok(()),
-        _ => Err(AllocError),
-    }
-}
-
 /// 1 where a cell is linked.
 fn linked(link: Option<CellId>) -> u64
     ensures { result ≡ presence link }
@@ -191,80 +165,27 @@ fn settled<O: Spoken>(new: Option<&(O::State, Option<O::Resp>)>) -> u64
     }
 }
 
-/// The number of the cell that the head of a process names.
-///
-/// An `Err` says that there is no such process.
-fn head_standing<O: Spoken>(world: &World<O>, process: u64) -> Result<u64, AllocError>
-    ensures { IfOk result (λ standing. standing ≡ head_seq (world_of world.now).memory process) }
-{
-    if process >= world.processes() {
-        return Err(AllocError);
-    }
-    Ok(world.head_seq(process))
-}
-
 /// What tells the contents of a place of a world apart: the number of a cell, or of the cell that a head names, and
 /// whether a cell is linked or a state is settled.
-///
-/// An `Err` would say that there is no such place, as a world's own steps never do.
-fn standing_at<O: Spoken>(world: &World<O>, place: Place) -> Result<u64, AllocError>
-    ensures { IfOk result (λ standing. standing
-        ≡ standing_at (world_of world.now).memory (place_named (name_in (world_of world.now)) place)) }
+fn standing_at<O: Spoken>(world: &World<O>, place: Place) -> u64
+    requires { IsPlaceIn (world_of world.now).n (λ cell. IsSome (cell_of world.now.shared.cells cell)) place }
+    ensures { result ≡ standing_at (world_of world.now).memory (place_named (name_in (world_of world.now)) place) }
 {
     match place {
-        Place::Announced(_) => Ok(0),
-        Place::HeadOf(process) => head_standing(world, process),
-        Place::SeqOf(cell) => {
-            check_there(world, cell)?;
-            Ok(world.seq(cell))
-        }
-        Place::AfterOf(cell) => {
-            check_there(world, cell)?;
-            Ok(linked(world.after(cell)))
-        }
-        Place::NewOf(cell) => {
-            check_there(world, cell)?;
-            Ok(settled::<O>(world.new_of(cell)))
-        }
-        Place::BeforeOf(cell) => {
-            check_there(world, cell)?;
-            Ok(linked(world.before(cell)))
-        }
+        Place::Announced(_) => 0,
+        Place::HeadOf(process) => world.head_seq(process),
+        Place::SeqOf(cell) => world.seq(cell),
+        Place::AfterOf(cell) => linked(world.after(cell)),
+        Place::NewOf(cell) => settled::<O>(world.new_of(cell)),
+        Place::BeforeOf(cell) => linked(world.before(cell)),
     }
 }
 
-/// A step that a process is about to take.
-#[derive(Clone, Copy)]
-struct Coming {
-    /// Its kind.
-    kind: StepKind,
-    /// Its place.
-    place: Place,
-}
-
-/// The next step of a process; `None` where it has no call pending.
-fn coming_step<O: Spoken>(world: &World<O>, process: u64) -> Option<Coming>
-    requires { process < (world_of world.now).n }
-    ensures kind { IfSome result (λ coming. option_map (λ c. kind_of c.stage) ((world_of world.now).call process)
-        ≡ Some coming.kind) }
-    ensures place { IfSome result (λ coming. option_map (λ c. place_of (world_of world.now).n process c.mine c.stage)
-        ((world_of world.now).call process)
-        ≡ Some (place_named (name_in (world_of world.now)) coming.place)) }
+/// Whether a step of this kind has changed a place, which stood so before it and after it.
+fn has_changed(kind: StepKind, before: u64, after: u64) -> bool
+    ensures { result ≡ has_changed kind before after }
 {
-    let kind = world.next_kind(process)?;
-    let place = world.next_place(process)?;
-    Some(Coming { kind, place })
-}
-
-/// Whether a step has changed its place, which stood so before it, by the world after it.
-///
-/// An `Err` would say that there is no such place.
-fn has_changed<O: Spoken>(taken: Coming, before: u64, world: &World<O>) -> Result<bool, AllocError>
-    ensures { IfOk result (λ changed. changed ≡ has_changed taken.kind before
-        (standing_at (world_of world.now).memory (place_named (name_in (world_of world.now)) taken.place))) }
-{
-    let after = standing_at(world, taken.place)?;
-    Ok(announces(taken.kind) || before != after)
+    announces(kind) || before != after
 }
 
 /// Whether a step of this kind announces a cell, which is a new one.
@@ -302,22 +223,22 @@ fn replay_step<O: Spoken>(
     let Some(coming) = coming_step(replay, process) else {
         return Err(AllocError);
     };
-    let standing = standing_at(replay, coming.place)?;
-    let before = Log::of(replay).entries(alloc)?.len();
-    let Ok(progress) = replay.step(alloc, process) else {
-        return Err(AllocError);
-    };
+    replay.shape();
+    let before = standing_at(replay, coming.place);
+    let progress = take_step(alloc, process, replay)?;
+    let after = standing_at(replay, coming.place);
     let nth = replay.begun(process).saturating_sub(1);
     let steps = replay.steps(process);
+    let changed = has_changed(coming.kind, before, after);
     marks.steps.push(StepMark {
         event: place,
         process,
         nth,
         number: steps,
         kind: coming.kind,
-        changed: has_changed(coming, standing, replay)?,
+        changed,
     })?;
-    push_dots(alloc, replay, before, place, process, &mut marks.dots)?;
+    push_dot(coming, changed, place, process, &mut marks.dots)?;
     if let Progress::Done(reply) = progress {
         let turns = replay.turns(process);
         end_bars::<O>(alloc, process, place, reply, steps, turns, &mut marks.bars)?;
@@ -325,27 +246,22 @@ fn replay_step<O: Spoken>(
     Ok(())
 }
 
-/// Adds the dots of a step of a process, before which the list had so many cells.
+/// Adds the dot of a step that a process has taken, where it changed its place by the cell of a call that it proposed.
 ///
 /// An `Err` says that memory was refused.
-fn push_dots<O: Spoken>(
-    alloc: Global,
-    world: &World<O>,
-    before: usize,
+fn push_dot(
+    taken: Coming,
+    changed: bool,
     place: u64,
     process: u64,
     dots: &mut Vec<Dot>,
 ) -> Result<(), AllocError>
-    ensures { OnOk result (dots.new.items ≡ dots.old.items
-        ++ dots_of place process (drop before (calls_of (world_of world.now)))) }
+    ensures { OnOk result (dots.new.items ≡ dots.old.items ++ dot_linked place process taken.proposed changed) }
 {
-    let entries = Log::of(world).entries(alloc)?;
-    for at in before..entries.len() {
-        dots.push(Dot {
-            event: place,
-            call: entries[at].call,
-            by: process,
-        })?;
+    if let (Some(call), true) = (taken.proposed, changed) {
+        let event = place;
+        let by = process;
+        dots.push(Dot { event, call, by })?;
     }
     Ok(())
 }

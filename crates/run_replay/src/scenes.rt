@@ -198,15 +198,15 @@ fn proposed_of(
 
 /// A step that a process is about to take.
 #[derive(Clone, Copy)]
-struct Coming {
+pub(crate) struct Coming {
     /// Its call.
-    call: CallId,
+    pub(crate) call: CallId,
     /// Its kind.
-    kind: StepKind,
+    pub(crate) kind: StepKind,
     /// Its place.
-    place: Place,
+    pub(crate) place: Place,
     /// The call whose cell it proposes, if it proposes a cell.
-    proposed: Option<CallId>,
+    pub(crate) proposed: Option<CallId>,
 }
 
 /// The call whose cell the next step of a process proposes after its head.
@@ -222,7 +222,7 @@ fn proposed_call<O: Spoken>(world: &World<O>, process: u64) -> Option<CallId>
 }
 
 /// The next step of a process; `None` where it has no call pending.
-fn coming_step<O: Spoken>(world: &World<O>, process: u64) -> Option<Coming>
+pub(crate) fn coming_step<O: Spoken>(world: &World<O>, process: u64) -> Option<Coming>
     requires { process < (world_of world.now).n }
     ensures call { IfSome result (λ coming. current_of (world_of world.now) process ≡ Some coming.call) }
     ensures kind { IfSome result (λ coming. option_map (λ c. kind_of c.stage) ((world_of world.now).call process) ≡
@@ -250,7 +250,7 @@ fn coming_step<O: Spoken>(world: &World<O>, process: u64) -> Option<Coming>
 /// A process takes a step in a replay; the answer is that of the step. The cells stay.
 ///
 /// An `Err` says that memory was refused, or the step.
-fn take_step<O: Spoken>(
+pub(crate) fn take_step<O: Spoken>(
     alloc: Global,
     process: u64,
     replay: &mut World<O>,

@@ -4,6 +4,7 @@ ghost use Rattle.std.specs.Prelude.{◌≡◌, IfOk, IsErrOf, false};
 ghost use Rattle.uni_script.specs.Replay.{HasFault, IsFaultOfScript};
 ghost use Rattle.uni_script.specs.Scripts.{scripts_of};
 ghost use Rattle.uni_script.specs.declared.fault.BenchFault.{BenchFault as Fault};
+ghost use Rattle.run_layout.specs.Choice.{all_events};
 ghost use Rattle.run_layout.specs.Subject.{HasTooManyEvents};
 ghost use Rattle.run_tell.specs.History.{IsHistory};
 
@@ -54,7 +55,7 @@ impl Telling for InHistory {
 pub fn history_of<I: TextIn>(alloc: Global, reader: &mut I) -> Result<Vec<u8>, PictureFault>
     requires { I.has_failed reader.old ≡ false }
     ensures history { IfOk result (λ text. IsHistory (I.remaining reader.old) text.items) }
-    ensures many { IsErrOf result PictureFault.TooManyEvents → HasTooManyEvents (I.remaining reader.old) }
+    ensures many { IsErrOf result PictureFault.TooManyEvents → HasTooManyEvents all_events (I.remaining reader.old) }
     ensures fault { (e : Fault) → IsErrOf result (PictureFault.Script e) → IsFaultOfScript e
         → HasFault (scripts_of 1048576) (I.remaining reader.old) e }
 {

@@ -6,6 +6,7 @@ ghost use Rattle.uni_script.specs.Scripts.{scripts_of};
 ghost use Rattle.uni_script.specs.declared.fault.BenchFault.{BenchFault as Fault};
 ghost use Rattle.uni_script.specs.declared.grammar.Version.{Version};
 ghost use Rattle.uni_script.specs.ScriptRun.{session_of_record};
+ghost use Rattle.run_layout.specs.Choice.{all_events};
 ghost use Rattle.run_layout.specs.Subject.{HasTooManyEvents, events_of_record};
 ghost use Rattle.run_tell.specs.Told.{IsLinearizableSession};
 ghost use Rattle.run_tell.specs.Page.{IsPage, escaped, escaped_byte, page_between, page_text};
@@ -94,7 +95,7 @@ fn page_of_run(alloc: Global, run: &ScriptRun<ScriptRecord>) -> Result<Vec<u8>, 
 pub fn page_of<I: TextIn>(alloc: Global, reader: &mut I) -> Result<Vec<u8>, PictureFault>
     requires { I.has_failed reader.old ≡ false }
     ensures page { IfOk result (λ text. IsPage (I.remaining reader.old) text.items) }
-    ensures many { IsErrOf result PictureFault.TooManyEvents → HasTooManyEvents (I.remaining reader.old) }
+    ensures many { IsErrOf result PictureFault.TooManyEvents → HasTooManyEvents all_events (I.remaining reader.old) }
     ensures fault { (e : Fault) → IsErrOf result (PictureFault.Script e) → IsFaultOfScript e
         → HasFault (scripts_of 1048576) (I.remaining reader.old) e }
 {

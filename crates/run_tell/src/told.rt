@@ -8,6 +8,7 @@ ghost use Rattle.uni_script.specs.ScriptRun.{session_of_record};
 ghost use Rattle.uni_script.specs.Scripts.{scripts_of};
 ghost use Rattle.uni_script.specs.declared.fault.BenchFault.{BenchFault as Fault};
 ghost use Rattle.uni_script.specs.declared.grammar.Version.{Version};
+ghost use Rattle.run_layout.specs.Choice.{all_events};
 ghost use Rattle.run_layout.specs.Subject.{HasTooManyEvents, events_of_record};
 ghost use Rattle.run_tell.specs.Opened.{trace_shown};
 ghost use Rattle.run_tell.specs.Told.{IsLinearizableRun, IsLinearizableSession, IsTold, trace_of_events};
@@ -129,7 +130,7 @@ pub fn told_of<T: Telling, I: TextIn>(
 ) -> Result<Vec<u8>, PictureFault>
     requires { I.has_failed reader.old ≡ false }
     ensures told { IfOk result (λ text. IsTold T.wording (I.remaining reader.old) text.items) }
-    ensures many { IsErrOf result PictureFault.TooManyEvents → HasTooManyEvents (I.remaining reader.old) }
+    ensures many { IsErrOf result PictureFault.TooManyEvents → HasTooManyEvents all_events (I.remaining reader.old) }
     ensures fault { (e : Fault) → IsErrOf result (PictureFault.Script e) → IsFaultOfScript e
         → HasFault (scripts_of 1048576) (I.remaining reader.old) e }
 {

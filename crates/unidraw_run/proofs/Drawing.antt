@@ -5,6 +5,7 @@ use Rattle.uni_script.specs.Scripts.{scripts_of}
 use Rattle.uni_script.specs.declared.fault.BenchFault.{BenchFault}
 use Rattle.uni_script.specs.declared.fault.BenchFault.TheVariants.{NoHeader, BadHeader, TooLong, BadByte, BadLine, TooMany, Read, Write, Memory, Audit}
 use Rattle.run_layout.specs.Subject.{HasTooManyEvents}
+use Rattle.unidraw_run.specs.Drawn.{range_of}
 
 -- no fault ends with 0, nor does refused memory for its text
 least_status : (f : BenchFault) → 2 ≤ status_of f
@@ -37,29 +38,29 @@ status_2 (Script f) status is two = elim is [
 ]
 
 -- a fault that ends with 2 is one of a script, or that there are too many events
-no_picture : (left : Option (List ℕ)) (f : PictureFault) → status_of_picture f ≡ 2 → (f ≡ TooManyEvents → HasTooManyEvents left)
-    → ((e : BenchFault) → f ≡ Script e → IsFaultOfScript e → HasFault (scripts_of 1048576) left e) → HasNoPicture left
-no_picture left TooManyEvents two many fault = inl (many refl)
-no_picture left Misdrawn two many fault = absurd (omega arith)
-no_picture left (Script (NoHeader l)) two many fault = inr (NoHeader l, tt, fault (NoHeader l) refl tt)
-no_picture left (Script (BadHeader l)) two many fault = inr (BadHeader l, tt, fault (BadHeader l) refl tt)
-no_picture left (Script (TooLong l)) two many fault = inr (TooLong l, tt, fault (TooLong l) refl tt)
-no_picture left (Script (BadByte l)) two many fault = inr (BadByte l, tt, fault (BadByte l) refl tt)
-no_picture left (Script (BadLine l)) two many fault = inr (BadLine l, tt, fault (BadLine l) refl tt)
-no_picture left (Script TooMany) two many fault = inr (TooMany, tt, fault TooMany refl tt)
-no_picture left (Script Read) two many fault = absurd (omega arith)
-no_picture left (Script Write) two many fault = absurd (omega arith)
-no_picture left (Script Memory) two many fault = absurd (omega arith)
-no_picture left (Script (Audit verdict)) two many fault = absurd (omega arith)
+no_picture : (form : Form) (left : Option (List ℕ)) (f : PictureFault) → status_of_picture f ≡ 2 → (f ≡ TooManyEvents → HasTooManyEvents (range_of form) left)
+    → ((e : BenchFault) → f ≡ Script e → IsFaultOfScript e → HasFault (scripts_of 1048576) left e) → HasNoPicture form left
+no_picture form left TooManyEvents two many fault = inl (many refl)
+no_picture form left Misdrawn two many fault = absurd (omega arith)
+no_picture form left (Script (NoHeader l)) two many fault = inr (NoHeader l, tt, fault (NoHeader l) refl tt)
+no_picture form left (Script (BadHeader l)) two many fault = inr (BadHeader l, tt, fault (BadHeader l) refl tt)
+no_picture form left (Script (TooLong l)) two many fault = inr (TooLong l, tt, fault (TooLong l) refl tt)
+no_picture form left (Script (BadByte l)) two many fault = inr (BadByte l, tt, fault (BadByte l) refl tt)
+no_picture form left (Script (BadLine l)) two many fault = inr (BadLine l, tt, fault (BadLine l) refl tt)
+no_picture form left (Script TooMany) two many fault = inr (TooMany, tt, fault TooMany refl tt)
+no_picture form left (Script Read) two many fault = absurd (omega arith)
+no_picture form left (Script Write) two many fault = absurd (omega arith)
+no_picture form left (Script Memory) two many fault = absurd (omega arith)
+no_picture form left (Script (Audit verdict)) two many fault = absurd (omega arith)
 
 -- where a picture was refused with a fault, nothing was written
 pub IsDrawn-fault : {A : Type 0} (form : Form) (left old : Option (List ℕ)) (status : ℕ) (r : Result A PictureFault) (f : PictureFault) → r ≡ Err f
-    → (IsErrOf r TooManyEvents → HasTooManyEvents left) → ((e : BenchFault) → IsErrOf r (Script e) → IsFaultOfScript e → HasFault (scripts_of 1048576) left e)
+    → (IsErrOf r TooManyEvents → HasTooManyEvents (range_of form) left) → ((e : BenchFault) → IsErrOf r (Script e) → IsFaultOfScript e → HasFault (scripts_of 1048576) left e)
     → IsStatusOfPicture f status → IsDrawn form left old old status
 IsDrawn-fault {A} form left old status r f is many fault ends =
     let told : (g : PictureFault) → f ≡ g → IsErrOf r g = λ g same. is ∙ ap Err same in record {
       drawn = λ zero. absurd (status_not_0 f status ends zero);
-      bad = λ two. (no_picture left f (status_2 f status ends two) (λ same. many (told TooManyEvents same)) (λ e same. fault e (told (Script e) same)), refl);
+      bad = λ two. (no_picture form left f (status_2 f status ends two) (λ same. many (told TooManyEvents same)) (λ e same. fault e (told (Script e) same)), refl);
       prefix = λ _. inl refl;
       nothing = λ _. refl;
     }

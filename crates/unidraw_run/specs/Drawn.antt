@@ -5,6 +5,8 @@ use Rattle.uni_script.specs.Ends.{AppendsPrefix}
 use Rattle.uni_script.specs.Replay.{HasFault, IsFaultOfScript}
 use Rattle.uni_script.specs.Scripts.{scripts_of}
 use Rattle.uni_script.specs.declared.fault.BenchFault.{BenchFault}
+use Rattle.run_layout.specs.declared.choice.Range.{Range}
+use Rattle.run_layout.specs.Choice.{all_events}
 use Rattle.run_layout.specs.Subject.{HasTooManyEvents}
 use Rattle.run_picture.specs.Picture.{IsPicture}
 use Rattle.run_lines.specs.Lines.{IsLines}
@@ -27,14 +29,20 @@ IsPictureIn Full left text = IsWholeTrace left text
 IsPictureIn Html left text = IsPage left text
 IsPictureIn History left text = IsHistory left text
 
--- the reader had a script with a fault, or with too many events
-abbrev pub HasNoPicture : (left : Option (List ℕ)) → Type 0
-HasNoPicture left = HasTooManyEvents left ⊎ ((e : BenchFault) × IsFaultOfScript e × HasFault (scripts_of 1048576) left e)
+-- the events that a form shows
+abbrev pub range_of : Form → Range
+range_of (Svg range) = range
+range_of (Lines range columns) = range
+range_of _ = all_events
+
+-- the reader had a script with a fault, or with too many events that a form shows
+abbrev pub HasNoPicture : Form → (left : Option (List ℕ)) → Type 0
+HasNoPicture form left = HasTooManyEvents (range_of form) left ⊎ ((e : BenchFault) × IsFaultOfScript e × HasFault (scripts_of 1048576) left e)
 
 -- a run of the program that ended with this status, from what the input had left and the output held: 0 only where the picture was
 -- written, 2 only where the script has none; after a failure of the output a prefix of the picture was written, and else nothing
 pub record IsDrawn (form : Form) (left old new : Option (List ℕ)) (status : ℕ) : Type 0 where
   pub drawn : status ≡ 0 → (text : List ℕ) × IsPictureIn form left text × Appends old new text
-  pub bad : status ≡ 2 → HasNoPicture left × (new ≡ old)
+  pub bad : status ≡ 2 → HasNoPicture form left × (new ≡ old)
   pub prefix : status ≡ 3 → (new ≡ old) ⊎ ((text : List ℕ) × IsPictureIn form left text × AppendsPrefix old new text)
   pub nothing : status ≡ 4 → new ≡ old

@@ -7,7 +7,7 @@ ghost use Rattle.uni_script.specs.Scripts.{scripts_of};
 ghost use Rattle.uni_script.specs.declared.fault.BenchFault.{BenchFault as Fault};
 ghost use Rattle.run_layout.specs.Subject.{HasTooManyEvents};
 ghost use Rattle.unidraw_run.specs.CommandLine.{form_of_words, request_of_words, IsRefused};
-ghost use Rattle.unidraw_run.specs.Drawn.{IsPictureIn, IsDrawn};
+ghost use Rattle.unidraw_run.specs.Drawn.{IsPictureIn, IsDrawn, range_of};
 ghost use Rattle.unidraw_run.specs.Statuses.{IsStatusOfPicture, TellsPictureFault, picture_fault_line};
 
 use crate::words::{read_words, tip_for};
@@ -137,12 +137,12 @@ fn draw<I: KeepsText, O: TextOut, F: TextOut>(
 /// The picture of the script that a reader has, in a form.
 ///
 /// An `Err` is the first fault of the script; `Read` where the reader failed; `Memory` where memory was
-/// refused; `TooManyEvents` of a good script that has more than 2,000 events; or `Misdrawn` where the drawing
+/// refused; `TooManyEvents` of a good script of which more than 2,000 events are chosen; or `Misdrawn` where the drawing
 /// of its run does not show it.
 fn picture_in<I: TextIn>(alloc: Global, form: Form, reader: &mut I) -> Result<Vec<u8>, PictureFault>
     requires { I.has_failed reader.old ≡ false }
     ensures picture { IfOk result (λ text. IsPictureIn form (I.remaining reader.old) text.items) }
-    ensures many { IsErrOf result PictureFault.TooManyEvents → HasTooManyEvents (I.remaining reader.old) }
+    ensures many { IsErrOf result PictureFault.TooManyEvents → HasTooManyEvents (range_of form) (I.remaining reader.old) }
     ensures fault { (e : Fault) → IsErrOf result (PictureFault.Script e) → IsFaultOfScript e
         → HasFault (scripts_of 1048576) (I.remaining reader.old) e }
 {

@@ -55,7 +55,7 @@ line_of fault = picture_fault_text fault ++ 10 ∷ []
 -- why a script has no picture: its first fault, or more than 2,000 events
 abbrev pub HasNoPicture : (script : List ℕ) → PictureFault → Type 0
 HasNoPicture script (Script fault) = fault_of_script (scripts_of 1048576) script ≡ Some fault
-HasNoPicture script TooManyEvents = HasTooManyEvents (Some script)
+HasNoPicture script TooManyEvents = HasTooManyEvents all_events (Some script)
 HasNoPicture script Misdrawn = ⊥
 
 -- the script's picture as an SVG, its picture as lines, or the line that says why it has neither, is like this
