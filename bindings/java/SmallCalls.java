@@ -83,7 +83,7 @@ public final class SmallCalls {
         refuses(Fault.BAD_TABLE, () -> Small.Machine.open(0, new int[][] {{0, 1}, {1, 2}}, reply));
         refuses(Fault.BAD_TABLE, () -> Small.Machine.open(0, next, new int[][] {{0, 0}, {1, -1}}));
         refuses(Fault.BAD_TABLE, () -> Small.Machine.open(0, next, new int[][] {{0, 0}}));
-        refuses(Fault.BAD_TABLE, () -> Small.Machine.open(0, new int[][] {{0, 1}, {1}}, reply));
+        refuses(Fault.BAD_TABLE, () -> Small.Machine.open(0, new int[][] {{0, 1}, {1, 0, 1}}, reply));
         refuses(Fault.BAD_COUNT, () -> Small.Machine.open(65, next, reply));
     }
 

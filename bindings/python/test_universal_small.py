@@ -82,7 +82,8 @@ class Calls(unittest.TestCase):
         self.assertEqual([switch.call(invocation) for invocation in [0, 1, 0, MOST, 1]], [0, 0, 1, 1, 0])
         self.assertRaises(ValueError, lambda: switch.call(-1))
         self.assertEqual(switch.finish(), 1)
-        for bad in [([], []), ([[0, 1], [1, 2]], reply), (next, [[0, 0], [1, 1 << 31]]), (next, [[0, 0]]), ([[0, 1], [1]], reply)]:
+        uneven = [[0, 1], [1], [0, 1, 0]], [[0, 0]] * 3
+        for bad in [([], []), ([[0, 1], [1, 2]], reply), (next, [[0, 0], [1, 1 << 31]]), (next, [[0, 0]]), uneven]:
             self.refuses(Fault.BAD_TABLE, lambda: Machine.open(0, *bad))
         self.refuses(Fault.BAD_COUNT, lambda: Machine.open(65, next, reply))
 
