@@ -3,8 +3,8 @@
  * has the reply that it was given.
  *
  * n processes share an object, from 1 to 64. Each has a seat, by which it makes its calls. There are two kinds:
- *   - a small object: a counter, a register, an array of counters, a queue, a stack, a map, a book of accounts, or a machine
- *     of two tables, on words of 64 bits. Its seats make calls without end, and it keeps no history.
+ *   - a small object: a counter, a register, an array of counters, a queue, a stack, a map, a book of accounts, or a
+ *     machine of two tables, on words of 64 bits. Its seats make calls without end, and it keeps no history.
  *   - a log: a tally, a sticky register, a register, or a machine of two tables, on words of 31 bits. A seat makes up to k
  *     calls, at most 4,096, and the closed log tells all of them in their order.
  *
@@ -186,12 +186,12 @@ enum {
     UNIVERSAL_BOOK_SUM = 4
 };
 
-/* Opens the machine of two tables, which are copied. Its states are the numbers below `states`, of which 0 is the start; its
- * invocations are those below `invocations`, and each greater one is the last of them. In state s a call of invocation i is
- * answered reply[s * invocations + i], and next[s * invocations + i] is the state after it.
+/* Opens the machine of two tables, which are copied. Its states are the numbers below `states`, of which 0 is the start;
+ * its invocations are those below `invocations`, and each greater one is the last of them. In state s a call of
+ * invocation i is answered reply[s * invocations + i], and next[s * invocations + i] is the state after it.
  *
- * UNIVERSAL_BAD_TABLE: states isn't from 1 to 2^31; or invocations is 0; or a table hasn't states * invocations entries;
- * or an entry of `next` isn't below states; or one of `reply` isn't below 2^31. Then come the statuses of
+ * UNIVERSAL_BAD_TABLE: states isn't from 1 to 2^31; or invocations is 0; or a table hasn't states * invocations
+ * entries; or an entry of `next` isn't below states; or one of `reply` isn't below 2^31. Then come the statuses of
  * universal_open_counter. After each *object is as it was. */
 uint32_t universal_open_small_machine(uint64_t n, uint32_t states, uint32_t invocations, const uint32_t *next,
                                       size_t next_count, const uint32_t *reply, size_t reply_count,

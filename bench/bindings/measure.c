@@ -1,7 +1,7 @@
-// Calls on a shared object from C: `measure OBJECT FORM N K R`, with OBJECT `tally`, `counter` or `queue`, of 64 numbers, and
-// FORM `universal`, `mutex` or, of a tally, `fetch_add`. R times over, N threads make K calls each on a new object; on a queue
-// they put and take in turn. It prints the nanoseconds that each round took, from the first call of a thread to the last one
-// of any; the opening isn't in it.
+// Calls on a shared object from C: `measure OBJECT FORM N K R`, with OBJECT `tally`, `counter` or `queue`, of 64 numbers,
+// and FORM `universal`, `mutex` or, of a tally, `fetch_add`. R times over, N threads make K calls each on a new object; on
+// a queue they put and take in turn. It prints the nanoseconds that each round took, from the first call of a thread to
+// the last one of any; the opening isn't in it.
 #include "universal.h"
 #include <pthread.h>
 #include <stdatomic.h>
@@ -76,7 +76,9 @@ static void *work(void *it) {
     me->first = now();
     for (uint64_t nth = 0; nth < me->calls; nth++) {
         uint64_t number = number_of(nth, &word);
-        told += form == UNIVERSAL ? shared(me, number) : form == MUTEX ? guarded(number) : atomic_fetch_add(&added, number);
+        told += form == UNIVERSAL ? shared(me, number)
+                : form == MUTEX   ? guarded(number)
+                                  : atomic_fetch_add(&added, number);
     }
     me->last = now();
     me->told = told;

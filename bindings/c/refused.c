@@ -136,7 +136,8 @@ int main(void) {
            "bad tables are told before memory is asked for");
     long of_tally = each(use, tally), of_machine = each(use, machine), of_map = each(use_small, map);
     long of_small_machine = each(opens, small_machine);
-    expect(of_tally > 0 && of_machine > of_tally && of_map > 0 && of_small_machine > 2, "there were allocations to refuse");
-    printf("refused: %ld, %ld, %ld and %ld allocations, each in turn\n", of_tally, of_machine, of_map, of_small_machine);
+    expect(of_tally > 0 && of_machine > of_tally && of_map > 0 && of_small_machine > 2, "there was memory to refuse");
+    printf("refused: %ld, %ld, %ld and %ld allocations, each in turn\n", of_tally, of_machine, of_map,
+           of_small_machine);
     return 0;
 }

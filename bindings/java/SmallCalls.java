@@ -77,7 +77,8 @@ public final class SmallCalls {
     private static void machine() throws Exception {
         int[][] next = {{0, 1}, {1, 0}}, reply = {{0, 0}, {1, 1}};
         Small.Machine machine = only(Small.Machine.open(1, next, reply));
-        is(List.of(machine.call(0), machine.call(1), machine.call(0), machine.call(-1), machine.call(1)), List.of(0L, 0L, 1L, 1L, 0L));
+        is(List.of(machine.call(0), machine.call(1), machine.call(0), machine.call(-1), machine.call(1)),
+                List.of(0L, 0L, 1L, 1L, 0L));
         state(machine.finish(), 1);
         refuses(Fault.BAD_TABLE, () -> Small.Machine.open(0, new int[][] {}, new int[][] {}));
         refuses(Fault.BAD_TABLE, () -> Small.Machine.open(0, new int[][] {{0, 1}, {1, 2}}, reply));

@@ -59,8 +59,8 @@ public final class Log implements AutoCloseable {
     /** The machine of two tables with a row for each state and an entry for each invocation; state 0 is the start. */
     public static Log machine(long n, long k, int[][] next, int[][] reply) throws Refused {
         Universal.Tables tables = Universal.Tables.of(next, reply);
-        return opened(log -> (int) Universal.OPEN_MACHINE.invokeExact(n, k, tables.states(), tables.invocations(), tables.next(),
-                tables.nexts(), tables.reply(), tables.replies(), log));
+        return opened(log -> (int) Universal.OPEN_MACHINE.invokeExact(n, k, tables.states(), tables.invocations(),
+                tables.next(), tables.nexts(), tables.reply(), tables.replies(), log));
     }
 
     /** The seat of the greatest process that has none yet. Refused: all are given out; memory. */

@@ -354,12 +354,12 @@ public final class Small<S extends Small.Seat> implements AutoCloseable {
             super(handle, process, width);
         }
 
-        /** The machine of two tables with a row for each state and an entry for each invocation; state 0 is the start. */
+        /** The machine of two tables with a row for each state, an entry for each invocation; state 0 is the start. */
         public static Small<Machine> open(long n, int[][] next, int[][] reply) throws Refused {
             Universal.Tables tables = Universal.Tables.of(next, reply);
             Small<Machine> object = new Small<>(1, Machine::new);
-            return object.opened(() -> (int) Universal.OPEN_SMALL_MACHINE.invokeExact(n, tables.states(), tables.invocations(),
-                    tables.next(), tables.nexts(), tables.reply(), tables.replies(), object.handle.at));
+            return object.opened(() -> (int) Universal.OPEN_SMALL_MACHINE.invokeExact(n, tables.states(),
+                    tables.invocations(), tables.next(), tables.nexts(), tables.reply(), tables.replies(), object.handle.at));
         }
 
         /** A call: the reply. An invocation past the tables, read as an unsigned one, is the last one. */

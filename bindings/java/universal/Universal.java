@@ -30,8 +30,8 @@ final class Universal {
     static final MethodHandle OPEN_QUEUE = status("universal_open_queue", JAVA_LONG, JAVA_INT, ADDRESS);
     static final MethodHandle OPEN_STACK = status("universal_open_stack", JAVA_LONG, JAVA_INT, ADDRESS);
     static final MethodHandle OPEN_MAP = status("universal_open_map", JAVA_LONG, JAVA_INT, ADDRESS);
-    static final MethodHandle OPEN_SMALL_MACHINE = status("universal_open_small_machine", JAVA_LONG, JAVA_INT, JAVA_INT, ADDRESS,
-            JAVA_LONG, ADDRESS, JAVA_LONG, ADDRESS);
+    static final MethodHandle OPEN_SMALL_MACHINE = status("universal_open_small_machine", JAVA_LONG, JAVA_INT, JAVA_INT,
+            ADDRESS, JAVA_LONG, ADDRESS, JAVA_LONG, ADDRESS);
     static final MethodHandle SMALL_SEAT = status("universal_small_seat", ADDRESS, ADDRESS, ADDRESS);
     static final MethodHandle SMALL_APPLY = status("universal_small_apply", ADDRESS, ADDRESS, JAVA_LONG, ADDRESS, JAVA_LONG, ADDRESS);
     static final MethodHandle SMALL_FOLLOWS = status("universal_small_follows", ADDRESS, JAVA_LONG, ADDRESS);
@@ -70,7 +70,7 @@ final class Universal {
         }
     }
 
-    /** The two tables of a machine, each row by row, and how many entries they have, in memory that the library reads. */
+    /** The two tables of a machine, row by row, and how many entries they have, in memory that the library reads. */
     record Tables(int states, int invocations, MemorySegment next, long nexts, MemorySegment reply, long replies) {
         static Tables of(int[][] next, int[][] reply) throws Refused {
             int invocations = next.length == 0 ? 0 : next[0].length;

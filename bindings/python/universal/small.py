@@ -1,5 +1,5 @@
-"""Objects on words of 64 bits, whose seats make calls without end: `Counter`, `Register`, `Counters`, `Queue`, `Stack`, `Map`,
-`Book` and `Machine`.
+"""Objects on words of 64 bits, whose seats make calls without end: `Counter`, `Register`, `Counters`, `Queue`, `Stack`,
+`Map`, `Book` and `Machine`.
 
 `open` of a class gives a `Small`, the object for n processes, with its seats of that class:
 
@@ -21,8 +21,8 @@ from typing import Generic, TypeVar
 
 from . import _LIBRARY, Fault, Refused, _Held, _number, _Shared, _tables, in_threads
 
-__all__ = ["Book", "Counter", "Counters", "Full", "Machine", "Map", "Over", "Queue", "Register", "Short", "Small", "Stack"]
-__all__ += ["in_threads"]
+__all__ = ["Book", "Counter", "Counters", "Full", "Machine", "Map", "Over", "Queue", "Register", "Short", "Small"]
+__all__ += ["Stack", "in_threads"]
 
 
 class Over(Exception):

@@ -1,8 +1,8 @@
 //! Objects on words of 64 bits, whose seats make calls without end.
 //!
-//! [`Counter`], [`Register`], [`Counters`], [`Queue`], [`Stack`], [`Map`], [`Book`] and [`Machine`] are seats. `open` gives a
-//! [`Small`], the object with its seats. A call comes with a version: a number of the object's state, in which the call is
-//! ([`SmallSeat::version`]). Who is told a version, by whatever means, can follow it ([`SmallSeat::follows`]).
+//! [`Counter`], [`Register`], [`Counters`], [`Queue`], [`Stack`], [`Map`], [`Book`] and [`Machine`] are seats. `open`
+//! gives a [`Small`], the object with its seats. A call comes with a version: a number of the object's state, in which the
+//! call is ([`SmallSeat::version`]). Who is told a version, by whatever means, can follow it ([`SmallSeat::follows`]).
 //!
 //! ```
 //! use std::num::NonZeroU64;
