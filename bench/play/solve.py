@@ -51,18 +51,6 @@ def clicks(solution):
         yield [f"step{name}" if name.isdigit() else name] * int(times or 1)
 
 
-def click(browser, name):
-    """Clicks on the middle of an element, after scrolling to it."""
-    box = browser.found(f"""(() => {{
-      const one = document.getElementById("{name}");
-      one.scrollIntoView({{ block: "center" }});
-      const box = one.getBoundingClientRect();
-      return JSON.stringify({{ x: box.x + box.width / 2, y: box.y + box.height / 2 }});
-    }})()""")
-    for kind in ["mousePressed", "mouseReleased"]:
-        browser.ask("Input.dispatchMouseEvent", {"type": kind, **box, "button": "left", "clickCount": 1})
-
-
 def told(program, words, script):
     """What a program writes for a script."""
     return subprocess.run([program, *words], input=script, capture_output=True, text=True).stdout
@@ -78,15 +66,6 @@ def judged(shown, goal):
     return "met\n"
 
 
-def shoot(browser, page, room):
-    """Pictures of a page where it stands."""
-    for scheme in ["light", "dark"]:
-        browser.ask("Emulation.setEmulatedMedia", {"features": [{"name": "prefers-color-scheme", "value": scheme}]})
-        for width in [1000, 390]:
-            browser.shoot(os.path.join(room, f"{page.stem}-{width}-{scheme}.png"), width, 1400)
-    browser.ask("Emulation.clearDeviceMetricsOverride")
-
-
 def solve(browser, page, goal, programs):
     """Plays a solution; what differs, where something does."""
     judge, unibench = programs
@@ -96,7 +75,7 @@ def solve(browser, page, goal, programs):
         if browser.found(SHOWN)["met"] == "met":
             return f"it says met after {count} clicks"
         for name in names:
-            click(browser, name)
+            browser.click(name)
         count += len(names)
         shown = browser.found(SHOWN)
         if judged(shown, goal) != told(judge, [goal], shown["script"]):
@@ -106,7 +85,7 @@ def solve(browser, page, goal, programs):
     if told(unibench, ["replay"], shown["script"]) != shown["answers"]:
         return f"the script is answered otherwise: {shown['script']}"
     if os.environ.get("SHOTS"):
-        shoot(browser, page, os.environ["SHOTS"])
+        browser.shoot_all(page, os.environ["SHOTS"])
     print(f"{page.stem}: met after {count} clicks, as goal and unibench replay say")
     return None
 

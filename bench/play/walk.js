@@ -14,7 +14,7 @@ const vm = require("vm");
 
 // the graph of a page, and the functions of its program
 function read(path) {
-  const [, graph, program] = /<script type="application\/json" id="graph">([^]*?)<\/script>\s*<script>([^]*?)<\/script>/
+  const [, graph, program] = /<script type="text\/plain" id="data">([^]*?)<\/script>\s*<script>([^]*?)<\/script>/
     .exec(fs.readFileSync(path, "utf8"));
   const page = vm.createContext({});
   vm.runInContext(`${program}\nthis.run = { randomRun, scriptOf, commanded };`, page);

@@ -11,24 +11,45 @@ import tempfile
 WINDOW = 60
 FIELDS = ["inv", "seq", "before", "after", "state", "reply"]
 
-# What a page shows: the sentence, the numbers of the lanes' events and their lines, and the texts of the arrays and of the
-# cells, with a star where a place has changed.
+# the lines of the course's pseudo-code
+LINES = dict(zip("AHSGTRNLVBWUF", [1, 4, 5, 6, 7, 8, 9, 10, 11, 12, 13, 14, 15]))
+
+# What a page shows: the sentence, the numbers of the events in the lanes and their lines, the texts of the arrays and of the
+# cells, with a star where a place has changed, and what each process has spent.
 SHOWN = """
 JSON.stringify({
   hash: location.hash,
   sentence: document.getElementById("sentence").textContent,
-  numbers: [...document.querySelectorAll("table.lanes tr:first-child td")].map((cell) => cell.title.split(":")[0]),
-  arrays: Object.fromEntries([...document.querySelectorAll("table.names > tr")].filter((row) => row.querySelector("th"))
-    .map((row) => [row.querySelector("th").textContent, [...row.querySelectorAll("td")].map((cell) => cell.textContent)])),
-  cells: Object.fromEntries([...document.querySelectorAll("div.box")].map((box) => [box.querySelector("b").textContent,
-    Object.fromEntries([...box.querySelectorAll("tr")].map((row) => [...row.children].map((cell) => cell.textContent)))])),
+  place: document.getElementById("place").textContent.split(" (")[0],
+  numbers: [...document.querySelectorAll("#lanes tr:first-child td")].map((cell) => cell.title.split(":")[0]),
+  arrays: [...document.querySelectorAll("#entries > *")].map((entry) => entry.textContent),
+  cells: Object.fromEntries([...document.querySelectorAll("#cells .box")].map((box) => [box.querySelector("b").textContent,
+    Object.fromEntries([...box.querySelectorAll("dt")].map((name) => [name.textContent, name.nextSibling.textContent]))])),
+  spent: [...document.querySelectorAll("#processes .box")]
+    .map((box) => [...box.children].slice(1, 4).map((one) => one.textContent)),
 })
 """
 
-# The cells of the table's rows, without the sentences.
+# A slide to a place, and whether paper has the table alone.
+SLIDE = """
+(() => {
+  const slider = document.getElementById("slider");
+  slider.value = PLACE;
+  slider.dispatchEvent(new Event("input"));
+  return "0";
+})()
+"""
+PRINTED = """
+JSON.stringify(["main", "table.rows"].map((name) => getComputedStyle(document.querySelector(name)).display !== "none"))
+"""
+
+# The buttons that do what a key does.
+BUTTONS = {"redo": "ArrowRight", "undo": "ArrowLeft", "first": "Home", "last": "End"}
+
+# The cells of the table's rows.
 ROWS = """
 JSON.stringify([...document.querySelectorAll("table.rows tr")].slice(1)
-  .map((row) => [0, 1, 2, 3, 5, 6].map((k) => row.cells[k].textContent.trim())))
+  .map((row) => [...row.cells].map((cell) => cell.textContent.trim())))
 """
 
 
@@ -112,10 +133,21 @@ class Browser:
         self.ask("Emulation.setScriptExecutionDisabled", {"value": False})
         return rows
 
-    def press(self, key):
-        """Presses a key."""
+    def press(self, key, modifiers=0):
+        """Presses a key; of the modifiers, Alt is 1."""
         for kind in ["keyDown", "keyUp"]:
-            self.ask("Input.dispatchKeyEvent", {"type": kind, "key": key})
+            self.ask("Input.dispatchKeyEvent", {"type": kind, "key": key, "modifiers": modifiers})
+
+    def click(self, name):
+        """Clicks on the middle of an element, after scrolling to it."""
+        box = self.found(f"""(() => {{
+          const one = document.getElementById("{name}");
+          one.scrollIntoView({{ block: "center" }});
+          const box = one.getBoundingClientRect();
+          return JSON.stringify({{ x: box.x + box.width / 2, y: box.y + box.height / 2 }});
+        }})()""")
+        for kind in ["mousePressed", "mouseReleased"]:
+            self.ask("Input.dispatchMouseEvent", {"type": kind, **box, "button": "left", "clickCount": 1})
 
     def shoot(self, path, width, height):
         """Writes a picture of the page at this size."""
@@ -123,6 +155,15 @@ class Browser:
         data = self.ask("Page.captureScreenshot")["data"]
         with open(path, "wb") as file:
             file.write(base64.b64decode(data))
+
+    def shoot_all(self, page, folder):
+        """Pictures of a page where it stands, as wide as a desk and as a hand, by day and by night."""
+        name = os.path.splitext(os.path.basename(page))[0]
+        for scheme in ["light", "dark"]:
+            self.ask("Emulation.setEmulatedMedia", {"features": [{"name": "prefers-color-scheme", "value": scheme}]})
+            for width in [1000, 390]:
+                self.shoot(os.path.join(folder, f"{name}-{width}-{scheme}.png"), width, 1400)
+        self.ask("Emulation.clearDeviceMetricsOverride")
 
     def close(self):
         self.process.kill()
@@ -152,26 +193,71 @@ def memory_after(lines, event):
     return processes, places, changed
 
 
-def number(line):
-    """The number of an event, and that of its line in the script."""
-    return f"{line['event']}, line {line['line']}"
+def places_of(lines):
+    """The places of a walk: the lines but notes before the header, each with the latest event's number and its own line."""
+    places, event = [(lines[0], (-1, None))], -1
+    for line in lines[1:]:
+        if line["what"] != "heading":
+            event = line.get("event", event)
+            places.append((line, (event, line["line"])))
+    return places
 
 
-def wanted(lines, event):
-    """What a page has to show after an event: the numbers of events, arrays and cells."""
-    events = [line for line in lines if "event" in line]
-    start = max(0, min(event - WINDOW // 2, len(events) - WINDOW))
-    numbers = [number(line) for line in events[start:start + WINDOW]]
-    processes, places, changed = memory_after(lines, event)
+def number(event, line):
+    """The number of an event, and that of a line in the script."""
+    return f"{event}" if line is None else f"{event}, line {line}"
+
+
+def spent_after(lines, processes, event):
+    """Of each process its latest call, and what that has spent of its steps and turns, and has left."""
+    spent, count = {}, lines[0]["processes"]
+    for line in lines:
+        if line.get("event", event + 1) > event:
+            continue
+        if line["what"] == "reshape":
+            count = line["processes"]
+            spent = {p: of for p, of in spent.items() if p < count}
+        if line["what"] in ("call", "step"):
+            steps, turns, most = line.get("steps", 0), line.get("turns", 0), (10 * count + 12, count + 1)
+            returned = "" if line.get("reply") is None else f" has returned {line['reply']}"
+            spent[line["process"]] = [
+                f"call {line['call']}{returned}",
+                f"steps {steps} of {most[0]}, {most[0] - steps} left",
+                f"turns {turns} of {most[1]}, {most[1] - turns} left",
+            ]
+    return [spent.get(p, []) for p in range(processes)]
+
+
+def wanted(places, at):
+    """What a page has to show at a place: the numbers of events, arrays, cells, and what is spent."""
+    lines, (event, _) = [line for line, _ in places], places[at][1]
+    start = max(1, min(at - WINDOW // 2, len(places) - WINDOW))
+    numbers = [number(*of) for _, of in places[start:start + WINDOW]]
+    processes, memory, changed = memory_after(lines, event)
+    if "event" not in lines[at]:
+        changed = set()
     def text(place, content):
         return f"{content} *" if place in changed else content
-    arrays = {array: [text(f"{array}[{p}]", f"[{p}] → {places[f'{array}[{p}]']}") for p in range(processes)]
-              for array in ["announce", "head"]}
-    names = {place.rsplit(".", 1)[0] for place in places if "[" not in place}
+    arrays = [text(f"{array}[{p}]", f"{array}[{p}] → {memory[f'{array}[{p}]']}")
+              for array in ["announce", "head"] for p in range(processes)]
+    names = {place.rsplit(".", 1)[0] for place in memory if "[" not in place}
     empty = {"seq": "0"}
-    cells = {name: {field: text(f"{name}.{field}", places.get(f"{name}.{field}", empty.get(field, "?"))) for field in FIELDS}
-             for name in names}
-    return {"numbers": numbers, "arrays": arrays, "cells": cells}
+    cells = {name: {field: text(f"{name}.{field}", memory.get(f"{name}.{field}", empty.get(field, "?")))
+                    for field in FIELDS if (name, field) != ("anchor", "inv")} for name in names}
+    return {"numbers": numbers, "arrays": arrays, "cells": cells, "spent": spent_after(lines, processes, event)}
+
+
+def wanted_sentence(line, words):
+    """The sentence at a place: that of the table's row, after the place in the algorithm, and what it is to the calls."""
+    if "process" not in line or line["what"] not in ("call", "step"):
+        return words
+    kind, process = line.get("kind"), line["process"]
+    place = f", line {LINES[kind]}, {kind}:" if kind else ""
+    meaning = " A turn begins." if kind == "T" and line["next"] == "R" else ""
+    if kind == "L" and line["changed"]:
+        other = int(line["after"].split(".")[0])
+        meaning = " Its call takes effect." if other == process else f" P{process} does the call of P{other}."
+    return f"P{process}{place} {words}{meaning}"
 
 
 def wanted_rows(lines):
@@ -192,27 +278,29 @@ def wanted_rows(lines):
     return [row(line) for line in lines]
 
 
-def led_to(events, at, key):
-    """The event that a key leads to."""
-    last = len(events) - 1
-    after = {"ArrowRight": min(at + 1, last), "ArrowLeft": max(at - 1, -1), "Home": -1, "End": last}
+def led_to(places, at, key):
+    """The place that a key leads to."""
+    last = len(places) - 1
+    after = {"ArrowRight": min(at + 1, last), "ArrowLeft": max(at - 1, 0), "Home": 0, "End": last}
     if key in after:
         return after[key]
+    def process(line):
+        return line["process"] if line["what"] in ("call", "step") else None
     def is_wanted(k):
-        line = events[k]
+        line = places[k][0]
         if key == "n":
             return line.get("kind") == "L" and line["changed"]
-        return at >= 0 and line.get("process") == events[at].get("process") and line["what"] != "call"
-    places = range(at - 1, -1, -1) if key == "ArrowUp" else range(at + 1, last + 1)
-    return next(filter(is_wanted, places), at)
+        return process(line) is not None and process(line) == process(places[at][0])
+    ways = range(at - 1, -1, -1) if key == "k" else range(at + 1, last + 1)
+    return next(filter(is_wanted, ways), at)
 
 
 def compare(browser, page, trace):
     """How many things differ between a page and its trace."""
     with open(trace, encoding="utf-8") as file:
         lines = [json.loads(line) for line in file]
-    events = [line for line in lines if "event" in line]
-    last = len(events) - 1
+    places = places_of(lines)
+    last = len(places) - 1
     differ = 0
 
     def check(what, got, want):
@@ -224,26 +312,46 @@ def compare(browser, page, trace):
     rows = browser.rows(page)
     check("how many rows", len(rows), len(lines))
     for row, want in zip(rows, wanted_rows(lines)):
-        check(f"row {want[0]}", row, want)
-    for event in sorted({0, last // 4, last // 2, 3 * last // 4, last}):
+        check(f"row {want[0]}", row[:4] + row[5:], want)
+    words = [row[4] for row, line in zip(rows, lines) if line["what"] != "heading"]
+
+    def check_place(what, at):
+        shown, (line, (event, _)) = browser.shown(), places[at]
+        for part, want in wanted(places, at).items():
+            check(f"{what}, place {at}, {part}", shown[part], want)
+        check(f"{what}, place {at}, sentence", shown["sentence"], wanted_sentence(line, words[at]))
+        check(f"{what}, address", shown["hash"], f"#e={event}")
+        check(f"{what}, number", shown["place"], "before event 0" if event < 0 else f"event {number(*places[at][1])}")
+
+    for event in sorted({part * places[-1][1][0] // 4 for part in range(5)}):
         browser.open(page, event)
-        shown = browser.shown()
-        for part, want in wanted(lines, event).items():
-            check(f"event {event}, {part}", shown[part], want)
-        check(f"event {event}, sentence", shown["sentence"].split(":")[0], number(events[event]))
-        for key in ["ArrowDown", "ArrowUp", "n", "ArrowLeft", "ArrowRight", "Home", "n", "End"]:
-            event = led_to(events, event, key)
+        at = next(k for k, (line, _) in enumerate(places) if line.get("event") == event)
+        check_place(f"event {event}", at)
+        for key in ["j", "k", "n", "ArrowLeft", "ArrowRight", "Home", "n", "End", "ArrowLeft"]:
+            at = led_to(places, at, key)
             browser.press(key)
-            shown = browser.shown()
-            check(f"{key}, address", shown["hash"], f"#e={event}")
-            for part, want in wanted(lines, event).items():
-                check(f"{key}, event {event}, {part}", shown[part], want)
+            check_place(key, at)
+        for key in ["ArrowLeft", "ArrowRight", "ArrowDown"]:
+            browser.press(key, 0 if key == "ArrowDown" else 1)
+            check_place(f"{key}, left alone", at)
+        for name, key in BUTTONS.items():
+            at = led_to(places, at, key)
+            browser.click(name)
+            check_place(f"button {name}", at)
+        browser.found(SLIDE.replace("PLACE", str(last // 2)))
+        check_place("slider", last // 2)
+        at = last // 2 + 1
+        going = [line["process"] for line, _ in places[at:] if line["what"] in ("call", "step")]
+        if going:
+            browser.click(f"step{going[0]}")
+            check_place("the button of who goes next", at)
+    browser.ask("Emulation.setEmulatedMedia", {"media": "print"})
+    check("on paper", browser.found(PRINTED), [False, True])
+    browser.ask("Emulation.setEmulatedMedia", {"media": ""})
     if os.environ.get("SHOTS"):
-        for width, height in [(1920, 1080), (1024, 768)]:
-            browser.open(page, last // 2)
-            name = os.path.splitext(os.path.basename(page))[0]
-            browser.shoot(os.path.join(os.environ["SHOTS"], f"{name}-{width}.png"), width, height)
-    print(f"{os.path.basename(page)}: {len(events)} events, {differ} differ")
+        browser.open(page, last // 2)
+        browser.shoot_all(page, os.environ["SHOTS"])
+    print(f"{os.path.basename(page)}: {last} places, {differ} differ")
     return differ
 
 

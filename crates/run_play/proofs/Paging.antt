@@ -1,5 +1,5 @@
 -- From the run of a script to its page.
-use Rattle.run_play.proofs.Vocabulary.{AreCallsOf, AreEdges, END, Err, Event, Global, IfOk, IsGraph, IsPageOf, IsPageOfSession, IsPlayed, IsScriptRun, Language, List, Ok, OnOk, Option, Result, START, Sequential, Vec, any_refused, false, graph_members, has_one_era, length, map, object_text, plan_of, session_of_record, subst, sym, text_between, true, ℕ, ◌≡◌, ◌≤◌}
+use Rattle.run_play.proofs.Vocabulary.{[], AreCallsOf, AreEdges, END, Err, Event, Global, IfOk, IsGraph, IsPageOf, IsPageOfSession, IsPlayed, IsScriptRun, Language, List, MIDDLE, Ok, OnOk, Option, Result, START, Sequential, Vec, any_refused, false, graph_members, has_one_era, length, map, object_text, plan_of, page_text, session_of_record, subst, sym, true, ℕ, ◌≡◌, ◌≤◌}
 use Rattle.uni_script.specs.Objects.{SpokenObject, spoken}
 use Rattle.uni_script.specs.declared.grammar.Version.{Version}
 use Rattle.uni_script.specs.declared.script_run.ScriptRun.{ScriptRun}
@@ -38,7 +38,7 @@ pub IsPageOf-plan : {O S I R : Type 0} (sequential : O → Sequential S I R) (l 
     (calls : List (Vec I Global)) (paths : List (Vec ℕ Global)) (targets : List (Option ℕ)) (edges : List (Vec ℕ Global)) (page : List ℕ)
     → object' ≡ object → n' ≡ n → row' ≡ row → number ≡ 1 → has_one_era events ≡ true → AreCallsOf n events calls → length paths ≤ 20000
     → IsGraph (plan_of (sequential object') n' row' calls) paths targets → AreEdges (plan_of (sequential object') n' row' calls) l text paths targets edges
-    → page ≡ text_between START.now (object_text (graph_members name n' row' (text (sequential object').initial) goal (map (λ (e : Vec ℕ Global). e.items) edges))) END.now
+    → page ≡ page_text START.now [] MIDDLE.now (object_text (graph_members name n' row' (text (sequential object').initial) goal (map (λ (e : Vec ℕ Global). e.items) edges))) END.now
     → IsPageOf (spoken sequential l object) text name goal n row number events page
 IsPageOf-plan {O} sequential l text name goal object object' n n' row row' number events calls paths targets edges page same_object same_n same_row from_1 one_era calls_are few graph edges_are is =
     subst (λ (m : ℕ). IsPageOf (spoken sequential l object) text name goal n m number events page) same_row

@@ -10,12 +10,13 @@ pub use Rattle.run_graph.specs.Graph.{IsGraph, LeadsTo, path_of, shown_at}
 pub use Rattle.run_graph.specs.Schedule.{Plan, call_in, event_of, moved, plan_of, shown, world_at}
 pub use Rattle.run_play.specs.Edges.{AreEdges, edge_text, frame_at, frame_text, step_text, text_at}
 pub use Rattle.run_play.specs.Plans.{AreCallsOf, calls_of, has_one_era}
-pub use Rattle.run_play.specs.Play.{IsPageOf, IsPageOfSession, IsPlayed, any_refused, escaped_byte, graph_members, text_between}
+pub use Rattle.run_play.specs.Play.{IsPageOf, IsPageOfSession, IsPlayed, any_refused, graph_members}
 pub use Rattle.run_play.specs.declared.fault.PlayFault.TheVariants.{Eras, Refused, Script, TooManyWorlds}
-pub use Rattle.run_play.specs.declared.viewer.TheConstants.{END, START}
 pub use Rattle.run_replay.specs.Frames.{Steps, frame_of, stepped}
 pub use Rattle.run_replay.specs.ScenesShown.{frame_shown}
 pub use Rattle.run_tell.specs.Json.{object_text}
+pub use Rattle.run_tell.specs.Page.{page_text}
+pub use Rattle.run_tell.specs.declared.viewer.TheConstants.{END, MIDDLE, START}
 pub use Rattle.seq_object.specs.Sequential.{Sequential}
 pub use Rattle.uni_core.specs.World.{world_of}
 pub use Rattle.uni_model.specs.Places.{memory_with, new_of}

@@ -1,7 +1,6 @@
 -- The page of all schedules of a script's calls.
-use Rattle.std.specs.Prelude.{◌≡◌, ℕ, ◌≤◌, ◌==◌, Bool, true, false, if◌then◌else◌, List, [], ◌∷◌, ◌++◌, Option, None, Some, map, codes, length, Vec, refl}
+use Rattle.std.specs.Prelude.{◌≡◌, ℕ, ◌≤◌, Bool, true, false, if◌then◌else◌, List, [], ◌∷◌, Option, None, Some, map, codes, length, Vec, refl}
 use Rattle.std.specs.Fmt.{digits}
-use Rattle.std.specs.List.{flat_map}
 use Rattle.std.specs.declared.alloc.Global.{Global}
 use Rattle.run_tell.specs.Json.{Number, Text, Json, Member, named, object_text, list_text}
 use Rattle.uni_model.specs.Worlds.{Event}
@@ -19,18 +18,8 @@ use Rattle.run_graph.specs.Graph.{IsGraph}
 use Rattle.run_graph.specs.Schedule.{plan_of}
 use Rattle.run_play.specs.Plans.{AreCallsOf, has_one_era}
 use Rattle.run_play.specs.Edges.{AreEdges}
-use Rattle.run_play.specs.declared.viewer.TheConstants.{START, END}
-
--- a byte of JSON as it stands in a page: `<`, which JSON has in strings alone, by its code, so that it ends no element
-abbrev pub escaped_byte : ℕ → List ℕ
-escaped_byte b = if b == 60 then codes "\\u003c" else b ∷ []
-
-abbrev pub escaped : List ℕ → List ℕ
-escaped json = flat_map escaped_byte json
-
--- JSON, escaped, between two texts
-abbrev pub text_between : (start json end : List ℕ) → List ℕ
-text_between start json end = start ++ escaped json ++ end
+use Rattle.run_tell.specs.Page.{page_text}
+use Rattle.run_tell.specs.declared.viewer.TheConstants.{START, MIDDLE, END}
 
 -- a graph with what its page needs beside it: the name of the object, how many processes and calls of a row, the first state,
 -- and the text of the goal, which is empty where there is none
@@ -53,7 +42,7 @@ pub record IsPageOf {S I R : Type 0} (o : SpokenObject S I R) (text : S → List
   pub graph : IsGraph (plan_of o.object n row calls) paths targets
   pub edges : List (Vec ℕ Global)
   pub edges_are : AreEdges (plan_of o.object n row calls) o.language text paths targets edges
-  pub page_is : page ≡ text_between START.now (object_text (graph_members name n row (text o.object.initial) goal
+  pub page_is : page ≡ page_text START.now [] MIDDLE.now (object_text (graph_members name n row (text o.object.initial) goal
       (map (λ (e : Vec ℕ Global). e.items) edges))) END.now
 
 -- that of the session which a script leaves
@@ -89,6 +78,3 @@ a_goal : object_text (graph_members (codes "queue") 1 4 (codes "[]") (codes "a \
     ≡ codes "{\"object\":\"queue\",\"processes\":1,\"row\":4,\"state\":\"[]\",\"goal\":\"a \\\"b\\u000a\",\"edges\":[]}"
 unfolding object_text list_text digits
 a_goal = refl
-
-escaped_note : escaped (codes "a</script>") ≡ codes "a\\u003c/script>"
-escaped_note = refl

@@ -1,6 +1,6 @@
 //! From the bytes of a script to the page.
 
-ghost use Rattle.std.specs.Prelude.{◌≡◌, ◌++◌, IfOk, OnOk, IsErrOf, false, map};
+ghost use Rattle.std.specs.Prelude.{◌≡◌, IfOk, OnOk, IsErrOf, false, map};
 ghost use Rattle.run_tell.specs.Json.{object_text};
 ghost use Rattle.uni_record.specs.Event.{events_shown};
 ghost use Rattle.uni_script.specs.Objects.{spoken};
@@ -9,16 +9,15 @@ ghost use Rattle.uni_script.specs.ScriptRun.{session_of_record};
 ghost use Rattle.uni_script.specs.Scripts.{scripts_of};
 ghost use Rattle.uni_script.specs.declared.fault.BenchFault.{BenchFault as Fault};
 ghost use Rattle.uni_script.specs.declared.grammar.Version.{Version};
-ghost use Rattle.run_play.specs.Play.{any_refused, escaped, escaped_byte, graph_members, text_between};
+ghost use Rattle.run_play.specs.Play.{any_refused, graph_members};
 ghost use Rattle.run_play.specs.Play.{IsPageOf, IsPageOfSession, IsPlayed};
 
 use crate::edges::edge_texts;
 use crate::fault::{PlayFault, of_graph};
 use crate::plan::{has_one_era, plan_of};
-use crate::viewer::{END, START};
 use ready_objects::Spoken;
 use run_graph::{Plan, explore};
-use run_tell::{Member, Value, push_list, push_object};
+use run_tell::{END, MIDDLE, Member, START, Value, page_text, push_list, push_object};
 use std::alloc::{AllocError, Global};
 use uni_record::Recorded;
 use uni_script::{
@@ -38,45 +37,6 @@ fn any_refused(remarks: &[PlacedRemark]) -> bool
         }
     }
     false
-}
-
-/// Adds a byte of JSON, escaped.
-///
-/// An `Err` says that memory was refused.
-fn push_escaped_byte(text: &mut Vec<u8>, byte: u8) -> Result<(), AllocError>
-    ensures { OnOk result (text.new.items ≡ text.old.items ++ escaped_byte byte) }
-{
-    if byte == b'<' {
-        text.extend_from_slice("\\u003c".as_bytes())
-    } else {
-        text.push(byte)?;
-        Ok(())
-    }
-}
-
-/// Adds JSON with each `<`, which it has in strings alone, escaped.
-///
-/// An `Err` says that memory was refused.
-fn push_escaped(text: &mut Vec<u8>, json: &[u8]) -> Result<(), AllocError>
-    ensures { OnOk result (text.new.items ≡ text.old.items ++ escaped json.now) }
-{
-    for byte in json {
-        push_escaped_byte(text, *byte)?;
-    }
-    Ok(())
-}
-
-/// JSON, escaped, between two texts.
-///
-/// An `Err` says that memory was refused.
-fn between(alloc: Global, start: &str, json: &[u8], end: &str) -> Result<Vec<u8>, AllocError>
-    ensures { IfOk result (λ text. text.items ≡ text_between start.now json.now end.now) }
-{
-    let mut text = Vec::new(alloc);
-    text.extend_from_slice(start.as_bytes())?;
-    push_escaped(&mut text, json)?;
-    text.extend_from_slice(end.as_bytes())?;
-    Ok(text)
 }
 
 /// A graph with what its page needs beside it, and the text of a goal, as JSON.
@@ -134,7 +94,7 @@ fn page_of_record<O: Spoken + Copy>(
     };
     let edges = edge_texts(alloc, &plan, &graph)?;
     let json = graph_text(alloc, name, &plan, goal, &edges)?;
-    let page = between(alloc, START, &json, END)?;
+    let page = page_text(alloc, START, b"", MIDDLE, &json, END)?;
     Ok(page)
 }
 

@@ -8,21 +8,21 @@ use Rattle.run_tell.specs.TraceLines.{json_wording}
 use Rattle.run_tell.specs.Rows.{rows_wording}
 use Rattle.run_tell.specs.declared.viewer.TheConstants.{START, MIDDLE, END}
 
--- a byte of a trace as it stands in a page: `<` and `&`, which JSON has in strings alone, by their codes
+-- a byte of JSON as it stands in a page: `<` and `&`, which JSON has in strings alone, by their codes
 abbrev pub escaped_byte : ℕ → List ℕ
 escaped_byte b = if b == 60 then codes "\\u003c" else if b == 38 then codes "\\u0026" else b ∷ []
 
 abbrev pub escaped : List ℕ → List ℕ
-escaped trace = flat_map escaped_byte trace
+escaped json = flat_map escaped_byte json
 
 -- a byte that begins no element, ends none, and names no character
 pub record IsPlain (b : ℕ) : Type 0 where
   pub no_element : b ≢ 60
   pub no_name : b ≢ 38
 
--- the rows of a table and a trace between three texts
-unfoldable pub page_text : (start rows middle trace end : List ℕ) → List ℕ
-page_text start rows middle trace end = start ++ rows ++ middle ++ escaped trace ++ end
+-- the rows of a table, and what a page walks through, between three texts
+unfoldable pub page_text : (start rows middle walked end : List ℕ) → List ℕ
+page_text start rows middle walked end = start ++ rows ++ middle ++ escaped walked ++ end
 
 -- those of the session which a script leaves, with the script's lines that stored its events, and what it tells beside them
 abbrev pub page_between : (start middle end : List ℕ) → ScriptSession → (lines : List ℕ) → List PlacedRemark → List ℕ

@@ -32,7 +32,7 @@ pub use history::{InHistory, history_of};
 pub use json::{push_list, push_members, push_more_members, push_object, push_text_or_null};
 pub use opened::{Opened, Trace};
 pub use order::Telling;
-pub use page::page_of;
+pub use page::{page_of, page_text};
 pub use page_laws::trace_ends_no_element;
 pub use rows::InRows;
 pub use sentences::{

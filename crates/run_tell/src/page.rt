@@ -19,7 +19,7 @@ use run_layout::PictureFault;
 use std::alloc::{AllocError, Global};
 use uni_script::{Options, ScriptRecord, ScriptRun, TextIn, run_of_script};
 
-/// Adds a byte of a trace, escaped.
+/// Adds a byte of JSON, escaped.
 ///
 /// An `Err` says that memory was refused.
 fn push_escaped_byte(text: &mut Vec<u8>, byte: u8) -> Result<(), AllocError>
@@ -35,37 +35,37 @@ fn push_escaped_byte(text: &mut Vec<u8>, byte: u8) -> Result<(), AllocError>
     }
 }
 
-/// Adds a trace with each `<` and `&` escaped, as JSON escapes them in its strings.
+/// Adds JSON with each `<` and `&`, which it has in strings alone, escaped.
 ///
 /// An `Err` says that memory was refused.
-fn push_escaped(text: &mut Vec<u8>, trace: &[u8]) -> Result<(), AllocError>
-    ensures { OnOk result (text.new.items ≡ text.old.items ++ escaped trace.now) }
+fn push_escaped(text: &mut Vec<u8>, json: &[u8]) -> Result<(), AllocError>
+    ensures { OnOk result (text.new.items ≡ text.old.items ++ escaped json.now) }
 {
-    for byte in trace {
+    for byte in json {
         push_escaped_byte(text, *byte)?;
     }
     Ok(())
 }
 
-/// The rows of a table and a trace, escaped, between three texts.
+/// The rows of a table, and what a page walks through, escaped, between three texts: a trace, or a graph as JSON.
 ///
 /// An `Err` says that memory was refused.
 #[tactic(auto, unfolding(crate::specs::Page::page_text))]
-fn between(
+pub fn page_text(
     alloc: Global,
     start: &str,
     rows: &[u8],
     middle: &str,
-    trace: &[u8],
+    walked: &[u8],
     end: &str,
 ) -> Result<Vec<u8>, AllocError>
-    ensures { IfOk result (λ text. text.items ≡ page_text start.now rows.now middle.now trace.now end.now) }
+    ensures { IfOk result (λ text. text.items ≡ page_text start.now rows.now middle.now walked.now end.now) }
 {
     let mut text = Vec::new(alloc);
     text.extend_from_slice(start.as_bytes())?;
     text.extend_from_slice(rows)?;
     text.extend_from_slice(middle.as_bytes())?;
-    push_escaped(&mut text, trace)?;
+    push_escaped(&mut text, walked)?;
     text.extend_from_slice(end.as_bytes())?;
     Ok(text)
 }
@@ -85,7 +85,7 @@ fn page_of_run(alloc: Global, run: &ScriptRun<ScriptRecord>) -> Result<Vec<u8>, 
     let trace = trace_of_script(alloc, &run.record, false)?;
     let rows = trace.told::<InRows>(alloc, &run.lines, &run.remarks)?;
     let lines = trace.told::<InJson>(alloc, &run.lines, &run.remarks)?;
-    Ok(between(alloc, START, &rows, MIDDLE, &lines, END)?)
+    Ok(page_text(alloc, START, &rows, MIDDLE, &lines, END)?)
 }
 
 /// The page that shows the run of the script that a reader has.

@@ -4,7 +4,7 @@ ghost use Rattle.std.specs.Prelude.{◌≢◌, ℕ, List};
 ghost use Rattle.std.specs.List.{AllByRecursion};
 ghost use Rattle.run_tell.specs.Page.{escaped, IsPlain};
 
-/// A trace as it stands in a page has no `<` and no `&`, so it begins no element, ends none, and names no character.
+/// JSON as it stands in a page has no `<` and no `&`, so it begins no element, ends none, and names no character.
 pub fn trace_ends_no_element()
-    ensures { (trace : List ℕ) → AllByRecursion IsPlain (escaped trace) }
+    ensures { (json : List ℕ) → AllByRecursion IsPlain (escaped json) }
 {}

@@ -1,4 +1,4 @@
-use Rattle.run_play.proofs.Vocabulary.{END, START, ap, events_shown, graph_members, map, object_text, sym, text_between, ◌∙◌}
+use Rattle.run_play.proofs.Vocabulary.{END, MIDDLE, START, [], ap, events_shown, graph_members, map, object_text, page_text, sym, ◌∙◌}
 use Rattle.run_play.proofs.Paging.{IsPageOf-plan}
 use Rattle.run_play.proofs.page.page_of_record.Goals as goal
 
@@ -11,6 +11,6 @@ returns-clause-page g c =
     plan.calls.items graph.paths.items graph.targets.items c.in_ok-edges.edges.items c.in_ok-page.page.items
     c.in_ok-plan.ensures.object c.in_ok-plan.ensures.processes c.in_ok-plan.ensures.row (sym c.first.ensures ∙ c.if-first-ne1.false) (sym c.has_one_era.ensures ∙ c.if-not-has_one_era.false)
     c.in_ok-plan.ensures.calls c.in-Ok.ensures.few c.in-Ok.ensures.graph c.in_ok-edges.ensures
-    (c.in_ok-page.ensures ∙ ap (λ json. text_between START.now json END.now)
+    (c.in_ok-page.ensures ∙ ap (λ json. page_text START.now [] MIDDLE.now json END.now)
     (c.deref-2.ensures.value ∙ c.in_ok-json.ensures
     ∙ ap (λ edges. object_text (graph_members c.args.name.now plan.processes plan.row (g.O.Spoken.state_text (g.O.SeqObject.sequential plan.object).initial) c.args.goal.now (map (λ e. e.items) edges))) c.deref.ensures.value))
