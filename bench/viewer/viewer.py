@@ -14,14 +14,14 @@ FIELDS = ["inv", "seq", "before", "after", "state", "reply"]
 # the lines of the course's pseudo-code
 LINES = dict(zip("AHSGTRNLVBWUF", [1, 4, 5, 6, 7, 8, 9, 10, 11, 12, 13, 14, 15]))
 
-# What a page shows: the sentence, the numbers of the events in the lanes and their lines, the texts of the arrays and of the
-# cells, with a star where a place has changed, and what each process has spent.
+# What a page shows: the sentence, the titles of the events in the lanes, the texts of the arrays and of the cells, with a
+# star where a place has changed, and what each process has spent.
 SHOWN = """
 JSON.stringify({
   hash: location.hash,
   sentence: document.getElementById("sentence").textContent,
   place: document.getElementById("place").textContent.split(" (")[0],
-  numbers: [...document.querySelectorAll("#lanes tr:first-child td")].map((cell) => cell.title.split(":")[0]),
+  titles: [...document.querySelectorAll("#lanes tr:first-child td")].map((cell) => cell.title),
   arrays: [...document.querySelectorAll("#entries > *")].map((entry) => entry.textContent),
   cells: Object.fromEntries([...document.querySelectorAll("#cells .box")].map((box) => [box.querySelector("b").textContent,
     Object.fromEntries([...box.querySelectorAll("dt")].map((name) => [name.textContent, name.nextSibling.textContent]))])),
@@ -193,13 +193,13 @@ def memory_after(lines, event):
     return processes, places, changed
 
 
-def places_of(lines):
-    """The places of a walk: the lines but notes before the header, each with the latest event's number and its own line."""
-    places, event = [(lines[0], (-1, None))], -1
-    for line in lines[1:]:
+def places_of(lines, rows):
+    """The places of a walk: the lines but notes before the header, with the latest event and its own line, and the sentence."""
+    places, event = [(lines[0], (-1, None), rows[0][4])], -1
+    for line, row in zip(lines[1:], rows[1:]):
         if line["what"] != "heading":
             event = line.get("event", event)
-            places.append((line, (event, line["line"])))
+            places.append((line, (event, line["line"]), wanted_sentence(line, row[4])))
     return places
 
 
@@ -229,10 +229,10 @@ def spent_after(lines, processes, event):
 
 
 def wanted(places, at):
-    """What a page has to show at a place: the numbers of events, arrays, cells, and what is spent."""
-    lines, (event, _) = [line for line, _ in places], places[at][1]
+    """What a page has to show at a place: the titles of events, arrays, cells, what is spent, and the sentence."""
+    lines, (event, _) = [line for line, _, _ in places], places[at][1]
     start = max(1, min(at - WINDOW // 2, len(places) - WINDOW))
-    numbers = [number(*of) for _, of in places[start:start + WINDOW]]
+    titles = [f"{number(*of)}: {sentence}" for _, of, sentence in places[start:start + WINDOW]]
     processes, memory, changed = memory_after(lines, event)
     if "event" not in lines[at]:
         changed = set()
@@ -244,7 +244,8 @@ def wanted(places, at):
     empty = {"seq": "0"}
     cells = {name: {field: text(f"{name}.{field}", memory.get(f"{name}.{field}", empty.get(field, "?")))
                     for field in FIELDS if (name, field) != ("anchor", "inv")} for name in names}
-    return {"numbers": numbers, "arrays": arrays, "cells": cells, "spent": spent_after(lines, processes, event)}
+    return {"titles": titles, "arrays": arrays, "cells": cells, "spent": spent_after(lines, processes, event),
+            "sentence": places[at][2]}
 
 
 def wanted_sentence(line, words):
@@ -299,8 +300,6 @@ def compare(browser, page, trace):
     """How many things differ between a page and its trace."""
     with open(trace, encoding="utf-8") as file:
         lines = [json.loads(line) for line in file]
-    places = places_of(lines)
-    last = len(places) - 1
     differ = 0
 
     def check(what, got, want):
@@ -313,19 +312,19 @@ def compare(browser, page, trace):
     check("how many rows", len(rows), len(lines))
     for row, want in zip(rows, wanted_rows(lines)):
         check(f"row {want[0]}", row[:4] + row[5:], want)
-    words = [row[4] for row, line in zip(rows, lines) if line["what"] != "heading"]
+    places = places_of(lines, rows)
+    last = len(places) - 1
 
     def check_place(what, at):
-        shown, (line, (event, _)) = browser.shown(), places[at]
+        shown, event = browser.shown(), places[at][1][0]
         for part, want in wanted(places, at).items():
             check(f"{what}, place {at}, {part}", shown[part], want)
-        check(f"{what}, place {at}, sentence", shown["sentence"], wanted_sentence(line, words[at]))
         check(f"{what}, address", shown["hash"], f"#e={event}")
         check(f"{what}, number", shown["place"], "before event 0" if event < 0 else f"event {number(*places[at][1])}")
 
     for event in sorted({part * places[-1][1][0] // 4 for part in range(5)}):
         browser.open(page, event)
-        at = next(k for k, (line, _) in enumerate(places) if line.get("event") == event)
+        at = next(k for k, (line, _, _) in enumerate(places) if line.get("event") == event)
         check_place(f"event {event}", at)
         for key in ["j", "k", "n", "ArrowLeft", "ArrowRight", "Home", "n", "End", "ArrowLeft"]:
             at = led_to(places, at, key)
@@ -341,7 +340,7 @@ def compare(browser, page, trace):
         browser.found(SLIDE.replace("PLACE", str(last // 2)))
         check_place("slider", last // 2)
         at = last // 2 + 1
-        going = [line["process"] for line, _ in places[at:] if line["what"] in ("call", "step")]
+        going = [line["process"] for line, _, _ in places[at:] if line["what"] in ("call", "step")]
         if going:
             browser.click(f"step{going[0]}")
             check_place("the button of who goes next", at)
