@@ -14,7 +14,7 @@ pub const START: &str = r##"<!doctype html>
 :root { color-scheme: light dark; --line: #888; --pale: #6668; --mark: #f0e442; --on: #111; --touched: #0072b2; }
 * { box-sizing: border-box; }
 body { font: 17px/1.4 sans-serif; margin: 0 auto; padding: 0.6em; max-width: 75em; }
-h1 { font-size: 1.3em; margin: 0; } h2 { font-size: 1em; margin: 0.9em 0 0.2em; } main > p { margin: 0.3em 0; }
+h1 { font-size: 1.3em; margin: 0; } h2 { font-size: 1em; margin: 0.9em 0 0.2em; } main p { margin: 0.3em 0; }
 button { font: inherit; padding: 0.35em 0.8em; min-height: 2.5em; }
 button, .box { border: 2px solid var(--line); border-radius: 0.4em; }
 button[aria-disabled=true] { opacity: 0.55; border-style: dashed; }
@@ -414,7 +414,7 @@ function askedBy(line) {
   const order = /^log ([^ ]*) before ([^ ]*)$/.exec(line);
   if (order) return `in the log call ${order[1]} comes before ${order[2]}`;
   const kind = line.startsWith("returned") ? "a call ends and is answered"
-    : line.includes(" -> ") ? "a log has the line" : "a step or a command is answered";
+    : /^[0-9]| -> /.test(line) ? "a log has the line" : "a step or a command is answered";
   return `${kind}: ${line}`;
 }
 
@@ -604,7 +604,7 @@ function seat(p) {
 // why a process can't go; null where it can
 function restOf(here, p) {
   const none = edgeOf(graph, here.node, p) === null;
-  if (!isRun && none) return here.node === null ? "is past the trim: the graph ends there" : "has made all its calls";
+  if (!isRun && none) return here.node === null ? "is past the trim: the graph ends there" : "has no call left to make";
   if (!isRun) return null;
   if (none) return "takes no further step in this run";
   const { process } = run.slice(at + 1).find(({ edge }) => edge !== null);
@@ -873,6 +873,7 @@ function start() {
   document.title = isRun ? `${about}, ${counted(last + 1, "event")}` : `You are the scheduler: ${about}`;
   put("title", document.title);
   for (const id in WALKS) document.getElementById(id).onclick = WALKS[id];
+  window.addEventListener("resize", showLanes);
   document.getElementById("slider").oninput = ({ target }) => go(Number(target.value));
   document.addEventListener("keydown", (key) => {
     if (key.altKey || key.ctrlKey || key.metaKey || key.target.tagName === "TEXTAREA") return;
