@@ -824,7 +824,7 @@ function showEnds() {
   fill("ends", ...rows);
 }
 
-// the buttons and keys that walk, with the names that two of them have in a run
+// the buttons and keys that walk, and the names that these have in a run
 const WALKS = {
   first: () => go(0), undo: () => go(at - 1), redo: () => go(at + 1), last: () => go(run.length - 1),
 };
@@ -876,7 +876,7 @@ function start() {
   window.addEventListener("resize", showLanes);
   document.getElementById("slider").oninput = ({ target }) => go(Number(target.value));
   document.addEventListener("keydown", (key) => {
-    if (key.altKey || key.ctrlKey || key.metaKey || key.target.tagName === "TEXTAREA") return;
+    if (key.altKey || key.ctrlKey || key.metaKey || key.target.matches("textarea, .scroll")) return;
     const digit = /^[0-9]$/.test(key.key) && Number(key.key) < run[at].processes;
     if (!digit && !Object.hasOwn(KEYS, key.key)) return;
     key.preventDefault();
