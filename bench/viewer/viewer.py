@@ -14,8 +14,8 @@ FIELDS = ["inv", "seq", "before", "after", "state", "reply"]
 # the lines of the course's pseudo-code
 LINES = dict(zip("AHSGTRNLVBWUF", [1, 4, 5, 6, 7, 8, 9, 10, 11, 12, 13, 14, 15]))
 
-# What a page shows: the sentence, the titles of the events in the lanes, the texts of the arrays and of the cells, with a
-# star where a place has changed, and what each process has spent.
+# What a page shows: the sentence, the titles of the events in the lanes, the texts of the arrays and of the cells, with
+# a star where a place has changed, and what each process has spent.
 SHOWN = """
 JSON.stringify({
   hash: location.hash,
@@ -194,7 +194,7 @@ def memory_after(lines, event):
 
 
 def places_of(lines, rows):
-    """The places of a walk: the lines but notes before the header, with the latest event and its own line, and the sentence."""
+    """The places of a walk, the lines but notes before the header: the latest event, the script's line, the sentence."""
     places, event = [(lines[0], (-1, None), rows[0][4])], -1
     for line, row in zip(lines[1:], rows[1:]):
         if line["what"] != "heading":
@@ -249,7 +249,7 @@ def wanted(places, at):
 
 
 def wanted_sentence(line, words):
-    """The sentence at a place: that of the table's row, after the place in the algorithm, and what it is to the calls."""
+    """The sentence at a place: that of the table's row, after the algorithm's line, and what it is to the calls."""
     if "process" not in line or line["what"] not in ("call", "step"):
         return words
     kind, process = line.get("kind"), line["process"]
