@@ -6,6 +6,12 @@ use Rattle.uni_script.specs.declared.script_run.ScriptRun.{ScriptRun}
 use Rattle.uni_script.specs.declared.script_run.ScriptRecord.{ScriptRecord}
 use Rattle.uni_script.specs.declared.script_run.ScriptRecord.TheVariants.{Queue, Directory, Book, Sticky}
 use Rattle.uni_script.specs.Scripts.{ScriptSession}
+use Rattle.std.proofs.Common.{◌<◌, ◌-◌, arith}
+use Rattle.run_layout.specs.Choice.{all_events, count_in}
+
+-- all events are chosen
+pub all_chosen : (events : ℕ) → 2000 < events → 2000 < count_in all_events events
+all_chosen events many = let same : 2000 < events - 0 = omega arith in same
 
 events-record : (version : Version) (r : ScriptRecord) → length (session_of_record version r).session.events ≡ events_of_record r
 events-record version (Queue r) = refl

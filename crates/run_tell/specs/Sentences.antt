@@ -214,11 +214,11 @@ last_step : sentence (record {
 unfolding digits
 last_step = refl
 
-refused_step : refused_words (Idle 1) ≡ codes "step refused: P1 idle."
+refused_step : refused_words (codes "step 1") (Idle 1) ≡ codes "step 1 refused: P1 has no call pending."
 unfolding digits
 refused_step = refl
 
-refused_reshape : refused_words (Count 65) ≡ codes "reshape refused: count 65."
+refused_reshape : refused_words (codes "reshape 65") (Count 65) ≡ codes "reshape 65 refused: 65 isn't from 1 to 64."
 unfolding digits
 refused_reshape = refl
 
