@@ -44,7 +44,8 @@ uint32_t universal_replay(const uint8_t *script, size_t length, uint64_t history
                           size_t *written);
 
 /* Draws the picture of a script's run, and writes the text of its SVG: what `unidraw` writes. A script of more than
- * 2,000 events has none: UNIVERSAL_TEXT_BAD_SCRIPT, and the text is "too many events for a picture" and the line's end.
+ * 2,000 events has none: UNIVERSAL_TEXT_BAD_SCRIPT, and the text is
+ * "too many events for a picture: at most 2000" and the line's end.
  * Its history can have UNIVERSAL_TEXT_HISTORY events. */
 uint32_t universal_draw(const uint8_t *script, size_t length, uint8_t *out, size_t capacity, size_t *written);
 

@@ -130,7 +130,7 @@ static void pictures(void) {
     char many[40000] = "universal 1 queue 1 1000\n";
     for (int i = 0; i < 150; i++)
         strcat(many, "call 0 enq 1\nfinish 0\n");
-    const char *const none = "too many events for a picture\n";
+    const char *const none = "too many events for a picture: at most 2000\n";
     is(universal_draw, many, UNIVERSAL_TEXT_BAD_SCRIPT, none);
     is(universal_lines, many, UNIVERSAL_TEXT_BAD_SCRIPT, none);
 }

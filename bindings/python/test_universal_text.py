@@ -54,7 +54,7 @@ class Scripts(unittest.TestCase):
         for call in [draw, lines]:
             with self.assertRaises(BadScript) as raised:
                 call(script)
-            self.assertEqual(str(raised.exception), "too many events for a picture")
+            self.assertEqual(str(raised.exception), "too many events for a picture: at most 2000")
 
     def test_a_picture_shows_in_a_notebook(self):
         picture = draw(SCRIPT)
