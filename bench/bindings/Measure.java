@@ -3,7 +3,7 @@ import java.util.ArrayList;
 import java.util.List;
 import java.util.concurrent.CyclicBarrier;
 import java.util.concurrent.locks.ReentrantLock;
-import universal.Small;
+import fednayup.universal.Small;
 
 /** Calls on a shared counter or queue by the Java classes: Measure OBJECT FORM N K R, as in measure.c. */
 public final class Measure {

@@ -1,12 +1,12 @@
 import java.util.List;
 import java.util.Map;
-import universal.Call;
-import universal.Differs;
-import universal.Entry;
-import universal.Fault;
-import universal.Log;
-import universal.Refused;
-import universal.Seat;
+import fednayup.universal.Call;
+import fednayup.universal.Differs;
+import fednayup.universal.Entry;
+import fednayup.universal.Fault;
+import fednayup.universal.Log;
+import fednayup.universal.Refused;
+import fednayup.universal.Seat;
 
 /** Each call on its happy path, and each refusal. */
 public final class Calls {

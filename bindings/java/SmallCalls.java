@@ -3,9 +3,9 @@ import java.util.Arrays;
 import java.util.List;
 import java.util.OptionalLong;
 import java.util.concurrent.atomic.AtomicLongArray;
-import universal.Fault;
-import universal.Refused;
-import universal.Small;
+import fednayup.universal.Fault;
+import fednayup.universal.Refused;
+import fednayup.universal.Small;
 
 /** Small objects: each call on its happy path, each refusal, and threads, whose order is legal by replies and versions. */
 public final class SmallCalls {

@@ -1,9 +1,9 @@
 import java.util.ArrayList;
 import java.util.List;
-import universal.Entry;
-import universal.Log;
-import universal.Refused;
-import universal.Seat;
+import fednayup.universal.Entry;
+import fednayup.universal.Log;
+import fednayup.universal.Refused;
+import fednayup.universal.Seat;
 
 /** Threads that count, that agree on a value, and that run a machine by its tables. */
 public final class Threads {

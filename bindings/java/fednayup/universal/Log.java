@@ -1,4 +1,4 @@
-package universal;
+package fednayup.universal;
 
 import static java.lang.foreign.ValueLayout.JAVA_LONG;
 
@@ -6,7 +6,7 @@ import java.lang.foreign.Arena;
 import java.lang.foreign.MemorySegment;
 import java.util.ArrayList;
 import java.util.List;
-import universal.Universal.Handle;
+import fednayup.universal.Universal.Handle;
 
 /**
  * An object that n processes share, with the seats that are still to be given out. Each process makes up to k calls.

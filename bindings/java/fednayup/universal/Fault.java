@@ -1,4 +1,4 @@
-package universal;
+package fednayup.universal;
 
 /** Why a call was refused, in the order in which {@code universal.h} numbers it. */
 public enum Fault {

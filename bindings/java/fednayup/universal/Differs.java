@@ -1,4 +1,4 @@
-package universal;
+package fednayup.universal;
 
 /** A closed log hasn't what a process was told. */
 public final class Differs extends Refused {

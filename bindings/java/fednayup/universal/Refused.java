@@ -1,4 +1,4 @@
-package universal;
+package fednayup.universal;
 
 /** A call was refused. */
 public class Refused extends Exception {

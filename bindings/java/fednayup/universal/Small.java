@@ -1,4 +1,4 @@
-package universal;
+package fednayup.universal;
 
 import static java.lang.foreign.ValueLayout.JAVA_INT;
 import static java.lang.foreign.ValueLayout.JAVA_LONG;
@@ -9,7 +9,7 @@ import java.lang.invoke.MethodHandle;
 import java.util.ArrayList;
 import java.util.List;
 import java.util.OptionalLong;
-import universal.Universal.Handle;
+import fednayup.universal.Universal.Handle;
 
 /**
  * A small object that n processes share, on words of 64 bits, with the seats that are still to be given out. {@code open} of

@@ -1,4 +1,4 @@
-package universal;
+package fednayup.universal;
 
 import static java.lang.foreign.ValueLayout.JAVA_INT;
 import static java.lang.foreign.ValueLayout.JAVA_LONG;
@@ -8,7 +8,7 @@ import java.lang.foreign.MemorySegment;
 import java.util.ArrayList;
 import java.util.List;
 import java.util.Map;
-import universal.Universal.Handle;
+import fednayup.universal.Universal.Handle;
 
 /** A process of a log, which makes its calls: from any thread, one at a time. */
 public final class Seat implements AutoCloseable {

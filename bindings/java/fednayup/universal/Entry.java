@@ -1,4 +1,4 @@
-package universal;
+package fednayup.universal;
 
 /**
  * A call that took effect: the nth one of its process, from 0.

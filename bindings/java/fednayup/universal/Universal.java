@@ -1,9 +1,12 @@
-package universal;
+package fednayup.universal;
 
 import static java.lang.foreign.ValueLayout.ADDRESS;
 import static java.lang.foreign.ValueLayout.JAVA_INT;
 import static java.lang.foreign.ValueLayout.JAVA_LONG;
 
+import java.io.IOException;
+import java.io.InputStream;
+import java.io.UncheckedIOException;
 import java.lang.foreign.Arena;
 import java.lang.foreign.FunctionDescriptor;
 import java.lang.foreign.Linker;
@@ -11,12 +14,13 @@ import java.lang.foreign.MemoryLayout;
 import java.lang.foreign.MemorySegment;
 import java.lang.foreign.SymbolLookup;
 import java.lang.invoke.MethodHandle;
+import java.nio.file.Files;
 import java.nio.file.Path;
+import java.nio.file.StandardCopyOption;
 
 /** The functions of {@code universal.h}, by {@code java.lang.foreign}, from Java 22 on. */
 final class Universal {
-    private static final SymbolLookup LIBRARY = SymbolLookup.libraryLookup(
-            Path.of(System.getProperty("universal.library", "bindings/out/libuniversal.so")).toAbsolutePath(), Arena.global());
+    private static final SymbolLookup LIBRARY = library();
 
     static final MethodHandle OPEN_TALLY = status("universal_open_tally", JAVA_LONG, JAVA_LONG, ADDRESS);
     static final MethodHandle OPEN_STICKY = status("universal_open_sticky", JAVA_LONG, JAVA_LONG, ADDRESS);
@@ -45,6 +49,28 @@ final class Universal {
     static final MethodHandle DROP = Linker.nativeLinker().downcallHandle(LIBRARY.findOrThrow("universal_drop"), FunctionDescriptor.ofVoid(ADDRESS));
 
     private Universal() {}
+
+    /** The library whose path the property {@code universal.library} tells, else the one that lies in the jar. */
+    private static SymbolLookup library() {
+        String path = System.getProperty("universal.library");
+        if (path != null) {
+            return SymbolLookup.libraryLookup(Path.of(path), Arena.global());
+        }
+        try (InputStream inJar = Universal.class.getResourceAsStream("libuniversal.so")) {
+            if (inJar == null) {
+                throw new UnsatisfiedLinkError("no library in the jar: tell its path by -Duniversal.library=PATH");
+            }
+            Path copy = Files.createTempFile("libuniversal", ".so");
+            try {
+                Files.copy(inJar, copy, StandardCopyOption.REPLACE_EXISTING);
+                return SymbolLookup.libraryLookup(copy, Arena.global());
+            } finally {
+                Files.delete(copy);
+            }
+        } catch (IOException refused) {
+            throw new UncheckedIOException(refused);
+        }
+    }
 
     private static MethodHandle status(String name, MemoryLayout... takes) {
         return Linker.nativeLinker().downcallHandle(LIBRARY.findOrThrow(name), FunctionDescriptor.of(JAVA_INT, takes));

@@ -1,4 +1,4 @@
-package universal;
+package fednayup.universal;
 
 /**
  * A call as a caller made it.

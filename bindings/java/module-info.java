@@ -1,0 +1,4 @@
+/** Objects that threads share without a lock, over the proved library. */
+module fednayup.universal {
+    exports fednayup.universal;
+}
