@@ -5,6 +5,7 @@ pub mod Helped
 pub mod Stepping
 pub mod Results
 pub mod Cutting
+pub mod Splitting
 pub mod Running
 pub mod Sharing
 pub mod Taking
@@ -13,4 +14,3 @@ pub mod RunningOn
 pub mod LogLines
 pub mod Finishing
 pub mod Remarked
-pub mod Collected

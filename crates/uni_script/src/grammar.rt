@@ -1,7 +1,7 @@
 //! The lines of a script: notes, the header and commands.
 
-ghost use Rattle.std.specs.Prelude.{◌≡◌, [], IfOk, IfSome, Some};
-ghost use Rattle.std.specs.List.{list_all};
+ghost use Rattle.std.specs.Prelude.{◌≡◌, ◌==◌, [], IfOk, IfSome, Some};
+ghost use Rattle.std.specs.List.{list_all, position};
 ghost use Rattle.ready_objects.specs.Number.{number_of_word};
 ghost use Rattle.ready_objects.specs.Words.{bytes_of, words_of_text};
 ghost use Rattle.uni_script.specs.Grammar.{is_plain_byte, is_note, version_of_word, object_of_word, most_processes};
@@ -134,7 +134,21 @@ pub type Words<'a> = SmallVec<&'a [u8], 8>;
 pub fn words_of(alloc: Global, line: &[u8]) -> Result<Words<'_>, AllocError>
     ensures { IfOk result (λ words. bytes_of words.items ≡ words_of_text line.now) }
 {
-    line.split(|byte| *byte == b' ').collect(alloc)
+    let mut words = SmallVec::new(alloc);
+    let mut rest = line;
+    while let Some(at) = space_in(rest) {
+        words.push(&rest[..at])?;
+        rest = &rest[at..][1..];
+    }
+    words.push(rest)?;
+    Ok(words)
+}
+
+/// The place of the first space of a text; `None` where it has none.
+fn space_in(text: &[u8]) -> Option<usize>
+    ensures { result ≡ position (λ b. b == 32) text.now }
+{
+    text.iter().position(|byte| *byte == b' ')
 }
 
 /// The header that words are; `None` where they are none.
