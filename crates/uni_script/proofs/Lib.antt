@@ -5,6 +5,7 @@ pub mod Helped
 pub mod Stepping
 pub mod Results
 pub mod Cutting
+pub mod Digits
 pub mod Splitting
 pub mod Running
 pub mod Sharing

@@ -1,6 +1,6 @@
 //! What is written in answer to a line of a script.
 
-ghost use Rattle.std.specs.Prelude.{◌≡◌, ◌++◌, OnOk, Some};
+ghost use Rattle.std.specs.Prelude.{◌≡◌, ◌++◌, ◌+◌, ◌%◌, OnOk, Some, decimal};
 ghost use Rattle.uni_script.specs.Answer.{call_text, called_text, progress_text, refusal_text};
 
 use ready_objects::push_number;
@@ -106,9 +106,9 @@ pub(crate) fn push_progress(text: &mut Vec<u8>, steps: u64, turns: u64) -> Resul
     ensures { OnOk result (text.new.items ≡ text.old.items ++ progress_text steps turns) }
 {
     text.extend_from_slice(b" steps ")?;
-    push_number(text, steps)?;
+    push_count(text, steps)?;
     text.extend_from_slice(b" turns ")?;
-    push_number(text, turns)?;
+    push_count(text, turns)?;
     text.extend_from_slice(b"\n")
 }
 
@@ -118,7 +118,32 @@ pub(crate) fn push_progress(text: &mut Vec<u8>, steps: u64, turns: u64) -> Resul
 pub(crate) fn push_call(text: &mut Vec<u8>, call: CallId) -> Result<(), AllocError>
     ensures { OnOk result (text.new.items ≡ text.old.items ++ call_text call) }
 {
-    push_number(text, u64::from(call.process))?;
+    push_count(text, u64::from(call.process))?;
     text.extend_from_slice(b".")?;
-    push_number(text, call.nth)
+    push_count(text, call.nth)
+}
+
+/// Writes a number after a text, in decimal. One of up to three digits is written at once.
+///
+/// An `Err` says that memory was refused.
+fn push_count(text: &mut Vec<u8>, number: u64) -> Result<(), AllocError>
+    ensures { OnOk result (text.new.items ≡ text.old.items ++ decimal number) }
+{
+    let tens = number / 10;
+    if number < 10 {
+        text.extend_from_slice(&[digit(number)])
+    } else if number < 100 {
+        text.extend_from_slice(&[digit(tens), digit(number)])
+    } else if number < 1000 {
+        text.extend_from_slice(&[digit(tens / 10), digit(tens), digit(number)])
+    } else {
+        push_number(text, number)
+    }
+}
+
+/// The last digit of a number.
+fn digit(number: u64) -> u8
+    ensures { result ≡ 48 + number % 10 }
+{
+    b'0' + (number % 10) as u8
 }
