@@ -64,7 +64,7 @@ IfOk-with (Ok x) P Q R f p q = f x p q
 IfOk-with (Err e) P Q R f p q = tt
 
 pub is_short-line : (lines : Lines) → IsHeld lines → is_short (line_of lines) ≡ true
-is_short-line lines held = let n = line_of-length lines held in let w = held.width in grind (arith, nat_tests)
+is_short-line lines held = let n = line_of-length lines held.bounds in let w = held.bounds.width in grind (arith, nat_tests)
 
 pub of_some : {A : Type 0} (o : Option A) (x : A) (P : A → Type 0) → o ≡ Some x → IfSome o P → P x
 of_some o x P e h = let g : IfSome (Some x) P = subst (λ q. IfSome q P) e h in g

@@ -1,6 +1,9 @@
 -- How lines are taken of the bytes that a reader gives.
-use Rattle.uni_script.proofs.Vocabulary.{Bool, Consumes, Consumes-kept, Consumes-trans, Cut, End, Ended, Failed, HasStopped, HasTaken, IsAtEnd, IsHeld, Keeps, Lines, List, Open, Option, TakesOn, TooLong, TooMany, [], ap, append-nil, append_assoc, arith, cut, drop, drop-drop, drop-take, false, last_line, length, length-append, length-drop, length-take-le, line_of, list_all, list_all-append, nat_tests, not, refl, rest_of, subst, suc, sym, take, take_all, true, zero, ℕ, ◌&&◌, ◌++◌, ◌+◌, ◌-◌, ◌<◌, ◌==◌, ◌∙◌, ◌∷◌, ◌≡◌, ◌≢◌, ◌≤◌}
+use Rattle.uni_script.proofs.Vocabulary.{Bool, Consumes, Consumes-kept, Consumes-trans, Cut, End, Ended, Failed, HasBounds, HasStopped, HasTaken, IsAtEnd, Keeps, Lines, List, Open, Option, TakesOn, TooLong, TooMany, [], ap, append-nil, append_assoc, arith, cut, drop, drop-drop, drop-take, false, last_line, length, length-append, length-drop, length-take-le, line_of, list_all, list_all-append, nat_tests, not, refl, rest_of, subst, suc, sym, take, take_all, true, zero, ℕ, ◌&&◌, ◌++◌, ◌+◌, ◌-◌, ◌<◌, ◌==◌, ◌∙◌, ◌∷◌, ◌≡◌, ◌≢◌, ◌≤◌}
 use Rattle.std.proofs.Math.Seq.{take-length}
+use Rattle.uni_script.specs.Lines.{FitsAt, bytes_from}
+use Rattle.uni_script.specs.declared.lines.Place.{Place}
+use Rattle.uni_script.specs.declared.lines.Place.TheVariants.{Piece, Apart}
 use Rattle.uni_script.specs.declared.lines.Taken.{Taken}
 use Rattle.uni_script.specs.declared.lines.Taken.TheVariants as taken
 use Rattle.uni_script.proofs.Cutting.{end_of, end_of-end, end_of-other, cut_is, cut-append}
@@ -114,7 +117,10 @@ IsTaking-kept old now new first line rest is kept = record { given = is.given; c
 
 -- the fields of the lines
 pub line_of-none : (lines : Lines) → lines.width ≡ 0 → line_of lines ≡ []
-line_of-none lines e = ap (λ n. take n lines.line) e
+line_of-none lines e = ap (λ n. take n (bytes_from lines.place lines.line lines.piece)) e
+
+pub line_of-apart : (lines : Lines) → lines.place ≡ Apart → line_of lines ≡ take lines.width lines.line
+line_of-apart lines e = ap (λ p. take lines.width (bytes_from p lines.line lines.piece)) e
 
 pub rest_of-none : (lines : Lines) → lines.end ≤ lines.start → rest_of lines ≡ []
 rest_of-none lines e = ap (λ n. take n (drop lines.start lines.piece)) (let f : lines.end - lines.start ≡ 0 = omega arith in f)
@@ -126,9 +132,13 @@ rest_of-moved lines new k inside same end start =
     ap (λ p. take left (drop new.start p)) same ∙ ap (λ n. take left (drop n lines.piece)) start ∙ ap (λ l. take left l) (sym (drop-drop k lines.start lines.piece))
     ∙ sym (drop-take k left (drop lines.start lines.piece)) ∙ ap (λ n. drop k (take n (drop lines.start lines.piece))) (sym all)
 
-module _ (lines : Lines) (held : IsHeld lines) where
+module _ (lines : Lines) (held : HasBounds lines) where
   pub line_of-length : length (line_of lines) ≡ lines.width
-  line_of-length = let n = held.line_length in let w = held.width in length-take-le lines.width lines.line (omega arith)
+  line_of-length = length-take-le lines.width (bytes_from lines.place lines.line lines.piece) (at lines.place held.place)
+    where
+      at : (place : Place) → FitsAt place lines.width → lines.width ≤ length (bytes_from place lines.line lines.piece)
+      at (Piece from) fits = let n = held.piece_length in let d = length-drop from lines.piece in omega arith
+      at Apart fits = let n = held.line_length in let w = held.width in omega arith
 
   pub rest_of-length : length (rest_of lines) ≡ lines.end - lines.start
   rest_of-length =

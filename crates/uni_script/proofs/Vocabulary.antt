@@ -26,7 +26,7 @@ pub use Rattle.uni_script.specs.Answer.{called_text, end_text, entry_text, numbe
 pub use Rattle.uni_script.specs.Commands.{answer_text}
 pub use Rattle.uni_script.specs.Ends.{AppendsPrefix, IsWritten, Moves}
 pub use Rattle.uni_script.specs.Grammar.{Cut, after_byte, command_of_words, cut, is_note, is_plain_byte, last_line, lines_of, with_first}
-pub use Rattle.uni_script.specs.Lines.{EndsAs, FaultsAfter, GoesOn, HasEnded, HasFaultAfter, HasRun, HasStopped, HasTaken, IsHeld, IsRead, ReadsOn, Stop, StopsAt, StopsWith, TakesOn, WritesAs, fault_of_stop, line_of, lines_of_read, outcome_of_read, outcome_of_stop, rest_of}
+pub use Rattle.uni_script.specs.Lines.{EndsAs, FaultsAfter, GoesOn, HasBounds, HasEnded, HasFaultAfter, HasRun, HasStopped, HasTaken, IsHeld, IsRead, ReadsOn, Stop, StopsAt, StopsWith, TakesOn, WritesAs, fault_of_stop, line_of, lines_of_read, outcome_of_read, outcome_of_stop, rest_of}
 pub use Rattle.uni_script.specs.Lines.Stop.{End, Failed, TooLong, TooMany}
 pub use Rattle.uni_script.specs.Meaning.{CommandResult, LastStep, Session, is_full, last_step, latest, least_pending, opened_session, refusal_of_call, refusal_of_command, refusal_of_end, refusal_of_reshape, refusal_of_step, refused, response_after, result_of_call, result_of_command, result_of_reshape, result_of_steps, result_of_trim, session_after, session_of, steps_of, steps_taken, text_of_steps}
 pub use Rattle.uni_script.specs.Objects.{SpokenObject, spoken, spoken_of}

@@ -1,6 +1,7 @@
 -- How the lines of a script are taken from a reader, and what is run of them.
-use Rattle.std.specs.Prelude.{◌≡◌, ◌≢◌, ◌⊎◌, ℕ, ◌+◌, ◌-◌, ◌<◌, ◌≤◌, List, [], ◌∷◌, ◌++◌}
+use Rattle.std.specs.Prelude.{◌≡◌, ◌≢◌, ◌⊎◌, ℕ, ◌+◌, ◌-◌, ◌<◌, ◌≤◌, ◌==◌, List, [], ◌∷◌, ◌++◌}
 use Rattle.std.specs.Prelude.{length, take, drop, replicate, slice_index, Option, Some, None, Result, Ok, Err, IfOk, OnOk, refl}
+use Rattle.std.specs.List.{position}
 use Rattle.std.proofs.Common.{arith, ap, sym}
 use Rattle.std.specs.Io.KnownBytes.{Consumes, Appends, IsAtEnd}
 use Rattle.uni_script.specs.Ends.{AppendsPrefix}
@@ -8,6 +9,8 @@ use Rattle.uni_script.specs.declared.fault.BenchFault.{BenchFault}
 use Rattle.uni_script.specs.declared.fault.BenchFault.TheVariants.{Read, Write, Memory}
 use Rattle.uni_script.specs.declared.fault.BenchFault.TheVariants as fault
 use Rattle.uni_script.specs.declared.lines.Lines.{Lines}
+use Rattle.uni_script.specs.declared.lines.Place.{Place}
+use Rattle.uni_script.specs.declared.lines.Place.TheVariants.{Piece, Apart}
 use Rattle.uni_script.specs.declared.lines.Source.TheVariants.{Open, Ended}
 use Rattle.uni_script.specs.declared.lines.Taken.{Taken}
 use Rattle.uni_script.specs.declared.lines.Taken.TheVariants as taken
@@ -15,9 +18,20 @@ use Rattle.uni_script.specs.Grammar.{cut, lines_of}
 use Rattle.uni_script.specs.Outcome.{Kind, Outcome, outcome_of_fault, and_then, outcome_of_lines, outcome_of_end}
 use Rattle.uni_script.specs.Remarks.{Heard, HeardGrows, heard_of_lines}
 
+-- the bytes from the start of the line on, among those that stand apart or those of the piece
+abbrev pub bytes_from : Place → (apart piece : List ℕ) → List ℕ
+bytes_from (Piece from) apart piece = drop from piece
+bytes_from Apart apart piece = apart
+
+-- a line of so many bytes fits where it stands
+abbrev pub FitsAt : Place → (width : ℕ) → Type 0
+FitsAt (Piece from) width = from + width ≤ 32768
+FitsAt Apart width = Unit {0}
+
 -- the numbers of the lines are in range
-pub record IsHeld (lines : Lines) : Type 0 where
+pub record HasBounds (lines : Lines) : Type 0 where
   pub width : lines.width ≤ 200
+  pub place : FitsAt lines.place lines.width
   pub start : lines.start ≤ lines.end
   pub end : lines.end ≤ 32768
   pub count : lines.count ≤ 100000
@@ -26,11 +40,16 @@ pub record IsHeld (lines : Lines) : Type 0 where
 
 -- the line that was taken last
 abbrev pub line_of : Lines → List ℕ
-line_of lines = take lines.width lines.line
+line_of lines = take lines.width (bytes_from lines.place lines.line lines.piece)
 
 -- the bytes that were read and that no line has taken
 abbrev pub rest_of : Lines → List ℕ
 rest_of lines = take (lines.end - lines.start) (drop lines.start lines.piece)
+
+-- the numbers are in range, and it is known where the next line ends
+pub record IsHeld (lines : Lines) : Type 0 where
+  pub bounds : HasBounds lines
+  pub next : lines.next ≡ position (λ b. b == 10) (rest_of lines)
 
 -- a reader that had these bytes left gave those of these lines, and the rest that no line has taken yet
 pub record HasTaken (old now : Option (List ℕ)) (lines : Lines) (taken : List (List ℕ)) : Type 0 where

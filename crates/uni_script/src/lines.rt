@@ -3,7 +3,7 @@
 ghost use Rattle.std.specs.Prelude.{◌≡◌, ◌==◌, ◌+◌, ◌-◌, ◌<◌, ◌≤◌, ◌++◌, [], ◌↔◌};
 ghost use Rattle.std.specs.Prelude.{true, false, List, ℕ, Option, IfOk, IfErr, IsErrOf, OnOk, is_some, take};
 ghost use Rattle.std.specs.List.{position};
-ghost use Rattle.uni_script.specs.Lines.{IsHeld, line_of, rest_of, HasTaken, TakesOn, StopsWith};
+ghost use Rattle.uni_script.specs.Lines.{IsHeld, HasBounds, line_of, rest_of, HasTaken, TakesOn, StopsWith};
 
 use crate::ends::TextIn;
 use crate::fault::BenchFault;
@@ -33,11 +33,22 @@ pub enum Source {
     Ended,
 }
 
+/// Where the line that was taken last stands.
+#[derive(Clone, Copy)]
+pub enum Place {
+    /// In the piece, from this byte on.
+    Piece(usize),
+    /// Apart, since a piece ended within it.
+    Apart,
+}
+
 /// The line of a script that was taken last, and a piece of the text after it.
 #[derive(Drop)]
 pub struct Lines {
-    /// The bytes of the line, which are the first ones.
+    /// The bytes of a line that stands apart, which are the first ones.
     pub line: [u8; 200],
+    /// Where the line stands.
+    pub place: Place,
     /// How many bytes the line has.
     pub width: usize,
     /// The piece that was read last.
@@ -46,6 +57,8 @@ pub struct Lines {
     pub start: usize,
     /// Where they end.
     pub end: usize,
+    /// How many of them come before the first line end, where they have one.
+    pub next: Option<usize>,
     /// How many lines were taken.
     pub count: u64,
     /// Whether there may be more to read.
@@ -60,10 +73,12 @@ impl Lines {
     {
         Lines {
             line: [0; 200],
+            place: Place::Apart,
             width: 0,
             piece: [0; 32768],
             start: 0,
             end: 0,
+            next: None,
             count: 0,
             source: Source::Open,
         }
@@ -74,7 +89,10 @@ impl Lines {
         requires { IsHeld self.now }
         ensures { result.now ≡ line_of self.now }
     {
-        &self.line[..self.width]
+        match self.place {
+            Place::Piece(from) => &self.piece[from..from + self.width],
+            Place::Apart => &self.line[..self.width],
+        }
     }
 
     /// Whether the piece has the end of a further line, so that the next one is taken without the reader.
@@ -82,7 +100,7 @@ impl Lines {
         requires { IsHeld self.now }
         ensures { result ≡ is_some (position (λ b. b == 10) (rest_of self.now)) }
     {
-        self.end_of_line().is_some()
+        self.next.is_some()
     }
 
     /// Takes the next line, where there is one. The reader is asked only where the piece has no end of the line.
@@ -101,15 +119,17 @@ impl Lines {
         if self.source == Source::Ended {
             return Ok(Taken::End);
         }
+        self.place = Place::Apart;
         self.width = 0;
         loop {
             if self.count >= MOST_LINES && self.start < self.end {
                 return Err(BenchFault::TooMany);
             }
-            if let Some(at) = self.end_of_line() {
-                self.copy_part(at)?;
+            if let Some(at) = self.next {
+                self.add_end(at)?;
                 self.start += 1;
                 self.count += 1;
+                self.next = self.end_of_line();
                 return Ok(Taken::Line);
             }
             self.copy_part(self.end - self.start)?;
@@ -119,6 +139,7 @@ impl Lines {
                 Ok(count) => {
                     self.start = 0;
                     self.end = count;
+                    self.next = self.end_of_line();
                 }
             }
         }
@@ -141,10 +162,40 @@ impl Lines {
 
     /// Where the first line of the bytes that are left ends.
     fn end_of_line(&self) -> Option<usize>
-        requires { IsHeld self.now }
+        requires { HasBounds self.now }
         ensures { result ≡ position (λ b. b == 10) (rest_of self.now) }
     {
         memchr(b'\n', &self.piece[self.start..self.end])
+    }
+
+    /// Moves so many bytes of those that are left to the line, as its last ones. They are copied only where it has
+    /// others.
+    ///
+    /// An `Err` says that the line, whose number is one more than those that were taken, would be too long; nothing
+    /// is changed then.
+    fn add_end(&mut self, count: usize) -> Result<(), BenchFault>
+        requires held { HasBounds self.old }
+        requires apart { self.old.place ≡ Place.Apart }
+        requires inside { count ≤ self.old.end - self.old.start }
+        ensures held { HasBounds self.new }
+        ensures line { OnOk result (line_of self.new ≡ line_of self.old ++ take count (rest_of self.old)) }
+        ensures moved { OnOk result ((self.new.width ≡ self.old.width + count)
+            × (self.new.start ≡ self.old.start + count)) }
+        ensures kept { (self.new.piece ≡ self.old.piece) × (self.new.end ≡ self.old.end)
+            × (self.new.count ≡ self.old.count) × (self.new.source ≡ self.old.source) }
+        ensures long { IfErr result (λ e. (e ≡ BenchFault.TooLong (self.old.count + 1))
+            × (200 < self.old.width + count) × (self.new ≡ self.old)) }
+    {
+        if self.width > 0 {
+            return self.copy_part(count);
+        }
+        if count > MOST_BYTES {
+            return Err(BenchFault::TooLong(self.count + 1));
+        }
+        self.place = Place::Piece(self.start);
+        self.width = count;
+        self.start += count;
+        Ok(())
     }
 
     /// Moves so many bytes of those that are left to the line.
@@ -152,14 +203,17 @@ impl Lines {
     /// An `Err` says that the line, whose number is one more than those that were taken, would be too long; nothing
     /// is changed then.
     fn copy_part(&mut self, count: usize) -> Result<(), BenchFault>
-        requires held { IsHeld self.old }
+        requires held { HasBounds self.old }
+        requires apart { self.old.place ≡ Place.Apart }
         requires inside { count ≤ self.old.end - self.old.start }
-        ensures held { IsHeld self.new }
+        ensures held { HasBounds self.new }
         ensures line { OnOk result (line_of self.new ≡ line_of self.old ++ take count (rest_of self.old)) }
         ensures moved { OnOk result ((self.new.width ≡ self.old.width + count)
             × (self.new.start ≡ self.old.start + count)) }
+        ensures apart { self.new.place ≡ Place.Apart }
         ensures kept { (self.new.piece ≡ self.old.piece) × (self.new.end ≡ self.old.end)
-            × (self.new.count ≡ self.old.count) × (self.new.source ≡ self.old.source) }
+            × (self.new.next ≡ self.old.next) × (self.new.count ≡ self.old.count)
+            × (self.new.source ≡ self.old.source) }
         ensures long { IfErr result (λ e. (e ≡ BenchFault.TooLong (self.old.count + 1))
             × (200 < self.old.width + count) × (self.new ≡ self.old)) }
     {

@@ -20,7 +20,7 @@ returns-in_err-run_line-in-Line-clause-next g c = λ kind inside about old writt
     let held = c.in_ok-take.ensures.held in
     let short = ap (λ l. is_short l) c.line-line.ensures ∙ is_short-line c.take.new.self held in
     subst (GoesOn kind old (g.I.TextIn.remaining c.take.new.reader) c.args.lines.now c.take.new.self written_old written c.args.text.now.items c.args.text.now.items heard_old (g.L.Listener.heard c.args.listener.now) (g.L.Listener.heard c.run_line.new.listener) taken (inside (session_of c.args.session.now)) (inside (session_of c.run_line.new.session))) (sym e)
-    (refl, FaultsAfter-line kind old _ c.args.lines.now written_old written _ heard_old _ taken _ run _ c.take.new.self c.line-line.result.now has short held.count fault _ _ (c.in_err-run_line-in-Line.ensures.outcome kind inside about))
+    (refl, FaultsAfter-line kind old _ c.args.lines.now written_old written _ heard_old _ taken _ run _ c.take.new.self c.line-line.result.now has short held.bounds.count fault _ _ (c.in_err-run_line-in-Line.ensures.outcome kind inside about))
 
 pub returns-in_err-extend_from_slice-in-Line-clause-next : goal.returns-in_err-extend_from_slice-in-Line-clause-next
 returns-in_err-extend_from_slice-in-Line-clause-next g c = λ kind inside about old written_old written heard_old taken run.
@@ -30,7 +30,7 @@ returns-in_err-extend_from_slice-in-Line-clause-next g c = λ kind inside about 
     let held = c.in_ok-take.ensures.held in
     let short = ap (λ l. is_short l) c.line-line.ensures ∙ is_short-line c.take.new.self held in
     subst (GoesOn kind old (g.I.TextIn.remaining c.take.new.reader) c.args.lines.now c.take.new.self written_old written c.args.text.now.items c.extend_from_slice.new.self.items heard_old (g.L.Listener.heard c.args.listener.now) (g.L.Listener.heard c.run_line.new.listener) taken (inside (session_of c.args.session.now)) (inside (session_of c.run_line.new.session))) (sym e)
-    (c.in_err-extend_from_slice-in-Line.ensures.items, inl (refl, ReadsOn-before kind old _ c.args.lines.now written_old written _ heard_old _ taken _ run _ c.take.new.self c.line-line.result.now has short held.count))
+    (c.in_err-extend_from_slice-in-Line.ensures.items, inl (refl, ReadsOn-before kind old _ c.args.lines.now written_old written _ heard_old _ taken _ run _ c.take.new.self c.line-line.result.now has short held.bounds.count))
 
 pub returns-in_ok-extend_from_slice-in-Line-clause-next : goal.returns-in_ok-extend_from_slice-in-Line-clause-next
 returns-in_ok-extend_from_slice-in-Line-clause-next g c = λ kind inside about old written_old written heard_old taken run.
@@ -45,7 +45,7 @@ returns-in_ok-extend_from_slice-in-Line-clause-next g c = λ kind inside about o
     let echo : c.push_echo.new.text.items ≡ echo_of kind.echo line = c.in_ok-push_echo-in-Line.ensures ∙ ap (λ t. t ++ echo_of c.args.dialect.echo line) c.clear.ensures.items ∙ ap (λ e. echo_of e line) (sym about.echo) in
     let answered : c.as_slice.result.now ≡ echo_of kind.echo line ++ text = c.as_slice.ensures.value ∙ ran.1 ∙ ap (λ t. t ++ text) echo in (
       taken ++ line ∷ [],
-      HasRun-line kind old _ c.args.lines.now written_old written _ heard_old _ taken _ run _ c.take.new.self line has short held.count (Some (inside (session_of c.run_line.new.session))) _ _ ran.0 (sym (c.in_ok-run_line-in-Line.ensures.session kind inside about))
+      HasRun-line kind old _ c.args.lines.now written_old written _ heard_old _ taken _ run _ c.take.new.self line has short held.bounds.count (Some (inside (session_of c.run_line.new.session))) _ _ ran.0 (sym (c.in_ok-run_line-in-Line.ensures.session kind inside about))
           (c.in_ok-extend_from_slice-in-Line.ensures.items ∙ ap (λ t. c.args.text.now.items ++ t) answered) (c.in_ok-run_line-in-Line.ensures.heard kind inside about),
     )
 
@@ -62,4 +62,4 @@ returns-in_err-push_echo-in-Line-clause-next g c = λ kind inside about old writ
     let held = c.in_ok-take.ensures.held in
     let short = ap (λ l. is_short l) c.line-line.ensures ∙ is_short-line c.take.new.self held in
     subst (GoesOn kind old (g.I.TextIn.remaining c.take.new.reader) c.args.lines.now c.take.new.self written_old written c.args.text.now.items c.args.text.now.items heard_old (g.L.Listener.heard c.args.listener.now) (g.L.Listener.heard c.args.listener.now) taken (inside (session_of c.args.session.now)) (inside (session_of c.args.session.now))) (sym e)
-    (refl, inl (refl, ReadsOn-before kind old _ c.args.lines.now written_old written _ heard_old _ taken _ run _ c.take.new.self c.line-line.result.now has short held.count))
+    (refl, inl (refl, ReadsOn-before kind old _ c.args.lines.now written_old written _ heard_old _ taken _ run _ c.take.new.self c.line-line.result.now has short held.bounds.count))

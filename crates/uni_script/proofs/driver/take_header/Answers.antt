@@ -20,7 +20,7 @@ loop-lines-preserved g c =
     let echo = echo_of c.args.options.now.echo line in
     let note = c.in_ok-header.ensures.kind ∙ ap is_none c.in-None.is in
     let same = ap (λ e. echo_of e line) (g.C.Catalogue.echoes c.args.catalogue.now c.args.options.now) in
-    let run = HasRun-quiet (g.C.Catalogue.kind c.args.catalogue.now c.args.options.now) old _ c.loop-lines.lines _ _ [] _ _ now.0 None now.1 _ c.take.new.self line has short held.count None echo _ (of_none c.in_ok-header.header _ c.in-None.is (c.in_ok-header.ensures.note c.args.options.now)) (sym same)
+    let run = HasRun-quiet (g.C.Catalogue.kind c.args.catalogue.now c.args.options.now) old _ c.loop-lines.lines _ _ [] _ _ now.0 None now.1 _ c.take.new.self line has short held.bounds.count None echo _ (of_none c.in_ok-header.header _ c.in-None.is (c.in_ok-header.ensures.note c.args.options.now)) (sym same)
     (subst (HeardGrows (g.L.Listener.heard c.loop-lines.listener) (g.L.Listener.heard c.note.new.self)) (heard_of_line-note (g.C.Catalogue.kind c.args.catalogue.now c.args.options.now) c.take.new.self.count line note) c.in_ok-note-in-None.ensures) in (
       held,
       stays_false _ _ c.in_ok-take.ensures.failed (λ e. cc),
@@ -59,7 +59,7 @@ returns-in_err-header-clause-ended g c =
     let fault = c.in_err-header.field-0.0 in
     let e : c.from_residual-in_err-header.result ≡ Err fault = search rules in
     subst (λ r. IfErr r (λ e. HasEnded (g.C.Catalogue.kind c.args.catalogue.now c.args.options.now) old (g.I.TextIn.remaining c.take.new.reader) (g.W.TextOut.contents c.args.writer.now) (g.W.TextOut.contents c.loop-lines.writer) (g.L.Listener.heard c.args.listener.now) (g.L.Listener.heard c.loop-lines.listener) (g.C.Catalogue.IsRan c.args.catalogue.now) (Err e))) (sym e)
-    (HasEnded-fault (g.C.Catalogue.kind c.args.catalogue.now c.args.options.now) old _ _ _ _ _ now.0 (g.C.Catalogue.IsRan c.args.catalogue.now) fault (FaultsAfter-header (g.C.Catalogue.kind c.args.catalogue.now c.args.options.now) old _ c.loop-lines.lines _ _ [] _ _ now.0 None now.1 _ c.take.new.self line has short held.count None fault (c.in_err-header.ensures.fault c.args.options.now)) (text_written (g.C.Catalogue.kind c.args.catalogue.now c.args.options.now) old _ c.loop-lines.lines _ _ [] _ _ now.0 None now.1 refl))
+    (HasEnded-fault (g.C.Catalogue.kind c.args.catalogue.now c.args.options.now) old _ _ _ _ _ now.0 (g.C.Catalogue.IsRan c.args.catalogue.now) fault (FaultsAfter-header (g.C.Catalogue.kind c.args.catalogue.now c.args.options.now) old _ c.loop-lines.lines _ _ [] _ _ now.0 None now.1 _ c.take.new.self line has short held.bounds.count None fault (c.in_err-header.ensures.fault c.args.options.now)) (text_written (g.C.Catalogue.kind c.args.catalogue.now c.args.options.now) old _ c.loop-lines.lines _ _ [] _ _ now.0 None now.1 refl))
 
 pub returns-in-Some-clause-run : goal.returns-in-Some-clause-run
 returns-in-Some-clause-run g c =
@@ -74,7 +74,7 @@ returns-in-Some-clause-run g c =
     let other = c.in_ok-header.ensures.kind ∙ ap is_none c.in-Some.is in
     let same = ap (λ e. echo_of e line) (g.C.Catalogue.echoes c.args.catalogue.now c.args.options.now) in
     let opened = Some (g.C.Catalogue.opened c.args.catalogue.now c.args.options.now c.in-Some.header) in
-    let run = HasRun-quiet (g.C.Catalogue.kind c.args.catalogue.now c.args.options.now) old _ c.loop-lines.lines _ _ [] _ _ now.0 None now.1 _ c.take.new.self line has short held.count opened echo _ (of_some c.in_ok-header.header c.in-Some.header _ c.in-Some.is (c.in_ok-header.ensures.header c.args.options.now)) (sym same)
+    let run = HasRun-quiet (g.C.Catalogue.kind c.args.catalogue.now c.args.options.now) old _ c.loop-lines.lines _ _ [] _ _ now.0 None now.1 _ c.take.new.self line has short held.bounds.count opened echo _ (of_some c.in_ok-header.header c.in-Some.header _ c.in-Some.is (c.in_ok-header.ensures.header c.args.options.now)) (sym same)
     (subst (HeardGrows (g.L.Listener.heard c.loop-lines.listener) (g.L.Listener.heard c.loop-lines.listener)) (heard_of_line-header (g.C.Catalogue.kind c.args.catalogue.now c.args.options.now) c.take.new.self.count opened line other) (HeardGrows-nil (g.L.Listener.heard c.loop-lines.listener))) in
     (now.0 ++ line ∷ [], HasRun-moved (g.C.Catalogue.kind c.args.catalogue.now c.args.options.now) old _ c.take.new.self _ _ echo _ _ (now.0 ++ line ∷ []) opened run _ [] (echo, c.in_ok-write_echo-in-Some.ensures.written, sym (append-nil echo)))
 
@@ -93,7 +93,7 @@ returns-in_err-write_echo-in-Some-clause-ended g c =
     let other = c.in_ok-header.ensures.kind ∙ ap is_none c.in-Some.is in
     let same = ap (λ e. echo_of e line) (g.C.Catalogue.echoes c.args.catalogue.now c.args.options.now) in
     let opened = Some (g.C.Catalogue.opened c.args.catalogue.now c.args.options.now c.in-Some.header) in
-    let run = HasRun-quiet (g.C.Catalogue.kind c.args.catalogue.now c.args.options.now) old _ c.loop-lines.lines _ _ [] _ _ now.0 None now.1 _ c.take.new.self line has short held.count opened echo _ (of_some c.in_ok-header.header c.in-Some.header _ c.in-Some.is (c.in_ok-header.ensures.header c.args.options.now)) (sym same)
+    let run = HasRun-quiet (g.C.Catalogue.kind c.args.catalogue.now c.args.options.now) old _ c.loop-lines.lines _ _ [] _ _ now.0 None now.1 _ c.take.new.self line has short held.bounds.count opened echo _ (of_some c.in_ok-header.header c.in-Some.header _ c.in-Some.is (c.in_ok-header.ensures.header c.args.options.now)) (sym same)
     (subst (HeardGrows (g.L.Listener.heard c.loop-lines.listener) (g.L.Listener.heard c.loop-lines.listener)) (heard_of_line-header (g.C.Catalogue.kind c.args.catalogue.now c.args.options.now) c.take.new.self.count opened line other) (HeardGrows-nil (g.L.Listener.heard c.loop-lines.listener))) in
     subst (λ r. IfErr r (λ e. HasEnded (g.C.Catalogue.kind c.args.catalogue.now c.args.options.now) old (g.I.TextIn.remaining c.take.new.reader) (g.W.TextOut.contents c.args.writer.now) (g.W.TextOut.contents c.write_echo.new.writer) (g.L.Listener.heard c.args.listener.now) (g.L.Listener.heard c.loop-lines.listener) (g.C.Catalogue.IsRan c.args.catalogue.now) (Err e))) (sym e)
     (HasEnded-early (g.C.Catalogue.kind c.args.catalogue.now c.args.options.now) old _ _ _ _ _ (now.0 ++ line ∷ []) (g.C.Catalogue.IsRan c.args.catalogue.now) fault c.in_err-write_echo-in-Some.ensures.fault (ReadsOn-taken old _ c.take.new.self (now.0 ++ line ∷ []) run.reading) (text_part (g.C.Catalogue.kind c.args.catalogue.now c.args.options.now) old _ c.take.new.self _ _ echo _ _ (now.0 ++ line ∷ []) opened run _ c.in_err-write_echo-in-Some.ensures.prefix))
@@ -112,7 +112,7 @@ returns-in_err-write_echo-in-None-clause-ended g c =
     let e : c.from_residual-in_err-write_echo-in-None.result ≡ Err fault = search rules in
     let note = c.in_ok-header.ensures.kind ∙ ap is_none c.in-None.is in
     let same = ap (λ e. echo_of e line) (g.C.Catalogue.echoes c.args.catalogue.now c.args.options.now) in
-    let run = HasRun-quiet (g.C.Catalogue.kind c.args.catalogue.now c.args.options.now) old _ c.loop-lines.lines _ _ [] _ _ now.0 None now.1 _ c.take.new.self line has short held.count None echo _ (of_none c.in_ok-header.header _ c.in-None.is (c.in_ok-header.ensures.note c.args.options.now)) (sym same)
+    let run = HasRun-quiet (g.C.Catalogue.kind c.args.catalogue.now c.args.options.now) old _ c.loop-lines.lines _ _ [] _ _ now.0 None now.1 _ c.take.new.self line has short held.bounds.count None echo _ (of_none c.in_ok-header.header _ c.in-None.is (c.in_ok-header.ensures.note c.args.options.now)) (sym same)
     (subst (HeardGrows (g.L.Listener.heard c.loop-lines.listener) (g.L.Listener.heard c.note.new.self)) (heard_of_line-note (g.C.Catalogue.kind c.args.catalogue.now c.args.options.now) c.take.new.self.count line note) c.in_ok-note-in-None.ensures) in
     subst (λ r. IfErr r (λ e. HasEnded (g.C.Catalogue.kind c.args.catalogue.now c.args.options.now) old (g.I.TextIn.remaining c.take.new.reader) (g.W.TextOut.contents c.args.writer.now) (g.W.TextOut.contents c.write_echo-in-None.new.writer) (g.L.Listener.heard c.args.listener.now) (g.L.Listener.heard c.note.new.self) (g.C.Catalogue.IsRan c.args.catalogue.now) (Err e))) (sym e)
     (HasEnded-early (g.C.Catalogue.kind c.args.catalogue.now c.args.options.now) old _ _ _ _ _ (now.0 ++ line ∷ []) (g.C.Catalogue.IsRan c.args.catalogue.now) fault c.in_err-write_echo-in-None.ensures.fault (ReadsOn-taken old _ c.take.new.self (now.0 ++ line ∷ []) run.reading) (text_part (g.C.Catalogue.kind c.args.catalogue.now c.args.options.now) old _ c.take.new.self _ _ echo _ _ (now.0 ++ line ∷ []) None run _ c.in_err-write_echo-in-None.ensures.prefix))
@@ -128,4 +128,4 @@ returns-in_err-note-in-None-clause-ended g c =
     let short = ap (λ l. is_short l) c.line-line.ensures ∙ is_short-line c.take.new.self held in
     let e : c.from_residual-in_err-note-in-None.result ≡ Err Memory = search rules in
     subst (λ r. IfErr r (λ e. HasEnded (g.C.Catalogue.kind c.args.catalogue.now c.args.options.now) old (g.I.TextIn.remaining c.take.new.reader) (g.W.TextOut.contents c.args.writer.now) (g.W.TextOut.contents c.loop-lines.writer) (g.L.Listener.heard c.args.listener.now) (g.L.Listener.heard c.note.new.self) (g.C.Catalogue.IsRan c.args.catalogue.now) (Err e))) (sym e)
-    (HasEnded-early (g.C.Catalogue.kind c.args.catalogue.now c.args.options.now) old _ _ _ _ _ now.0 (g.C.Catalogue.IsRan c.args.catalogue.now) Memory (inl refl) (ReadsOn-before (g.C.Catalogue.kind c.args.catalogue.now c.args.options.now) old _ c.loop-lines.lines _ _ [] _ _ now.0 None now.1 _ c.take.new.self line has short held.count) (AppendsPrefix-all _ _ _ (text_written (g.C.Catalogue.kind c.args.catalogue.now c.args.options.now) old _ c.loop-lines.lines _ _ [] _ _ now.0 None now.1 refl)))
+    (HasEnded-early (g.C.Catalogue.kind c.args.catalogue.now c.args.options.now) old _ _ _ _ _ now.0 (g.C.Catalogue.IsRan c.args.catalogue.now) Memory (inl refl) (ReadsOn-before (g.C.Catalogue.kind c.args.catalogue.now c.args.options.now) old _ c.loop-lines.lines _ _ [] _ _ now.0 None now.1 _ c.take.new.self line has short held.bounds.count) (AppendsPrefix-all _ _ _ (text_written (g.C.Catalogue.kind c.args.catalogue.now c.args.options.now) old _ c.loop-lines.lines _ _ [] _ _ now.0 None now.1 refl)))
