@@ -52,7 +52,7 @@ pub fn bench<I: TextIn, O: TextOut>(
     ensures writer { IsErrOf result BenchFault.Write ↔ (O.has_failed writer.new ≡ true) }
 {
     match run_script(Ready, alloc, options, reader, writer, &mut Deaf) {
-        Ok(ran) => Ok(ran.summary),
+        Ok(ran) => Ok(ran.into_summary()),
         Err(fault) => Err(fault),
     }
 }

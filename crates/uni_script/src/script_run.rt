@@ -40,6 +40,15 @@ pub(crate) struct Ran<R: Drop> {
     pub(crate) summary: Summary,
 }
 
+impl<R: Drop> Ran<R> {
+    /// How much was done. The record is let go.
+    pub(crate) fn into_summary(self) -> Summary
+        ensures { result ≡ self.summary }
+    {
+        self.summary
+    }
+}
+
 /// The run of a script.
 #[derive(Drop)]
 pub struct ScriptRun<R: Drop> {

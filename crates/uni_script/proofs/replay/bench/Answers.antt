@@ -1,4 +1,5 @@
-use Rattle.uni_script.proofs.Vocabulary.{Audit, Err, IsPromisedSession, IsRan, Ok, Read, ap, refl, scripts, summary_of_session, ◌≡◌}
+use Rattle.uni_script.proofs.Vocabulary.{Audit, Err, IsPromisedSession, IsRan, Ok, Read, ap, refl, scripts, subst, summary_of_session, sym, ◌≡◌}
+use Rattle.uni_script.specs.Replay.{IsSummary}
 use Rattle.uni_script.proofs.RunningOn.{one_fault}
 use Rattle.uni_script.proofs.Replaying.{HasEnded-replayed, HasEnded-leaves, HasEnded-audited, HasEnded-bad, HasEnded-part, HasEnded-read}
 use Rattle.uni_script.proofs.replay.bench.Goals as goal
@@ -7,7 +8,7 @@ pub returns-in-Ok-clause-replayed : goal.returns-in-Ok-clause-replayed
 returns-in-Ok-clause-replayed g c = HasEnded-replayed (scripts c.args.options.now) _ _ _ _ _ _ IsRan (Ok c.in-Ok.ran) c.in-Ok.ensures.run
 
 pub returns-in-Ok-clause-summary : goal.returns-in-Ok-clause-summary
-returns-in-Ok-clause-summary g c = HasEnded-leaves (scripts c.args.options.now) _ _ _ _ _ _ IsRan c.in-Ok.ran (λ lines b. c.in-Ok.ran.summary ≡ summary_of_session lines b) (λ lines b is. is.0) c.in-Ok.ensures.run
+returns-in-Ok-clause-summary g c = subst (IsSummary c.args.options.now _) (sym c.into_summary.ensures) (HasEnded-leaves (scripts c.args.options.now) _ _ _ _ _ _ IsRan c.in-Ok.ran (λ lines b. c.in-Ok.ran.summary ≡ summary_of_session lines b) (λ lines b is. is.0) c.in-Ok.ensures.run)
 
 pub returns-in-Ok-clause-promised : goal.returns-in-Ok-clause-promised
 returns-in-Ok-clause-promised g c = HasEnded-leaves (scripts c.args.options.now) _ _ _ _ _ _ IsRan c.in-Ok.ran (λ lines b. IsPromisedSession b) (λ lines b is. is.1) c.in-Ok.ensures.run
