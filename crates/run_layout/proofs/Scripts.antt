@@ -37,7 +37,7 @@ events-marks (Book r) = refl
 events-marks (Sticky r) = refl
 
 -- the session of a run has the events of its record
-events-run : (b : ScriptSession) (version : Version) (r : ScriptRecord) → b ≡ session_of_record version r → length b.session.events ≡ events_of_record r
+pub events-run : (b : ScriptSession) (version : Version) (r : ScriptRecord) → b ≡ session_of_record version r → length b.session.events ≡ events_of_record r
 events-run b version r is = ap (λ (s : ScriptSession). length s.session.events) is ∙ events-record version r
 
 -- a run with the options by default

@@ -58,7 +58,7 @@ impl Range {
     }
 
     /// How many of so many events it has.
-    pub(crate) fn count(self, events: u64) -> u64
+    pub fn count(self, events: u64) -> u64
         ensures small { result ≤ events }
         ensures count { result ≡ count_in self events }
     {
@@ -67,6 +67,16 @@ impl Range {
             None => events,
         };
         end.saturating_sub(self.from)
+    }
+
+    /// Whether a remark is told where these events are chosen: a heading is, and what stands before one of them.
+    pub fn tells(self, one: &PlacedRemark) -> bool
+        ensures { result ≡ is_told_in self one.now }
+    {
+        match one.remark {
+            Remark::Heading(_) => true,
+            Remark::Note(_) | Remark::Refused { .. } => self.has(one.before),
+        }
     }
 
     /// The number of an event from the first one on.
@@ -270,16 +280,6 @@ pub(crate) fn chosen(alloc: Global, range: Range, marks: Marks) -> Result<Marks,
     })
 }
 
-/// Whether a remark is told where these events are chosen: a heading is, and what stands before one of them.
-fn is_told_in(range: Range, one: &PlacedRemark) -> bool
-    ensures { result ≡ is_told_in range one.now }
-{
-    match one.remark {
-        Remark::Heading(_) => true,
-        Remark::Note(_) | Remark::Refused { .. } => range.has(one.before),
-    }
-}
-
 /// What is told beside a run, where these events are chosen.
 ///
 /// An `Err` says that memory was refused.
@@ -293,7 +293,7 @@ pub(crate) fn chosen_remarks(
 {
     let mut part = Vec::new(alloc);
     for one in remarks {
-        if is_told_in(range, &one) {
+        if range.tells(&one) {
             part.push(PlacedRemark {
                 line: one.line,
                 before: range.shifted(one.before),

@@ -2,6 +2,7 @@ pub mod Vocabulary
 pub mod Proposing
 pub mod Staying
 pub mod Telling
+pub mod Passing
 pub mod EachEvent
 pub mod PlacesMore
 pub mod Lists

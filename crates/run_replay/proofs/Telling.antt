@@ -1,8 +1,8 @@
 -- The frame of an event, put together from what was read.
-use Rattle.run_replay.proofs.Vocabulary.{Begun, Bool, CallId, Field, Frame, Held, Invariant, Language, List, None, Of, Option, Pending, Progress, Sequential, Some, Step, Stepped, Steps, WorldOf, [], alone, answered, ap, append_assoc, begun, call_of_name, change_of, codes, current_of, event_shown, events_shown, false, field_name, frame_of, held, kind_of, memory_asked, name_in, option_and_then, option_map, option_map_or, place_named, place_of, progress_of, proposal_told, proposed_at, refl, response_of_step, scene_of, scenes_from, stepped, sym, world_after, world_after_step, ℕ, ◌++◌, ◌-◌, ◌∙◌, ◌∷◌, ◌≡◌}
+use Rattle.run_replay.proofs.Vocabulary.{Begun, Bool, CallId, Field, Frame, Held, Invariant, Language, List, None, Of, Option, Pending, Progress, Sequential, Some, Step, Stepped, Steps, WorldOf, [], alone, answered, ap, append_assoc, begun, call_of_name, change_of, codes, current_of, false, field_name, frame_of, held, kind_of, memory_asked, name_in, option_and_then, option_map, option_map_or, place_named, place_of, progress_of, proposal_told, proposed_at, refl, response_of_step, scene_of, scenes_from, stepped, sym, world_after, world_after_step, ℕ, ◌++◌, ◌-◌, ◌∙◌, ◌∷◌, ◌≡◌}
 use Rattle.ready_objects.specs.Words.{text_of_words}
 use Rattle.uni_core.specs.declared.stage.Place.{Place as PlaceById}
-use Rattle.uni_record.specs.declared.event.Event.{Event as Stored}
+use Rattle.uni_model.specs.Worlds.{Event}
 use Rattle.std.specs.Str.{bytes_eq}
 use Rattle.run_replay.specs.Scenes.{Scene}
 use Rattle.run_replay.proofs.Proposing.{unmade, asked, proposal_is, proposed_in}
@@ -99,15 +99,15 @@ module _ {S I R : Type 0} where
         (after ∙ ap (λ c. alone (field_name (Some c) (codes "inv")) (text_of_words (l.inv_words i))) call
         ∙ ap (λ o. alone (field_name (Some (record { process = p; nth = w.begun p })) (codes "inv")) (option_map_or (λ j. text_of_words (l.inv_words j)) o (codes "?"))) (sym (asked w.memory (Of p (w.begun p)) i)))
 
-    -- the next of the stored events is taken
-    pub scenes_taken : (is_whole : Bool) (made more : List (Option Scene)) (w v : WorldOf S I R) (e : Stored I) (rest : List (Stored I)) (scene : Scene)
-        → more ≡ made ++ Some scene ∷ [] → Some scene.frame ≡ frame_of object l text w (event_shown e) → v ≡ world_after object w (event_shown e) → scene.memory ≡ memory_asked l text is_whole v
-        → more ++ scenes_from object l text is_whole v (events_shown rest) ≡ made ++ scenes_from object l text is_whole w (events_shown (e ∷ rest))
+    -- the next of the events is taken
+    pub scenes_taken : (is_whole : Bool) (made more : List (Option Scene)) (w v : WorldOf S I R) (e : Event I) (rest : List (Event I)) (scene : Scene)
+        → more ≡ made ++ Some scene ∷ [] → Some scene.frame ≡ frame_of object l text w e → v ≡ world_after object w e → scene.memory ≡ memory_asked l text is_whole v
+        → more ++ scenes_from object l text is_whole v rest ≡ made ++ scenes_from object l text is_whole w (e ∷ rest)
     scenes_taken is_whole made more w v e rest scene added framed world memory =
-        let after = world_after object w (event_shown e) in
-        let told : Some scene ≡ scene_of object l text is_whole w (event_shown e) =
-        scene_is scene.frame scene.memory (memory_asked l text is_whole after) (frame_of object l text w (event_shown e)) framed (memory ∙ ap (memory_asked l text is_whole) world) in
-        ap (λ k. k ++ scenes_from object l text is_whole v (events_shown rest)) added
-        ∙ append_assoc made (Some scene ∷ []) (scenes_from object l text is_whole v (events_shown rest))
-        ∙ ap (λ (u : WorldOf S I R). made ++ Some scene ∷ scenes_from object l text is_whole u (events_shown rest)) world
-        ∙ ap (λ o. made ++ o ∷ scenes_from object l text is_whole after (events_shown rest)) told
+        let after = world_after object w e in
+        let told : Some scene ≡ scene_of object l text is_whole w e =
+        scene_is scene.frame scene.memory (memory_asked l text is_whole after) (frame_of object l text w e) framed (memory ∙ ap (memory_asked l text is_whole) world) in
+        ap (λ k. k ++ scenes_from object l text is_whole v rest) added
+        ∙ append_assoc made (Some scene ∷ []) (scenes_from object l text is_whole v rest)
+        ∙ ap (λ (u : WorldOf S I R). made ++ Some scene ∷ scenes_from object l text is_whole u rest) world
+        ∙ ap (λ o. made ++ o ∷ scenes_from object l text is_whole after rest) told

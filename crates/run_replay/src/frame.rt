@@ -106,6 +106,26 @@ pub struct Scene {
     pub memory: Option<Vec<Held>>,
 }
 
+/// Where the scenes of some events of a run begin.
+#[derive(Drop)]
+pub struct Start {
+    /// How many events came before them.
+    pub events: u64,
+    /// How many processes there are then.
+    pub processes: u64,
+    /// What each place of the memory holds then.
+    pub memory: Vec<Held>,
+}
+
+/// What some events of a run did that come one after the other.
+#[derive(Drop)]
+pub struct Excerpt {
+    /// Where they begin; `None` where the first of them is the run's.
+    pub start: Option<Start>,
+    /// A scene for each.
+    pub scenes: Vec<Scene>,
+}
+
 /// A copy of a field.
 ///
 /// An `Err` says that memory was refused.

@@ -1,10 +1,10 @@
 //! The scenes of a run, by the replay of its events.
 
-ghost use Rattle.std.specs.Prelude.{◌≡◌, ◌<◌, ℕ, None, Some, IfOk, IfSome, IsSome, OnOk, map};
+ghost use Rattle.std.specs.Prelude.{◌≡◌, ◌<◌, ◌≤◌, ℕ, None, Some, IfOk, IfSome, IsSome, OnOk, drop, length, map, take};
 ghost use Rattle.std.specs.Prelude.{option_and_then, option_map};
 ghost use Rattle.cell_arena.specs.Arena.{cell_of};
 ghost use Rattle.uni_model.specs.Transition.{place_of};
-ghost use Rattle.uni_model.specs.Worlds.{opened_world, world_after};
+ghost use Rattle.uni_model.specs.Worlds.{opened_world, world_after, world_after_all};
 ghost use Rattle.uni_model.specs.Worlds.{Event as model};
 ghost use Rattle.uni_core.specs.Readers.{call_of_name, kind_of, place_named, proposed_at, IsPlaceIn};
 ghost use Rattle.uni_core.specs.World.{current_of, name_in, world_of, IsProgress};
@@ -12,41 +12,149 @@ ghost use Rattle.uni_core.specs.Ends.{last_number};
 ghost use Rattle.uni_record.specs.Event.{event_lent, event_shown, events_shown};
 ghost use Rattle.run_replay.specs.Frames.{answered, begun, ended, frame_of, stepped};
 ghost use Rattle.run_replay.specs.Proposal.{proposal_told};
-ghost use Rattle.run_replay.specs.Scenes.{scenes_from};
-ghost use Rattle.run_replay.specs.ScenesShown.{begun_shown, end_shown, frame_shown, held_shown, scene_shown};
-ghost use Rattle.run_replay.specs.ScenesShown.{step_shown};
+ghost use Rattle.run_replay.specs.Scenes.{excerpt_of, scenes_from, start_of};
+ghost use Rattle.run_replay.specs.ScenesShown.{begun_shown, end_shown, excerpt_shown, frame_shown, held_shown};
+ghost use Rattle.run_replay.specs.ScenesShown.{scene_shown, start_shown, step_shown};
 
-use crate::frame::{Begun, EndedEra, Frame, Held, Scene, Step, held_copy};
+use crate::frame::{Begun, EndedEra, Excerpt, Frame, Held, Scene, Start, Step, held_copy};
 use crate::opening::reopened;
 use crate::places::{alone, asked_field, cell_text, read_place, settled_fields};
-use crate::whole::memory_asked;
+use crate::whole::{memory_asked, whole_memory};
 use cell_arena::{CellId, Cells};
 use ready_objects::Spoken;
 use seq_object::CallId;
 use std::alloc::{AllocError, Global};
 use uni_core::{Place, Progress, StepKind, World, reshape, trim};
-use uni_record::{Event, Recorded};
+use uni_record::{Event, Events, Recorded};
 
-/// The scenes of the run that a record has stored, one for each of its events; `object` is a further value of the
-/// record's object. They are found by a replay of the events. They tell the whole memory only where that is asked for.
+/// What some events of the run did that a record has stored: of those from number `from` on, which counts from 0, at most
+/// so many; `object` is a further value of the record's object. Each has a scene, and the scenes tell the whole memory
+/// only where that is asked for. They are found by a replay of the events.
 ///
 /// An `Err` says that memory was refused. It would come too where the replay refused an event, as it never does with
 /// the object of the record; that isn't proved.
-pub fn scenes_of<O: Spoken>(
+pub fn excerpt_of<O: Spoken>(
     alloc: Global,
     object: O,
     run: &Recorded<O>,
+    from: u64,
+    most: u64,
     is_whole: bool,
-) -> Result<Vec<Scene>, AllocError>
-    ensures { IfOk result (λ scenes. map (λ scene. Some (scene_shown scene)) scenes.items ≡
-        scenes_from (O.sequential object) O.language O.state_text is_whole
+) -> Result<Excerpt, AllocError>
+    ensures { IfOk result (λ part. excerpt_shown part ≡
+        excerpt_of (O.sequential object) O.language O.state_text is_whole from most
         (opened_world run.now.processes (O.sequential object).initial run.now.first) (events_shown run.now.events)) }
 {
     let mut replay = reopened(alloc, object, run)?;
+    let mut events = run.events();
+    let passed = pass(alloc, from, &mut events, &mut replay)?;
+    let start = start_of(alloc, passed, &replay)?;
+    let scenes = scenes_of(alloc, most, is_whole, events, &mut replay)?;
+    Ok(Excerpt { start, scenes })
+}
+
+/// Takes so many of the events that come in a replay, or all where there are fewer; the answer is how many.
+///
+/// An `Err` says that memory was refused, or an event.
+fn pass<O: Spoken>(
+    alloc: Global,
+    count: u64,
+    events: &mut Events<'_, O::Inv>,
+    replay: &mut World<O>,
+) -> Result<u64, AllocError>
+    ensures object { replay.new.object ≡ replay.old.object }
+    ensures events { OnOk result (events.new ≡ drop count events.old) }
+    ensures passed { IfOk result (λ passed. passed ≡ length (take count (events_shown events.old))) }
+    ensures world { OnOk result (world_of replay.new ≡ world_after_all (O.sequential replay.old.object)
+        (world_of replay.old) (take count (events_shown events.old))) }
+{
+    let mut left = count;
+    while left > 0 {
+        let Some(event) = events.next() else {
+            break;
+        };
+        take_event(alloc, event, replay)?;
+        left -= 1;
+    }
+    Ok(count - left)
+}
+
+/// Takes an event in a replay.
+///
+/// An `Err` says that memory was refused, or the event.
+fn take_event<O: Spoken>(
+    alloc: Global,
+    event: Event<&O::Inv>,
+    replay: &mut World<O>,
+) -> Result<(), AllocError>
+    ensures object { replay.new.object ≡ replay.old.object }
+    ensures world { OnOk result (world_of replay.new ≡
+        world_after (O.sequential replay.old.object) (world_of replay.old) (event_shown (event_lent event.entry))) }
+{
+    match event {
+        Event::Call(process, inv) => {
+            let Ok(_) = replay.begin(alloc, process, inv) else {
+                return Err(AllocError);
+            };
+        }
+        Event::Step(process) => {
+            take_step(alloc, process, replay)?;
+        }
+        Event::Trim => {
+            trim(replay).map_err(|_| AllocError)?;
+        }
+        Event::Reshape(processes) => {
+            reshape(alloc, replay, processes).map_err(|_| AllocError)?;
+        }
+    }
+    Ok(())
+}
+
+/// Where the scenes of a replay begin that has taken so many events; `None` where it has taken none.
+///
+/// An `Err` says that memory was refused.
+fn start_of<O: Spoken>(
+    alloc: Global,
+    events: u64,
+    replay: &World<O>,
+) -> Result<Option<Start>, AllocError>
+    ensures { IfOk result (λ start. option_map start_shown start
+        ≡ start_of O.language O.state_text events (world_of replay.now)) }
+{
+    if events == 0 {
+        return Ok(None);
+    }
+    let memory = whole_memory(alloc, replay)?;
+    Ok(Some(Start {
+        events,
+        processes: replay.processes(),
+        memory,
+    }))
+}
+
+/// The scenes of the events that come in a replay, of at most so many.
+///
+/// An `Err` says that memory was refused, or an event.
+fn scenes_of<O: Spoken>(
+    alloc: Global,
+    most: u64,
+    is_whole: bool,
+    events: Events<'_, O::Inv>,
+    replay: &mut World<O>,
+) -> Result<Vec<Scene>, AllocError>
+    ensures { IfOk result (λ scenes. map (λ scene. Some (scene_shown scene)) scenes.items ≡
+        scenes_from (O.sequential replay.old.object) O.language O.state_text is_whole (world_of replay.old)
+        (take most (events_shown events.entry))) }
+{
     let mut scenes = Vec::new(alloc);
-    for event in run.events() {
-        let frame = frame_of(alloc, event, &mut replay)?;
-        let memory = memory_asked(alloc, is_whole, &replay)?;
+    let mut left = most;
+    for event in events {
+        if left == 0 {
+            break;
+        }
+        left -= 1;
+        let frame = frame_of(alloc, event, replay)?;
+        let memory = memory_asked(alloc, is_whole, replay)?;
         scenes.push(Scene { frame, memory })?;
     }
     Ok(scenes)

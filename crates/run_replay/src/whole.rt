@@ -168,7 +168,10 @@ fn push_cells<O: Spoken>(
 /// What all places of a world hold.
 ///
 /// An `Err` says that memory was refused.
-fn whole_memory<O: Spoken>(alloc: Global, world: &World<O>) -> Result<Vec<Held>, AllocError>
+pub(crate) fn whole_memory<O: Spoken>(
+    alloc: Global,
+    world: &World<O>,
+) -> Result<Vec<Held>, AllocError>
     ensures { IfOk result (λ memory. map held_shown memory.items
         ≡ whole_memory O.language O.state_text (world_of world.now)) }
 {

@@ -1,6 +1,10 @@
 -- What is observed of a run, by its frames.
-use Rattle.run_tell.proofs.Vocabulary.{IsLinearizableRun, IsTold, List, None, Option, PlacedRemark, Scene, Some, SpokenObject, Steps, [], ap, append-nil, arith, drop, event_text, false, flat_map, flat_map-append, line_text, option_and_then, option_map, refl, scene_of, scenes_from, slice_get, spoken_of, state_text_of, stepped, subst, sym, take, told_before, told_from, told_text, trace_of_events, ℕ, ◌++◌, ◌+◌, ◌-◌, ◌∙◌, ◌∷◌, ◌≡◌}
+use Rattle.run_tell.proofs.Vocabulary.{IsLinearizableRun, IsTold, List, None, Option, PlacedRemark, Scene, Some, SpokenObject, Steps, [], ap, append-nil, arith, drop, event_text, false, flat_map, flat_map-append, line_text, option_and_then, option_map, refl, remark_told, scene_of, scenes_from, slice_get, spoken_of, state_text_of, stepped, subst, sym, take, told_before, told_from, told_text, trace_of_events, ℕ, ◌++◌, ◌+◌, ◌-◌, ◌∙◌, ◌∷◌, ◌≡◌}
 use Rattle.std.specs.Option.{option_map_or}
+use Rattle.std.proofs.Common.{Bool, true, if◌then◌else◌, length}
+use Rattle.std.proofs.lemmas.List.{take_all}
+use Rattle.run_layout.specs.declared.choice.Range.{Range}
+use Rattle.run_layout.specs.Choice.{all_events, count_in, is_told_in}
 use Rattle.seq_object.specs.Sequential.{Sequential}
 use Rattle.ready_objects.specs.Spoken.{Language}
 use Rattle.uni_model.specs.AtomicObject.{Act, Invoked}
@@ -23,22 +27,26 @@ abbrev line_of_scene : Option Scene → List ℕ
 line_of_scene scene = event_text history_wording 0 None scene
 
 -- nothing is told beside the events
-no_remarks : (remarks : List PlacedRemark) → flat_map history_wording.remark remarks ≡ []
-no_remarks [] = refl
-no_remarks (one ∷ remarks) = no_remarks remarks
+no_remark : (told : Bool) → (if told then [] else []) ≡ []
+no_remark true = refl
+no_remark false = refl
+
+no_remarks : (range : Range) (remarks : List PlacedRemark) → flat_map (remark_told history_wording range) remarks ≡ []
+no_remarks range [] = refl
+no_remarks range (one ∷ remarks) = ap (λ l. l ++ flat_map (remark_told history_wording range) remarks) (no_remark (is_told_in range one)) ∙ no_remarks range remarks
 
 line_of_each : (k : ℕ) (line : Option ℕ) (frame : Option Scene) → event_text history_wording k line frame ≡ line_of_scene frame
 line_of_each k line None = refl
 line_of_each k line (Some frame) = refl
 
-lines_alone : (lines : List ℕ) (k : ℕ) (frames : List (Option Scene)) (remarks : List PlacedRemark) → told_from history_wording lines k frames remarks ≡ flat_map line_of_scene frames
-lines_alone lines k [] remarks = no_remarks remarks
-lines_alone lines k (frame ∷ frames) remarks =
+lines_alone : (range : Range) (lines : List ℕ) (k : ℕ) (frames : List (Option Scene)) (remarks : List PlacedRemark) → told_from history_wording range lines k frames remarks ≡ flat_map line_of_scene frames
+lines_alone range lines k [] remarks = no_remarks range remarks
+lines_alone range lines k (frame ∷ frames) remarks =
     let here = told_before k remarks in
     let line = slice_get lines k in
-    let rest = told_from history_wording lines (k + 1) frames (drop here remarks) in
-    ap (λ l. l ++ event_text history_wording k line frame ++ rest) (no_remarks (take here remarks))
-    ∙ ap (λ l. l ++ rest) (line_of_each k line frame) ∙ ap (λ l. line_of_scene frame ++ l) (lines_alone lines (k + 1) frames (drop here remarks))
+    let rest = told_from history_wording range lines (k + 1) frames (drop here remarks) in
+    ap (λ l. l ++ event_text history_wording k line frame ++ rest) (no_remarks range (take here remarks))
+    ∙ ap (λ l. l ++ rest) (line_of_each k line frame) ∙ ap (λ l. line_of_scene frame ++ l) (lines_alone range lines (k + 1) frames (drop here remarks))
 
 module _ {S I R : Type 0} (object : Sequential S I R) (l : Language I R) (text : S → List ℕ) where
   -- a step that answers tells the reply of its own call
@@ -80,14 +88,16 @@ module _ {S I R : Type 0} (object : Sequential S I R) (l : Language I R) (text :
 
 -- the run of a script, told, is what is observed of it
 history_is : {S I R : Type 0} (o : SpokenObject S I R) (text : S → List ℕ) (name : List ℕ) (n row first : ℕ) (events : List (Event I)) (lines : List ℕ) (remarks : List PlacedRemark) → IsLinearizableRun o.object n first events
-    → told_text history_wording (trace_of_events false o text name n row first events) lines remarks ≡ history_text o text name n first events
+    → told_text history_wording (trace_of_events all_events false o text name n row first events) lines remarks ≡ history_text o text name n first events
 history_is o text name n row first events lines remarks run =
     let w = opened_world n o.object.initial first in
+    let all : take (count_in all_events (length events)) events ≡ events = take_all (count_in all_events (length events)) events (omega arith) in
     ap (λ lines. line_text (opening_members name n (text o.object.initial)) ++ lines)
-    (lines_alone lines 0 (scenes_from o.object o.language text false w events) remarks
+    (lines_alone all_events lines 0 (scenes_from o.object o.language text false w (take (count_in all_events (length events)) events)) remarks
+    ∙ ap (λ some. flat_map line_of_scene (scenes_from o.object o.language text false w some)) all
     ∙ lines_are_observed o.object o.language text w events (Invariant-opened_world o.object n o.object.initial first run.positive) run.accepted)
 
-pub IsHistory-told : (left : Option (List ℕ)) (text : List ℕ) → IsTold history_wording left text → IsHistory left text
+pub IsHistory-told : (left : Option (List ℕ)) (text : List ℕ) → IsTold history_wording all_events left text → IsHistory left text
 IsHistory-told left text told =
     let b = told.session in record {
       told = told;

@@ -1,5 +1,7 @@
 -- Lists and texts, piece by piece.
-use Rattle.run_tell.proofs.Vocabulary.{Begins, Ends, Frame, List, Option, Scene, Stepped, Steps, [], after_comma, ap, append_assoc, arith, flat_map, flat_map-append, frame_members, get_or, length, length-append, map, map-append, member_text, memory_members, object_text, scene_line, separated, step_call, step_members, step_place, step_start, sym, take, take_more, ℕ, ◌++◌, ◌+◌, ◌<◌, ◌∙◌, ◌∷◌, ◌≡◌}
+use Rattle.run_tell.proofs.Vocabulary.{Begins, Ends, Frame, List, Option, Stepped, Steps, [], after_comma, ap, append_assoc, arith, flat_map, flat_map-append, frame_members, get_or, length, length-append, map, map-append, member_text, object_text, separated, step_call, step_members, step_place, step_start, sym, take, take_more, ℕ, ◌++◌, ◌+◌, ◌<◌, ◌∙◌, ◌∷◌, ◌≡◌}
+use Rattle.run_tell.specs.Json.{Member}
+use Rattle.run_tell.specs.TraceLines.{line_text}
 use Rattle.run_tell.proofs.JsonPieces.{members_more}
 
 -- one more element, as it is seen
@@ -28,21 +30,21 @@ step_parts old start place call k line s is_start is_place is_call =
     is_call ∙ ap (λ l. l ++ on_call) (is_place ∙ ap (λ l. l ++ on_place) is_start) ∙ append_assoc (old ++ first) on_place on_call ∙ append_assoc old first (on_place ++ on_call)
     ∙ ap (λ l. old ++ l) (sym (members_more (step_start k line s) (step_place s ++ step_call s) (step_start-some k line s) ∙ ap (λ l. first ++ l) further))
 
--- the line of an event, its members and then the memory
-frame_members-some : (k : ℕ) (line : Option ℕ) (f : Frame) → 0 < length (frame_members k line f)
+-- an event has members
+pub frame_members-some : (k : ℕ) (line : Option ℕ) (f : Frame) → 0 < length (frame_members k line f)
 frame_members-some k line (Begins b) = omega arith
 frame_members-some k line (Steps s) = let some = step_start-some k line s in omega (arith, length-append (step_start k line s) (step_place s ++ step_call s))
 frame_members-some k line (Ends e) = omega arith
 
+-- a line, its first members and then further ones
 braces : (old first more : List ℕ) → (((old ++ 123 ∷ []) ++ first) ++ more) ++ (125 ∷ []) ++ (10 ∷ []) ≡ old ++ ((123 ∷ []) ++ (first ++ more) ++ (125 ∷ []) ++ (10 ∷ []))
 braces old first more = simp append_assoc
 
-pub scene_parts : (old opened framed told closed new : List ℕ) (k : ℕ) (line : Option ℕ) (s : Scene) → opened ≡ old ++ 123 ∷ [] → framed ≡ opened ++ separated (map member_text (frame_members k line s.frame))
-    → told ≡ framed ++ flat_map after_comma (map member_text (memory_members s.memory)) → closed ≡ told ++ 125 ∷ [] → new ≡ closed ++ 10 ∷ [] → new ≡ old ++ scene_line k line s
+pub line_parts : (old opened told more_told closed new : List ℕ) (first more : List Member) → 0 < length first → opened ≡ old ++ 123 ∷ [] → told ≡ opened ++ separated (map member_text first)
+    → more_told ≡ told ++ flat_map after_comma (map member_text more) → closed ≡ more_told ++ 125 ∷ [] → new ≡ closed ++ 10 ∷ [] → new ≡ old ++ line_text (first ++ more)
 unfolding object_text
-scene_parts old opened framed told closed new k line s is_opened is_framed is_told is_closed is_new =
-    let first = separated (map member_text (frame_members k line s.frame)) in
-    let more = flat_map after_comma (map member_text (memory_members s.memory)) in
-    let whole = members_more (frame_members k line s.frame) (memory_members s.memory) (frame_members-some k line s.frame) in
-    is_new ∙ ap (λ l. l ++ 10 ∷ []) (is_closed ∙ ap (λ l. l ++ 125 ∷ []) (is_told ∙ ap (λ l. l ++ more) (is_framed ∙ ap (λ l. l ++ first) is_opened)))
-    ∙ braces old first more ∙ sym (ap (λ l. old ++ ((123 ∷ []) ++ l ++ (125 ∷ []) ++ (10 ∷ []))) whole)
+line_parts old opened told more_told closed new first more some is_opened is_told is_more is_closed is_new =
+    let here = separated (map member_text first) in
+    let further = flat_map after_comma (map member_text more) in
+    is_new ∙ ap (λ l. l ++ 10 ∷ []) (is_closed ∙ ap (λ l. l ++ 125 ∷ []) (is_more ∙ ap (λ l. l ++ further) (is_told ∙ ap (λ l. l ++ here) is_opened)))
+    ∙ braces old here further ∙ sym (ap (λ l. old ++ ((123 ∷ []) ++ l ++ (125 ∷ []) ++ (10 ∷ []))) (members_more first more some))

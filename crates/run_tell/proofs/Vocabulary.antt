@@ -11,7 +11,7 @@ pub use Rattle.run_replay.specs.Scenes.{Scene, scene_of, scenes_from}
 pub use Rattle.run_replay.specs.ScenesShown.{change_shown, held_shown, scene_shown, step_shown}
 pub use Rattle.run_tell.specs.Json.{Member, after_comma, member_text, separated}
 unfoldable pub use Rattle.run_tell.specs.Json.{object_text}
-pub use Rattle.run_tell.specs.Order.{event_text, told_before, told_from, told_text}
+pub use Rattle.run_tell.specs.Order.{event_text, remark_told, told_before, told_from, told_text}
 pub use Rattle.run_tell.specs.Page.{IsPlain, escaped, escaped_byte, page_between}
 unfoldable pub use Rattle.run_tell.specs.Page.{IsPage}
 pub use Rattle.run_tell.specs.Sentences.{change_words, indented, number_words}

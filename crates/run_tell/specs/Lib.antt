@@ -6,7 +6,6 @@ pub mod Order
 pub mod Told
 pub mod TraceMembers
 pub mod TraceLines
-pub mod Trace
 pub mod Sentences
 pub mod Steps
 pub mod HistoryLines

@@ -1,32 +1,39 @@
 -- How runs open, and their traces.
-use Rattle.std.specs.Prelude.{ℕ, List, map, Option, Some}
-use Rattle.run_replay.specs.Scenes.{Scene}
-use Rattle.run_replay.specs.ScenesShown.{scene_shown}
+use Rattle.std.specs.Prelude.{ℕ, List, map, Option, Some, option_map}
+use Rattle.run_layout.specs.declared.choice.Range.{Range}
+use Rattle.run_replay.specs.Scenes.{Scene, Start}
+use Rattle.run_replay.specs.ScenesShown.{scene_shown, start_shown}
 use Rattle.run_tell.specs.declared.opened.Opened.{Opened}
 use Rattle.run_tell.specs.declared.opened.Trace.{Trace as TraceOfCode}
 
 -- a run: the word of its object, how many processes there were first, how many calls a process can make in an era, and the number
--- and the state of the first anchor
+-- and the state of the first anchor; and where the events begin that are told, if not with the run's first
 pub record Opening : Type 0 where
   pub object : List ℕ
   pub processes : ℕ
   pub row : ℕ
   pub number : ℕ
   pub state : List ℕ
+  pub start : Option Start
 
-abbrev pub opening : (object : List ℕ) (processes row number : ℕ) (state : List ℕ) → Opening
-opening object processes row number state =
-    record { object = object; processes = processes; row = row; number = number; state = state }
+abbrev pub opening : (object : List ℕ) (processes row number : ℕ) (state : List ℕ) → Option Start → Opening
+opening object processes row number state start =
+    record { object = object; processes = processes; row = row; number = number; state = state; start = start }
 
--- the trace of a run: how it opened, and what each of its events did
+-- the trace of some events of a run: which these are, how it opened, and what each of them did
 pub record Trace : Type 0 where
+  pub range : Range
   pub opening : Opening
   pub scenes : List (Option Scene)
 
 -- what the code's opening and trace are in the definitions
 abbrev pub opening_shown : Opened → Opening
-opening_shown o = opening o.object.now o.processes o.row o.number o.state.items
+opening_shown o = opening o.object.now o.processes o.row o.number o.state.items (option_map start_shown o.start)
 
 abbrev pub trace_shown : TraceOfCode → Trace
 trace_shown t =
-    record { opening = opening_shown t.opened; scenes = map (λ scene. Some (scene_shown scene)) t.scenes.items }
+    record {
+      range = t.range;
+      opening = opening_shown t.opened;
+      scenes = map (λ scene. Some (scene_shown scene)) t.scenes.items;
+    }

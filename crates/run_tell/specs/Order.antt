@@ -1,11 +1,13 @@
 -- The order in which a run is told.
-use Rattle.std.specs.Prelude.{◌≡◌, ℕ, ◌+◌, nat_le, Bool, List, [], ◌∷◌, ◌++◌, take, drop, slice_get}
+use Rattle.std.specs.Prelude.{◌≡◌, ℕ, ◌+◌, nat_le, Bool, if◌then◌else◌, List, [], ◌∷◌, ◌++◌, take, drop, slice_get}
 use Rattle.std.specs.Prelude.{Option, Some, None, Vec, refl}
 use Rattle.std.specs.List.{flat_map, prefix_len}
 use Rattle.std.specs.declared.alloc.Global.{Global}
 use Rattle.uni_script.specs.declared.remarks.PlacedRemark.{PlacedRemark}
 use Rattle.uni_script.specs.declared.remarks.Remark.TheVariants.{Refused}
 use Rattle.uni_script.specs.declared.answer.Refusal.TheVariants.{Sequence}
+use Rattle.run_layout.specs.declared.choice.Range.{Range}
+use Rattle.run_layout.specs.Choice.{is_told_in}
 use Rattle.run_replay.specs.Scenes.{Scene}
 use Rattle.run_tell.specs.Opened.{Opening, Trace}
 
@@ -31,14 +33,19 @@ told_before_the_second : (command : Vec ℕ Global)
     ∷ record { line = 5; before = 2; remark = Refused command Sequence } ∷ []) ≡ 1
 told_before_the_second command = refl
 
--- the texts of events from one on, each behind what is told before it, and of what is told after the last; `lines` has the line of
--- each event, from the first on
-abbrev pub told_from : Wording → (lines : List ℕ) → (event : ℕ) → List (Option Scene) → List PlacedRemark → List ℕ
-told_from words lines k [] remarks = flat_map words.remark remarks
-told_from words lines k (scene ∷ scenes) remarks =
-    flat_map words.remark (take (told_before k remarks) remarks) ++ event_text words k (slice_get lines k) scene
-    ++ told_from words lines (k + 1) scenes (drop (told_before k remarks) remarks)
+-- the text of a remark, where it is told beside the events that are chosen
+abbrev pub remark_told : Wording → Range → PlacedRemark → List ℕ
+remark_told words range one = if is_told_in range one then words.remark one else []
 
--- a run, told, by its trace
+-- the texts of events from one on, each behind what is told before it, and of what is told after the last; `lines` has the line of
+-- each event of the run, from its first on
+abbrev pub told_from : Wording → Range → (lines : List ℕ) → (event : ℕ) → List (Option Scene) → List PlacedRemark → List ℕ
+told_from words range lines k [] remarks = flat_map (remark_told words range) remarks
+told_from words range lines k (scene ∷ scenes) remarks =
+    flat_map (remark_told words range) (take (told_before k remarks) remarks) ++ event_text words k (slice_get lines k) scene
+    ++ told_from words range lines (k + 1) scenes (drop (told_before k remarks) remarks)
+
+-- the events of a trace, told
 abbrev pub told_text : Wording → Trace → (lines : List ℕ) → List PlacedRemark → List ℕ
-told_text words trace lines remarks = words.opening trace.opening ++ told_from words lines 0 trace.scenes remarks
+told_text words trace lines remarks =
+    words.opening trace.opening ++ told_from words trace.range lines trace.range.from trace.scenes remarks

@@ -3,6 +3,7 @@ use Rattle.std.specs.Prelude.{◌≡◌, ◌≢◌, ℕ, ◌==◌, if◌then◌e
 use Rattle.std.specs.List.{flat_map}
 use Rattle.uni_script.specs.Scripts.{ScriptSession}
 use Rattle.uni_script.specs.declared.remarks.PlacedRemark.{PlacedRemark}
+use Rattle.run_layout.specs.declared.choice.Range.{Range}
 use Rattle.run_tell.specs.Told.{IsToldBy, text_of_session}
 use Rattle.run_tell.specs.TraceLines.{json_wording}
 use Rattle.run_tell.specs.Rows.{rows_wording}
@@ -25,13 +26,15 @@ unfoldable pub page_text : (start rows middle walked end : List ℕ) → List �
 page_text start rows middle walked end = start ++ rows ++ middle ++ escaped walked ++ end
 
 -- those of the session which a script leaves, with the script's lines that stored its events, and what it tells beside them
-abbrev pub page_between : (start middle end : List ℕ) → ScriptSession → (lines : List ℕ) → List PlacedRemark → List ℕ
-page_between start middle end b lines remarks =
-    page_text start (text_of_session rows_wording b lines remarks) middle (text_of_session json_wording b lines remarks) end
+abbrev pub page_between : (start middle end : List ℕ) → Range → ScriptSession → (lines : List ℕ) → List PlacedRemark → List ℕ
+page_between start middle end range b lines remarks =
+    page_text start (text_of_session rows_wording range b lines remarks) middle (text_of_session json_wording range b lines remarks)
+    end
 
--- the reader had a script that can be told, and this is its run, in rows and in lines of JSON between the fixed texts
-unfoldable pub IsPage : (left : Option (List ℕ)) (text : List ℕ) → Type 0
-IsPage left text = IsToldBy (page_between START.now MIDDLE.now END.now) left text
+-- the reader had a script that can be told, and these are the chosen events of its run, in rows and in lines of JSON between the
+-- fixed texts
+unfoldable pub IsPage : Range → (left : Option (List ℕ)) (text : List ℕ) → Type 0
+IsPage range left text = IsToldBy (page_between START.now MIDDLE.now END.now range) range left text
 
 escaped_note : escaped (codes "a</script>&") ≡ codes "a\\u003c/script>\\u0026"
 escaped_note = refl

@@ -15,6 +15,7 @@ use Rattle.run_layout.specs.Wording.{counted_text, letter_of}
 use Rattle.run_layout.specs.Wrapping.{lines_of}
 use Rattle.run_replay.specs.Held.{Change, Field, Held, alone, cell_text, changes_between}
 use Rattle.run_replay.specs.Frames.{Begun, Ended, Frame, Stepped, Begins, Steps, Ends}
+use Rattle.run_replay.specs.Scenes.{Start}
 use Rattle.run_tell.specs.Access.{access_of}
 use Rattle.run_tell.specs.Opened.{Opening}
 
@@ -152,11 +153,16 @@ remark_words (Refused command refusal) = refused_words command.items refusal
 
 -- ---- the run
 
+-- how many events are left out first, if some are
+abbrev pub left_out_words : Option Start → List ℕ
+left_out_words None = []
+left_out_words (Some s) = codes " Left out first: " ++ counted_text s.events (codes "event") (codes "events") ++ codes "."
+
 abbrev pub opening_words : Opening → List ℕ
 opening_words o =
     o.object ++ codes ": " ++ counted_text o.processes (codes "process") (codes "processes") ++ codes ", at most "
     ++ counted_text o.row (codes "call") (codes "calls") ++ codes " each in an era; the anchor has number " ++ decimal o.number
-    ++ codes " and state " ++ o.state ++ codes "."
+    ++ codes " and state " ++ o.state ++ codes "." ++ left_out_words o.start
 
 -- ---- rows
 

@@ -1,7 +1,6 @@
 -- The steps of a script, in words.
-use Rattle.std.specs.Prelude.{ℕ, List, Option, false}
+use Rattle.std.specs.Prelude.{false}
 use Rattle.run_tell.specs.Order.{Wording}
-use Rattle.run_tell.specs.Told.{IsTold}
 use Rattle.run_tell.specs.Sentences.{frame_text, line_text, opening_words, remark_words}
 
 -- a run, in words
@@ -13,7 +12,3 @@ steps_wording =
       event = λ k line scene. frame_text k scene.frame;
       remark = λ one. line_text (remark_words one.remark);
     }
-
--- the reader had a script without a fault and with at most 2,000 events, and this is its run, in words
-abbrev pub IsSteps : (left : Option (List ℕ)) (text : List ℕ) → Type 0
-IsSteps left text = IsTold steps_wording left text

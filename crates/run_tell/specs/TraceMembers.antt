@@ -12,7 +12,7 @@ use Rattle.run_replay.specs.Held.{Change, Field, Held, alone, cell_text, changes
 use Rattle.run_tell.specs.Access.{access_of}
 use Rattle.run_tell.specs.Opened.{Opening}
 use Rattle.run_replay.specs.Frames.{Begun, Ended, Frame, Stepped, Begins, Steps, Ends}
-use Rattle.run_replay.specs.Scenes.{Scene}
+use Rattle.run_replay.specs.Scenes.{Scene, Start}
 
 -- ---- values
 
@@ -143,11 +143,25 @@ remark_members line k (Refused command refusal) = refusal_members line k refusal
 
 -- ---- the run
 
-abbrev pub opening_members : Opening → List Member
-opening_members o =
+abbrev pub run_members : Opening → List Member
+run_members o =
     named (codes "what") (Text (codes "run")) ∷ named (codes "trace") (Number 2) ∷ named (codes "object") (Text o.object)
     ∷ named (codes "processes") (Number o.processes) ∷ named (codes "row") (Number o.row)
     ∷ named (codes "number") (Number o.number) ∷ named (codes "state") (Text o.state) ∷ []
+
+-- where the events begin that are told, if not with the run's first: how many came before, how many processes there are then, and the
+-- whole memory
+abbrev pub start_text : Start → List ℕ
+start_text s =
+    object_text (named (codes "events") (Number s.events) ∷ named (codes "processes") (Number s.processes)
+    ∷ named (codes "memory") (Json (memory_text s.memory)) ∷ [])
+
+abbrev pub start_member : Option Start → List Member
+start_member None = []
+start_member (Some s) = named (codes "start") (Json (start_text s)) ∷ []
+
+abbrev pub opening_members : Opening → List Member
+opening_members o = run_members o ++ start_member o.start
 
 -- a head, and what is settled in an anchor
 two_places : memory_text (alone (codes "head[0]") (codes "anchor") ∷ record {

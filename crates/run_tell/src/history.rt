@@ -12,7 +12,7 @@ use crate::history_lines::{push_observed, push_opening_line};
 use crate::opened::Opened;
 use crate::order::Telling;
 use crate::told::told_of;
-use run_layout::PictureFault;
+use run_layout::{PictureFault, Range};
 use run_replay::Scene;
 use std::alloc::{AllocError, Global};
 use uni_script::{PlacedRemark, TextIn};
@@ -59,5 +59,5 @@ pub fn history_of<I: TextIn>(alloc: Global, reader: &mut I) -> Result<Vec<u8>, P
     ensures fault { (e : Fault) → IsErrOf result (PictureFault.Script e) → IsFaultOfScript e
         → HasFault (scripts_of 1048576) (I.remaining reader.old) e }
 {
-    told_of::<InHistory, I>(alloc, reader)
+    told_of::<InHistory, I>(alloc, Range::all(), reader)
 }

@@ -1,5 +1,5 @@
-//! Runs of scripts, told from beginning to end: from the bytes of a script to a text with a piece for how the run opened,
-//! one for each event, note and refusal, in the script's order.
+//! Runs of scripts, told: from the bytes of a script to a text with a piece for how the run opened, and one for each event
+//! that is chosen, each note and each refusal, in the script's order.
 //!
 //! What the pieces are, a `Telling` says: lines of JSON, which tell what each event did to the memory (a trace), or the
 //! calls that begin and the replies (a history); sentences for a terminal (steps); or a page for a browser, which needs
@@ -39,9 +39,9 @@ pub use sentences::{
     opening_words, push_begun_sentence, push_end_sentence, push_step_sentence, remark_words,
 };
 pub use step_lines::push_change_words;
-pub use steps::{InWords, steps_of};
+pub use steps::InWords;
 pub use told::{told_of, trace_of_record, trace_of_script};
-pub use trace::{InJson, InWholeJson, json_of, whole_json_of};
+pub use trace::{InJson, InWholeJson};
 pub use trace_lines::push_line;
 pub use value::{Member, Value};
 pub use viewer::{END, MIDDLE, START};

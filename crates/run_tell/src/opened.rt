@@ -1,6 +1,7 @@
 //! How runs open, and their traces.
 
-use run_replay::Scene;
+use run_layout::Range;
+use run_replay::{Scene, Start};
 
 /// How a run opened.
 #[derive(Drop)]
@@ -15,13 +16,17 @@ pub struct Opened<'a> {
     pub number: u64,
     /// The text of the object's first state.
     pub state: Vec<u8>,
+    /// Where the events begin that are told; `None` where the first of them is the run's.
+    pub start: Option<Start>,
 }
 
-/// The trace of a run.
+/// The trace of some events of a run.
 #[derive(Drop)]
 pub struct Trace<'a> {
+    /// The events that are told.
+    pub range: Range,
     /// How the run opened.
     pub opened: Opened<'a>,
-    /// What each of its events did, in order.
+    /// What each of these events did, in order.
     pub scenes: Vec<Scene>,
 }

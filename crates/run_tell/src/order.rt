@@ -1,12 +1,13 @@
 //! The pieces of a run, in order.
 
-ghost use Rattle.std.specs.Prelude.{◌≡◌, ◌++◌, ◌≤◌, IfOk, OnOk, Some, length, map, slice_get};
+ghost use Rattle.std.specs.Prelude.{◌≡◌, ◌+◌, ◌++◌, ◌<◌, ◌≤◌, ◌^◌, IfOk, OnOk, Some, length, map, slice_get};
 ghost use Rattle.std.specs.List.{flat_map};
 ghost use Rattle.run_replay.specs.ScenesShown.{scene_shown};
 ghost use Rattle.run_tell.specs.Opened.{opening_shown, trace_shown};
-ghost use Rattle.run_tell.specs.Order.{Wording, told_before, told_from, told_text};
+ghost use Rattle.run_tell.specs.Order.{Wording, remark_told, told_before, told_from, told_text};
 
 use crate::opened::{Opened, Trace};
+use run_layout::Range;
 use run_replay::Scene;
 use std::alloc::{AllocError, Global};
 use uni_script::PlacedRemark;
@@ -50,18 +51,21 @@ pub trait Telling {
         ensures { OnOk result (text.new.items ≡ text.old.items ++ wording.remark one.now) };
 }
 
-/// Adds what is told beside the events.
+/// Adds those of these remarks that are told where these events are chosen.
 ///
 /// An `Err` says that memory was refused.
 fn push_remarks<T: Telling>(
     alloc: Global,
+    range: Range,
     remarks: &[PlacedRemark],
     text: &mut Vec<u8>,
 ) -> Result<(), AllocError>
-    ensures { OnOk result (text.new.items ≡ text.old.items ++ flat_map T.wording.remark remarks.now) }
+    ensures { OnOk result (text.new.items ≡ text.old.items ++ flat_map (remark_told T.wording range) remarks.now) }
 {
     for one in remarks {
-        T::push_remark(alloc, one, text)?;
+        if range.tells(one) {
+            T::push_remark(alloc, one, text)?;
+        }
     }
     Ok(())
 }
@@ -80,38 +84,41 @@ fn told_before(event: u64, remarks: &[PlacedRemark]) -> usize
 }
 
 /// The line of the script that stored an event, where there was a script.
-fn line_of(event: usize, lines: &[u64]) -> Option<u64>
+fn line_of(event: u64, lines: &[u64]) -> Option<u64>
     ensures { result ≡ slice_get lines.now event }
 {
-    lines.get(event).copied()
+    lines.get(event as usize).copied()
 }
 
-/// Adds all events, each with its line and behind what is told before it, and what is told after the last.
+/// Adds the events that are chosen, each with its line and behind what is told before it, and what is told after the last.
 ///
 /// An `Err` says that memory was refused.
 fn push_events<T: Telling>(
     alloc: Global,
+    range: Range,
     lines: &[u64],
     scenes: &[Scene],
     remarks: &[PlacedRemark],
     text: &mut Vec<u8>,
 ) -> Result<(), AllocError>
-    ensures { OnOk result (text.new.items ≡ text.old.items
-        ++ told_from T.wording lines.now 0 (map (λ scene. Some (scene_shown scene)) scenes.now) remarks.now) }
+    requires { range.from + length scenes.now < 2 ^ 64 }
+    ensures { OnOk result (text.new.items ≡ text.old.items ++ told_from T.wording range lines.now range.from
+        (map (λ scene. Some (scene_shown scene)) scenes.now) remarks.now) }
 {
     let mut rest = remarks;
-    for (event, scene) in scenes.iter().enumerate() {
-        let (told, later) = rest.split_at(told_before(event as u64, rest));
-        push_remarks::<T>(alloc, told, text)?;
+    for (place, scene) in scenes.iter().enumerate() {
+        let event = range.from + place as u64;
+        let (told, later) = rest.split_at(told_before(event, rest));
+        push_remarks::<T>(alloc, range, told, text)?;
         rest = later;
-        T::push_scene(alloc, event as u64, line_of(event, lines), scene, text)?;
+        T::push_scene(alloc, event, line_of(event, lines), scene, text)?;
     }
-    push_remarks::<T>(alloc, rest, text)
+    push_remarks::<T>(alloc, range, rest, text)
 }
 
 impl<'a> Trace<'a> {
-    /// The run, told. `lines` has the number of the script's line that stored each event, where there was a script;
-    /// `remarks` is what is told beside the events.
+    /// The events, told. `lines` has the number of the script's line that stored each event of the run, where there was a
+    /// script; `remarks` is what is told beside the run, of which that is told which belongs to these events.
     ///
     /// An `Err` says that memory was refused.
     pub fn told<T: Telling>(
@@ -120,12 +127,13 @@ impl<'a> Trace<'a> {
         lines: &[u64],
         remarks: &[PlacedRemark],
     ) -> Result<Vec<u8>, AllocError>
+        requires { self.now.range.from + length self.now.scenes.items < 2 ^ 64 }
         ensures { IfOk result (λ text. text.items
             ≡ told_text T.wording (trace_shown self.now) lines.now remarks.now) }
     {
         let mut text = Vec::new(alloc);
         T::push_opening(alloc, &self.opened, &mut text)?;
-        push_events::<T>(alloc, lines, &self.scenes, remarks, &mut text)?;
+        push_events::<T>(alloc, self.range, lines, &self.scenes, remarks, &mut text)?;
         Ok(text)
     }
 }

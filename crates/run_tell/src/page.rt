@@ -6,7 +6,7 @@ ghost use Rattle.uni_script.specs.Scripts.{scripts_of};
 ghost use Rattle.uni_script.specs.declared.fault.BenchFault.{BenchFault as Fault};
 ghost use Rattle.uni_script.specs.declared.grammar.Version.{Version};
 ghost use Rattle.uni_script.specs.ScriptRun.{session_of_record};
-ghost use Rattle.run_layout.specs.Choice.{all_events};
+ghost use Rattle.run_layout.specs.Choice.{count_in};
 ghost use Rattle.run_layout.specs.Subject.{HasTooManyEvents, events_of_record};
 ghost use Rattle.run_tell.specs.Told.{IsLinearizableSession};
 ghost use Rattle.run_tell.specs.Page.{IsPage, escaped, escaped_byte, page_between, page_text};
@@ -15,7 +15,7 @@ use crate::rows::InRows;
 use crate::told::trace_of_script;
 use crate::trace::InJson;
 use crate::viewer::{END, MIDDLE, START};
-use run_layout::PictureFault;
+use run_layout::{PictureFault, Range};
 use std::alloc::{AllocError, Global};
 use uni_script::{Options, ScriptRecord, ScriptRun, TextIn, run_of_script};
 
@@ -70,35 +70,43 @@ pub fn page_text(
     Ok(text)
 }
 
-/// The page of the run of a script.
+/// The page of these events of the run of a script.
 ///
-/// Errors: `TooManyEvents` where it has more than 2,000 events; else `Memory`.
-fn page_of_run(alloc: Global, run: &ScriptRun<ScriptRecord>) -> Result<Vec<u8>, PictureFault>
-    ensures few { OnOk result (events_of_record run.now.record ≤ 2000) }
+/// Errors: `TooManyEvents` where more than 2,000 are chosen; else `Memory`.
+fn page_of_run(
+    alloc: Global,
+    range: Range,
+    run: &ScriptRun<ScriptRecord>,
+) -> Result<Vec<u8>, PictureFault>
+    ensures few { OnOk result (count_in range (events_of_record run.now.record) ≤ 2000) }
     ensures page { IfOk result (λ text. (version : Version) → text.items
-        ≡ page_between START.now MIDDLE.now END.now (session_of_record version run.now.record)
+        ≡ page_between START.now MIDDLE.now END.now range (session_of_record version run.now.record)
         run.now.lines.items run.now.remarks.items) }
     ensures linearizable { (version : Version) → IsLinearizableSession (session_of_record version run.now.record) }
-    ensures many { IsErrOf result PictureFault.TooManyEvents → 2000 < events_of_record run.now.record }
+    ensures many { IsErrOf result PictureFault.TooManyEvents → 2000 < count_in range (events_of_record run.now.record) }
     ensures memory { (e : Fault) → IsErrOf result (PictureFault.Script e) → e ≡ Fault.Memory }
 {
-    let trace = trace_of_script(alloc, &run.record, false)?;
+    let trace = trace_of_script(alloc, range, &run.record, false)?;
     let rows = trace.told::<InRows>(alloc, &run.lines, &run.remarks)?;
     let lines = trace.told::<InJson>(alloc, &run.lines, &run.remarks)?;
     Ok(page_text(alloc, START, &rows, MIDDLE, &lines, END)?)
 }
 
-/// The page that shows the run of the script that a reader has.
+/// The page that shows these events of the run of the script that a reader has.
 ///
 /// An `Err` is the first fault of the script; `Read` where the reader failed; `Memory` where memory was
-/// refused; or `TooManyEvents` of a good script that has more than 2,000 events.
-pub fn page_of<I: TextIn>(alloc: Global, reader: &mut I) -> Result<Vec<u8>, PictureFault>
+/// refused; or `TooManyEvents` of a good script of which more than 2,000 events are chosen.
+pub fn page_of<I: TextIn>(
+    alloc: Global,
+    range: Range,
+    reader: &mut I,
+) -> Result<Vec<u8>, PictureFault>
     requires { I.has_failed reader.old ≡ false }
-    ensures page { IfOk result (λ text. IsPage (I.remaining reader.old) text.items) }
-    ensures many { IsErrOf result PictureFault.TooManyEvents → HasTooManyEvents all_events (I.remaining reader.old) }
+    ensures page { IfOk result (λ text. IsPage range (I.remaining reader.old) text.items) }
+    ensures many { IsErrOf result PictureFault.TooManyEvents → HasTooManyEvents range (I.remaining reader.old) }
     ensures fault { (e : Fault) → IsErrOf result (PictureFault.Script e) → IsFaultOfScript e
         → HasFault (scripts_of 1048576) (I.remaining reader.old) e }
 {
     let run = run_of_script(alloc, reader, &Options::default())?;
-    page_of_run(alloc, &run)
+    page_of_run(alloc, range, &run)
 }

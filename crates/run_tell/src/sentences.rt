@@ -2,10 +2,11 @@
 
 ghost use Rattle.std.specs.Prelude.{◌≡◌, ◌++◌, IfOk, OnOk, [], map, option_map};
 ghost use Rattle.run_replay.specs.Held.{changes_between};
-ghost use Rattle.run_replay.specs.ScenesShown.{begun_shown, change_shown, end_shown, field_shown, held_shown, step_shown};
+ghost use Rattle.run_replay.specs.ScenesShown.{begun_shown, change_shown, end_shown, field_shown, held_shown, start_shown};
+ghost use Rattle.run_replay.specs.ScenesShown.{step_shown};
 ghost use Rattle.run_tell.specs.Opened.{opening_shown};
 ghost use Rattle.run_tell.specs.Sentences.{begun_sentence, begun_words, end_sentence, end_word, end_words};
-ghost use Rattle.run_tell.specs.Sentences.{event_start, holds_words, kept_words, left_words, note_words};
+ghost use Rattle.run_tell.specs.Sentences.{event_start, holds_words, kept_words, left_out_words, left_words, note_words};
 ghost use Rattle.run_tell.specs.Sentences.{number_words, opening_words, outcome_words, plain_words};
 ghost use Rattle.run_tell.specs.Sentences.{proposed_words, refused_words, remark_words, reply_words, return_words};
 ghost use Rattle.run_tell.specs.Sentences.{role_of, sentence, spent_words, step_words};
@@ -13,7 +14,7 @@ ghost use Rattle.run_tell.specs.Sentences.{role_of, sentence, spent_words, step_
 use crate::access::access_of;
 use crate::opened::Opened;
 use run_layout::{letter_of, push_counted, refused_text};
-use run_replay::{Begun, Change, EndedEra, Field, Held, Step, cell_text};
+use run_replay::{Begun, Change, EndedEra, Field, Held, Start, Step, cell_text};
 use std::alloc::{AllocError, Global};
 use std::io::Write;
 use uni_core::StepKind;
@@ -357,5 +358,24 @@ pub fn opening_words(alloc: Global, opened: &Opened<'_>) -> Result<Vec<u8>, Allo
     .map_err(|_| AllocError)?;
     words.extend_from_slice(&opened.state)?;
     words.push(b'.')?;
+    push_left_out(&mut words, &opened.start)?;
     Ok(words)
+}
+
+/// Adds how many events are left out first, if some are.
+///
+/// An `Err` says that memory was refused.
+fn push_left_out(words: &mut Vec<u8>, start: &Option<Start>) -> Result<(), AllocError>
+    ensures { OnOk result (words.new.items
+        ≡ words.old.items ++ left_out_words (option_map start_shown start.now)) }
+{
+    match start {
+        Some(start) => {
+            words.extend_from_slice(b" Left out first: ")?;
+            push_counted(words, start.events, "event", "events")?;
+            words.push(b'.')?;
+            Ok(())
+        }
+        None => Ok(()),
+    }
 }

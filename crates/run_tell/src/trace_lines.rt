@@ -8,14 +8,14 @@ ghost use Rattle.run_replay.specs.ScenesShown.{begun_shown, end_shown, frame_sho
 ghost use Rattle.run_tell.specs.TraceLines.{line_text, remark_line, scene_line};
 ghost use Rattle.run_tell.specs.TraceMembers.{begun_members, end_members, end_word, frame_members, note_members};
 ghost use Rattle.run_tell.specs.TraceMembers.{opening_members, refusal_members, step_call, step_members, step_place};
-ghost use Rattle.run_tell.specs.TraceMembers.{step_start};
+ghost use Rattle.run_tell.specs.TraceMembers.{run_members, step_start};
 ghost use Rattle.run_tell.specs.Opened.{opening_shown};
 
 use crate::access::access_of;
 use crate::json::{push_members, push_more_members, push_object};
 use crate::opened::Opened;
 use crate::trace_members::{change_list, letter_text, next_letter, proposed_json, text_or_null};
-use crate::trace_memory::push_memory;
+use crate::trace_memory::{push_memory, push_start};
 use crate::value::{Member, Value};
 use run_layout::{lane_of, meaning_of, refusal_of};
 use run_replay::{Begun, EndedEra, Frame, Scene, Step, cell_text};
@@ -36,9 +36,28 @@ pub fn push_line(text: &mut Vec<u8>, members: &[Member<'_>]) -> Result<(), Alloc
 /// Adds the line of a run.
 ///
 /// An `Err` says that memory was refused.
-pub(crate) fn push_opening_line(text: &mut Vec<u8>, opened: &Opened<'_>) -> Result<(), AllocError>
+pub(crate) fn push_opening_line(
+    alloc: Global,
+    opened: &Opened<'_>,
+    text: &mut Vec<u8>,
+) -> Result<(), AllocError>
     ensures { OnOk result (text.new.items
         ≡ text.old.items ++ line_text (opening_members (opening_shown opened.now))) }
+{
+    text.push(b'{')?;
+    push_run(opened, text)?;
+    push_start(alloc, &opened.start, text)?;
+    text.push(b'}')?;
+    text.push(b'\n')?;
+    Ok(())
+}
+
+/// Adds the members of a run.
+///
+/// An `Err` says that memory was refused.
+fn push_run(opened: &Opened<'_>, text: &mut Vec<u8>) -> Result<(), AllocError>
+    ensures { OnOk result (text.new.items
+        ≡ text.old.items ++ separated (map member_text (run_members (opening_shown opened.now)))) }
 {
     let members = [
         Member("what", Value::Text(b"run")),
@@ -49,7 +68,7 @@ pub(crate) fn push_opening_line(text: &mut Vec<u8>, opened: &Opened<'_>) -> Resu
         Member("number", Value::Number(opened.number)),
         Member("state", Value::Text(opened.state.as_slice())),
     ];
-    push_line(text, &members)
+    push_members(text, &members)
 }
 
 /// Adds the line of an event.

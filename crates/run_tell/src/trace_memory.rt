@@ -3,12 +3,13 @@
 ghost use Rattle.std.specs.Prelude.{◌≡◌, ◌++◌, ◌∷◌, [], IfOk, OnOk, map, option_map};
 ghost use Rattle.std.specs.List.{flat_map};
 ghost use Rattle.run_tell.specs.Json.{after_comma, member_text};
-ghost use Rattle.run_replay.specs.ScenesShown.{field_shown, held_shown};
+ghost use Rattle.run_replay.specs.ScenesShown.{field_shown, held_shown, start_shown};
 ghost use Rattle.run_tell.specs.TraceMembers.{field_text, held_fields, memory_members, memory_text};
+ghost use Rattle.run_tell.specs.TraceMembers.{start_member, start_text};
 
 use crate::json::{push_list, push_more_members, push_object};
 use crate::value::{Member, Value};
-use run_replay::{Field, Held};
+use run_replay::{Field, Held, Start};
 use std::alloc::{AllocError, Global};
 
 /// Adds the text of a field, and of what it holds.
@@ -73,6 +74,43 @@ pub(crate) fn push_memory(
         Some(memory) => {
             let json = memory_json(alloc, memory)?;
             push_more_members(text, &[Member("memory", Value::Json(&json))])
+        }
+        None => Ok(()),
+    }
+}
+
+/// The text of where events begin.
+///
+/// An `Err` says that memory was refused.
+fn start_json(alloc: Global, start: &Start) -> Result<Vec<u8>, AllocError>
+    ensures { IfOk result (λ text. text.items ≡ start_text (start_shown start.now)) }
+{
+    let memory = memory_json(alloc, &start.memory)?;
+    let members = [
+        Member("events", Value::Number(start.events)),
+        Member("processes", Value::Number(start.processes)),
+        Member("memory", Value::Json(&memory)),
+    ];
+    let mut text = Vec::new(alloc);
+    push_object(&mut text, &members)?;
+    Ok(text)
+}
+
+/// Adds where the events begin that are told, if not with the run's first.
+///
+/// An `Err` says that memory was refused.
+pub(crate) fn push_start(
+    alloc: Global,
+    start: &Option<Start>,
+    text: &mut Vec<u8>,
+) -> Result<(), AllocError>
+    ensures { OnOk result (text.new.items ≡ text.old.items
+        ++ flat_map after_comma (map member_text (start_member (option_map start_shown start.now)))) }
+{
+    match start {
+        Some(start) => {
+            let json = start_json(alloc, start)?;
+            push_more_members(text, &[Member("start", Value::Json(&json))])
         }
         None => Ok(()),
     }

@@ -172,14 +172,23 @@ function counted(count, one, more = `${one}s`) {
   return `${count} ${count === 1 ? one : more}`;
 }
 
-// a world that has just been opened, in which the anchor has this state and number
-function opening({ processes, state, number = 1 }) {
+// the memory of a world that has just been opened, in which the anchor has this state and number
+function opened({ processes, state, number = 1 }) {
   const memory = new Map();
-  const numbers = numbersOf({ processes });
-  for (const array of ["announce", "head"]) for (const p of numbers) memory.set(`${array}[${p}]`, "anchor");
+  for (const array of ["announce", "head"]) {
+    for (const p of numbersOf({ processes })) memory.set(`${array}[${p}]`, "anchor");
+  }
   const anchor = { seq: String(number), before: "?", after: "?", state, reply: "none" };
   for (const field in anchor) memory.set(`anchor.${field}`, anchor[field]);
-  const walk = { node: 0, event: -1, source: null, processes, memory, calls: numbers.map(() => null) };
+  return memory;
+}
+
+// what is told before the first event, or where a trace begins with a later one, before that
+function opening(run) {
+  const { events, processes, memory } = run.start ?? { events: 0, processes: run.processes, memory: null };
+  const held = memory === null ? opened(run) : new Map(memory.map(({ place, content }) => [place, content]));
+  const calls = numbersOf({ processes }).map(() => null);
+  const walk = { node: 0, event: events - 1, source: null, processes, memory: held, calls };
   return told(walk, "Before the first event.", "");
 }
 
@@ -228,11 +237,10 @@ function follow(graph, here, process) {
 }
 
 // the end of an era: the list is replaced by an anchor
-function ended(here, words, opened, answers) {
-  const { memory } = opening(opened);
-  const calls = numbersOf(opened).map((p) => here.calls[p] ?? null);
-  const walk = { ...here, node: null, event: here.event + 1, processes: opened.processes, memory, calls };
-  const left = `${words}: the anchor alone is left, with number ${opened.number} and state ${opened.state}.`;
+function ended(here, words, anew, answers) {
+  const calls = numbersOf(anew).map((p) => here.calls[p] ?? null);
+  const walk = { ...here, node: null, event: here.event + 1, processes: anew.processes, memory: opened(anew), calls };
+  const left = `${words}: the anchor alone is left, with number ${anew.number} and state ${anew.state}.`;
   return told(walk, left, "|", words, answers);
 }
 
@@ -255,11 +263,20 @@ function logOf(memory) {
 function toldBy(here, line, words) {
   switch (line.what) {
     case "call": return after(here, line, line.process);
-    case "step": return after(here, stepOf(here, line), line.process, line.next);
+    case "step": return after(pending(here, line), stepOf(here, line), line.process, line.next);
     case "trim": return ended(here, "trim", { ...line, processes: here.processes }, []);
     case "reshape": return ended(here, `reshape to ${counted(line.processes, "process", "processes")}`, line, []);
     default: return told(here, words, line.what === "note" ? "#" : "x");
   }
+}
+
+// what was told, where the call of a step began before the events that are told
+function pending(here, { process, call, kind, next, steps, turns }) {
+  if (here.calls[process] !== null) return here;
+  const calls = here.calls.slice();
+  const begun = turns - (beginsTurn({ kind }, next) ? 1 : 0);
+  calls[process] = { call, steps: steps - 1, turns: begun, reply: null, next: kind, processes: here.processes };
+  return { ...here, calls };
 }
 
 // the edge of a step; a proposal that lost has proposed the reply that is settled
@@ -730,7 +747,8 @@ function showScript(walk) {
 function showPlace(here) {
   Object.assign(document.getElementById("slider"), { max: run.length - 1, value: at });
   const last = run.length - 1;
-  put("place", here.event < 0 ? "before event 0" : `event ${numberOf(here)} (the last is ${run[last].event})`);
+  const isFirst = here === run[0];
+  put("place", isFirst ? `before event ${here.event + 1}` : `event ${numberOf(here)} (the last is ${run[last].event})`);
   const rest = { first: at === 0, undo: at === 0, redo: at === last, last: at === last };
   for (const id in rest) document.getElementById(id).setAttribute("aria-disabled", String(rest[id]));
 }
@@ -870,7 +888,9 @@ function start() {
   document.querySelector("main").hidden = false;
   const about = `${graph.object}, ${counted(graph.processes, "process", "processes")}`;
   const last = run.at(-1).event;
-  document.title = isRun ? `${about}, ${counted(last + 1, "event")}` : `You are the scheduler: ${about}`;
+  const first = run[0].event + 1;
+  const events = first === 0 ? counted(last + 1, "event") : `events ${first} to ${last}`;
+  document.title = isRun ? `${about}, ${events}` : `You are the scheduler: ${about}`;
   put("title", document.title);
   for (const id in WALKS) document.getElementById(id).onclick = WALKS[id];
   window.addEventListener("resize", showLanes);

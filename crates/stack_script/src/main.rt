@@ -48,7 +48,7 @@ fn show<W: TextOut>(alloc: Global, output: &mut W) -> Option<()>
     .ok()?;
     write_all(output, lines.as_slice()).ok()?;
     let run = run_of_object(alloc, Stack, "stack", &mut Checked::new(SCRIPT), &options).ok()?;
-    let trace = trace_of_record(alloc, "stack", &run.record, false).ok()?;
+    let trace = trace_of_record(alloc, Range::all(), "stack", &run.record, false).ok()?;
     let steps = trace.told::<InWords>(alloc, &run.lines, &run.remarks).ok()?;
     write_all(output, steps.as_slice()).ok()
 }

@@ -24,8 +24,8 @@ asks name form = record { name = name; form = form }
 -- the options, in the order of the help: one for each form but an SVG
 abbrev pub form_options : List FormOption
 form_options =
-    asks (codes "text") (Lines all_events 100) ∷ asks (codes "steps") Steps ∷ asks (codes "json") Json ∷ asks (codes "full") Full
-    ∷ asks (codes "html") Html ∷ asks (codes "history") History ∷ []
+    asks (codes "text") (Lines all_events 100) ∷ asks (codes "steps") (Steps all_events) ∷ asks (codes "json") (Json all_events)
+    ∷ asks (codes "full") (Full all_events) ∷ asks (codes "html") (Html all_events) ∷ asks (codes "history") History ∷ []
 
 -- an option whose value is the number of an event
 abbrev pub event_option : (name : Text) → Rule
@@ -51,9 +51,9 @@ forms_used rows options = map (λ o. o.form) (filter (λ o. is_set o.name rows) 
 
 -- the form that is asked for where a further option is used: its own in place of an SVG, and the whole memory only beside a trace
 abbrev pub form_with : Option Form → Form → Option Form
-form_with (Some Json) Full = Some Full
-form_with (Some (Svg range)) Full = None
-form_with (Some (Svg range)) form = Some form
+form_with (Some (Json all)) (Full range) = Some (Full range)
+form_with (Some (Svg all)) (Full range) = None
+form_with (Some (Svg all)) form = Some form
 form_with _ _ = None
 
 -- the form that is asked for, by all whose options are used: an SVG where none is, and no form where they don't go together
@@ -70,11 +70,15 @@ abbrev pub range_in : List Row → Option Range
 range_in rows =
     range_with (value_of (number_in 0 (2 ^ 64 - 1)) (codes "from") rows) (value_of (number_in 0 (2 ^ 64 - 1)) (codes "to") rows)
 
--- a form with some events chosen: there is no such choice but of an SVG and of lines
+-- a form with some events chosen: there is such a choice but of a history
 abbrev pub ranged : Range → Form → Option Form
 ranged range (Svg all) = Some (Svg range)
 ranged range (Lines all columns) = Some (Lines range columns)
-ranged range form = None
+ranged range (Steps all) = Some (Steps range)
+ranged range (Json all) = Some (Json range)
+ranged range (Full all) = Some (Full range)
+ranged range (Html all) = Some (Html range)
+ranged range History = None
 
 -- an event comes after the last one, if there is a last
 abbrev pub comes_after : (event : ℕ) → (last : Option ℕ) → Bool
@@ -131,112 +135,18 @@ MayAskForHelp words = IsAmong DisplayHelp (faults_of_words words) ⊎ IsAmong Di
 abbrev pub IsRefused : List Text → Type 0
 IsRefused words = (form_of_words words ≡ None) × ¬ (MayAskForHelp words)
 
--- no word asks for an SVG, `--text` for lines, `--steps` for words, `--json` for a trace, and with `--full` for one with the whole
--- memory, `--html` for a page, `--history` for a history, and any other for nothing, whatever the program's name is
+-- no word asks for an SVG of all events; a trace of the whole memory goes together with a choice of events and a reason, and a history
+-- with no such choice, whatever the program's name is; further command lines are stored cases
 form_without_words : (name : Text) → form_of_words (name ∷ []) ≡ Some (Svg all_events)
 unfolding clap_on_literals
 form_without_words name = refl
 
-form_of_text : (name : Text) → form_of_words (name ∷ codes "--text" ∷ []) ≡ Some (Lines all_events 100)
+full_from_ten_to_twenty : (name : Text) → request_of_words (name ∷ codes "--json" ∷ codes "--from" ∷ codes "10" ∷ codes "--to=20"
+    ∷ codes "--explain" ∷ codes "--full" ∷ []) ≡ Some (record { form = Full (record { from = 10; to = Some 20 }); is_explained = true })
 unfolding clap_on_literals
-form_of_text name = refl
+full_from_ten_to_twenty name = refl
 
-form_of_steps : (name : Text) → form_of_words (name ∷ codes "--steps" ∷ []) ≡ Some Steps
+history_from_ten_is_a_fault : (name : Text)
+    → faults_of_words (name ∷ codes "--history" ∷ codes "--from" ∷ codes "10" ∷ []) ≡ ArgumentConflict ∷ []
 unfolding clap_on_literals
-form_of_steps name = refl
-
-form_of_json : (name : Text) → form_of_words (name ∷ codes "--json" ∷ []) ≡ Some Json
-unfolding clap_on_literals
-form_of_json name = refl
-
-form_of_json_full : (name : Text) → form_of_words (name ∷ codes "--json" ∷ codes "--full" ∷ []) ≡ Some Full
-unfolding clap_on_literals
-form_of_json_full name = refl
-
-full_alone_is_a_fault : (name : Text) → faults_of_words (name ∷ codes "--full" ∷ []) ≡ ArgumentConflict ∷ []
-unfolding clap_on_literals
-full_alone_is_a_fault name = refl
-
-form_of_html : (name : Text) → form_of_words (name ∷ codes "--html" ∷ []) ≡ Some Html
-unfolding clap_on_literals
-form_of_html name = refl
-
-form_of_history : (name : Text) → form_of_words (name ∷ codes "--history" ∷ []) ≡ Some History
-unfolding clap_on_literals
-form_of_history name = refl
-
-two_forms_are_a_fault : (name : Text) → faults_of_words (name ∷ codes "--text" ∷ codes "--json" ∷ []) ≡ ArgumentConflict ∷ []
-unfolding clap_on_literals
-two_forms_are_a_fault name = refl
-
-form_of_ten_to_twenty : (name : Text) → form_of_words (name ∷ codes "--from" ∷ codes "10" ∷ codes "--to" ∷ codes "20" ∷ [])
-    ≡ Some (Svg (record { from = 10; to = Some 20 }))
-unfolding clap_on_literals
-form_of_ten_to_twenty name = refl
-
-form_of_lines_from_ten : (name : Text) → form_of_words (name ∷ codes "--from=10" ∷ codes "--text" ∷ [])
-    ≡ Some (Lines (record { from = 10; to = None }) 100)
-unfolding clap_on_literals
-form_of_lines_from_ten name = refl
-
-form_of_lines_to_zero : (name : Text) → form_of_words (name ∷ codes "--text" ∷ codes "--to" ∷ codes "0" ∷ [])
-    ≡ Some (Lines (record { from = 0; to = Some 0 }) 100)
-unfolding clap_on_literals
-form_of_lines_to_zero name = refl
-
-lines_of_80_columns : (name : Text) → form_of_words (name ∷ codes "--text" ∷ codes "--columns" ∷ codes "80" ∷ [])
-    ≡ Some (Lines all_events 80)
-unfolding clap_on_literals
-lines_of_80_columns name = refl
-
-columns_of_an_svg_are_a_fault : (name : Text) → faults_of_words (name ∷ codes "--columns" ∷ codes "80" ∷ []) ≡ ArgumentConflict ∷ []
-unfolding clap_on_literals
-columns_of_an_svg_are_a_fault name = refl
-
-thirty_nine_columns_are_a_fault : (name : Text)
-    → faults_of_words (name ∷ codes "--text" ∷ codes "--columns" ∷ codes "39" ∷ []) ≡ ValueValidation ∷ []
-unfolding clap_on_literals
-thirty_nine_columns_are_a_fault name = refl
-
-steps_are_explained : (name : Text)
-    → request_of_words (name ∷ codes "--explain" ∷ codes "--steps" ∷ []) ≡ Some (record { form = Steps; is_explained = true })
-unfolding clap_on_literals
-steps_are_explained name = refl
-
-steps_from_ten_are_a_fault : (name : Text)
-    → faults_of_words (name ∷ codes "--steps" ∷ codes "--from" ∷ codes "10" ∷ []) ≡ ArgumentConflict ∷ []
-unfolding clap_on_literals
-steps_from_ten_are_a_fault name = refl
-
-from_above_to_is_a_fault : (name : Text)
-    → faults_of_words (name ∷ codes "--from" ∷ codes "20" ∷ codes "--to" ∷ codes "10" ∷ []) ≡ ArgumentConflict ∷ []
-unfolding clap_on_literals
-from_above_to_is_a_fault name = refl
-
-from_a_word_is_a_fault : (name : Text) → faults_of_words (name ∷ codes "--from" ∷ codes "ten" ∷ []) ≡ ValueValidation ∷ []
-unfolding clap_on_literals
-from_a_word_is_a_fault name = refl
-
-form_of_other : (name : Text) → form_of_words (name ∷ codes "--texts" ∷ []) ≡ None
-unfolding clap_on_literals
-form_of_other name = refl
-
-a_file_is_a_fault : (name : Text) → faults_of_words (name ∷ codes "queue.script" ∷ []) ≡ UnknownArgument ∷ []
-unfolding clap_on_literals
-a_file_is_a_fault name = refl
-
-a_hyphen_is_a_fault : (name : Text) → faults_of_words (name ∷ codes "-" ∷ []) ≡ UnknownArgument ∷ []
-unfolding clap_on_literals
-a_hyphen_is_a_fault name = refl
-
-text_twice_is_a_fault : (name : Text) → faults_of_words (name ∷ codes "--text" ∷ codes "--text" ∷ []) ≡ ArgumentConflict ∷ []
-unfolding clap_on_literals
-text_twice_is_a_fault name = refl
-
-help_is_asked : (name : Text) → faults_of_words (name ∷ codes "--help" ∷ []) ≡ DisplayHelp ∷ []
-unfolding clap_on_literals
-help_is_asked name = refl
-
-version_is_asked : (name : Text) → faults_of_words (name ∷ codes "-V" ∷ []) ≡ DisplayVersion ∷ []
-unfolding clap_on_literals
-version_is_asked name = refl
+history_from_ten_is_a_fault name = refl

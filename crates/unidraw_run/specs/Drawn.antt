@@ -10,8 +10,9 @@ use Rattle.run_layout.specs.Choice.{all_events}
 use Rattle.run_layout.specs.Subject.{HasTooManyEvents}
 use Rattle.run_picture.specs.Picture.{IsPicture}
 use Rattle.run_lines.specs.Lines.{IsLines}
-use Rattle.run_tell.specs.Trace.{IsTrace, IsWholeTrace}
-use Rattle.run_tell.specs.Steps.{IsSteps}
+use Rattle.run_tell.specs.Told.{IsTold}
+use Rattle.run_tell.specs.TraceLines.{json_wording, whole_wording}
+use Rattle.run_tell.specs.Steps.{steps_wording}
 use Rattle.run_tell.specs.Page.{IsPage}
 use Rattle.run_tell.specs.History.{IsHistory}
 pub use Rattle.unidraw_run.specs.CommandLine.{form_of_words}
@@ -23,17 +24,21 @@ use Rattle.unidraw_run.specs.declared.program.Form.TheVariants.{Svg, Lines, Step
 abbrev pub IsPictureIn : Form → (left : Option (List ℕ)) → (text : List ℕ) → Type 0
 IsPictureIn (Svg range) left text = IsPicture range left text
 IsPictureIn (Lines range columns) left text = IsLines range columns left text
-IsPictureIn Steps left text = IsSteps left text
-IsPictureIn Json left text = IsTrace left text
-IsPictureIn Full left text = IsWholeTrace left text
-IsPictureIn Html left text = IsPage left text
+IsPictureIn (Steps range) left text = IsTold steps_wording range left text
+IsPictureIn (Json range) left text = IsTold json_wording range left text
+IsPictureIn (Full range) left text = IsTold whole_wording range left text
+IsPictureIn (Html range) left text = IsPage range left text
 IsPictureIn History left text = IsHistory left text
 
 -- the events that a form shows
 abbrev pub range_of : Form → Range
 range_of (Svg range) = range
 range_of (Lines range columns) = range
-range_of _ = all_events
+range_of (Steps range) = range
+range_of (Json range) = range
+range_of (Full range) = range
+range_of (Html range) = range
+range_of History = all_events
 
 -- the reader had a script with a fault, or with too many events that a form shows
 abbrev pub HasNoPicture : Form → (left : Option (List ℕ)) → Type 0

@@ -23,10 +23,10 @@ IsStatusOfPicture Misdrawn status = status ≡ 5
 abbrev pub form_name : Form → List ℕ
 form_name (Svg range) = codes "an SVG"
 form_name (Lines range columns) = codes "--text"
-form_name Steps = codes "--steps"
-form_name Json = codes "--json"
-form_name Full = codes "--json --full"
-form_name Html = codes "--html"
+form_name (Steps range) = codes "--steps"
+form_name (Json range) = codes "--json"
+form_name (Full range) = codes "--json --full"
+form_name (Html range) = codes "--html"
 form_name History = codes "--history"
 
 -- the text of a fault, where a form was asked for

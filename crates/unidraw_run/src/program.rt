@@ -15,7 +15,7 @@ use command_line::answer_words;
 use run_layout::{PictureFault, Range};
 use run_lines::lines_of;
 use run_picture::picture_of;
-use run_tell::{history_of, json_of, page_of, steps_of, whole_json_of};
+use run_tell::{InJson, InWholeJson, InWords, history_of, page_of, told_of};
 use script_advice::{KeepsText, report_explained};
 use std::alloc::Global;
 use std::convert::AsStr;
@@ -28,14 +28,14 @@ pub enum Form {
     Svg(Range),
     /// Lines of text, for a terminal of so many columns, that draw these events.
     Lines(Range, u64),
-    /// Lines of text, with a sentence for each event.
-    Steps,
-    /// Lines of JSON, which tell what each event did to the memory.
-    Json,
+    /// Lines of text, with a sentence for each of these events.
+    Steps(Range),
+    /// Lines of JSON, which tell what each of these events did to the memory.
+    Json(Range),
     /// The same, which tell the whole memory too.
-    Full,
-    /// A page for a browser, which shows what each event did.
-    Html,
+    Full(Range),
+    /// A page for a browser, which shows what each of these events did.
+    Html(Range),
     /// Lines of JSON, which tell the calls and the replies alone.
     History,
 }
@@ -53,12 +53,12 @@ pub struct Request {
 /// writes the picture to `output`; the answer is the status that the program ends with. With `--text` the
 /// picture is one of lines, with `--steps` it is a sentence for each event, with `--json` the trace of the run, and
 /// beside that with `--full` the whole memory after each event, with `--html` a page that shows the trace, with
-/// `--history` the calls and the replies of the run, and with no word an SVG. Of an SVG and of lines `--from` and
-/// `--to` choose the events, and `--columns` says how long lines are at most. With `--explain` the text of a bad line
+/// `--history` the calls and the replies of the run, and with no word an SVG. In each form but a history `--from` and
+/// `--to` choose the events; `--columns` says how long lines are at most. With `--explain` the text of a bad line
 /// says why it is bad.
 ///
-/// The status is 0 where all went well, also for help or the version, which go to `output`; 2 for a bad script,
-/// one of more than 2,000 events, or words that ask for nothing that there is; 3 where `input` or `output`
+/// The status is 0 where all went well, also for help or the version, which go to `output`; 2 for a bad script, for
+/// more than 2,000 events, or for words that ask for nothing that there is; 3 where `input` or `output`
 /// failed; 4 where memory was refused; and 5 where the drawing does not show its run, of which no script is known. The
 /// text that says so goes to `faults`, as far as that takes it.
 pub fn run<S: AsStr, I: KeepsText, O: TextOut, F: TextOut>(
@@ -149,10 +149,10 @@ fn picture_in<I: TextIn>(alloc: Global, form: Form, reader: &mut I) -> Result<Ve
     match form {
         Form::Svg(range) => picture_of(alloc, range, reader),
         Form::Lines(range, columns) => lines_of(alloc, range, columns, reader),
-        Form::Steps => steps_of(alloc, reader),
-        Form::Json => json_of(alloc, reader),
-        Form::Full => whole_json_of(alloc, reader),
-        Form::Html => page_of(alloc, reader),
+        Form::Steps(range) => told_of::<InWords, I>(alloc, range, reader),
+        Form::Json(range) => told_of::<InJson, I>(alloc, range, reader),
+        Form::Full(range) => told_of::<InWholeJson, I>(alloc, range, reader),
+        Form::Html(range) => page_of(alloc, range, reader),
         Form::History => history_of(alloc, reader),
     }
 }
@@ -164,10 +164,10 @@ fn too_many_line(form: Form) -> &'static str
     match form {
         Form::Svg(_) => "too many events for an SVG: at most 2000\n",
         Form::Lines(_, _) => "too many events for --text: at most 2000\n",
-        Form::Steps => "too many events for --steps: at most 2000\n",
-        Form::Json => "too many events for --json: at most 2000\n",
-        Form::Full => "too many events for --json --full: at most 2000\n",
-        Form::Html => "too many events for --html: at most 2000\n",
+        Form::Steps(_) => "too many events for --steps: at most 2000\n",
+        Form::Json(_) => "too many events for --json: at most 2000\n",
+        Form::Full(_) => "too many events for --json --full: at most 2000\n",
+        Form::Html(_) => "too many events for --html: at most 2000\n",
         Form::History => "too many events for --history: at most 2000\n",
     }
 }

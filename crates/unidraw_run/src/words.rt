@@ -36,12 +36,11 @@ output: an SVG, or with --text lines of a terminal. With --steps each
 step is told in words, with what it changed, and with --json for programs: see
 docs/trace.md; with --json --full the whole memory is told after each event.
 With --html a browser shows the steps. With --history calls and replies are
-told alone, for a program that judges histories. A script of more than 2000
-events has no picture.
+told alone, for a program that judges histories. At most 2000 events are shown.
 
-With --from and --to a picture shows these events alone, both included, by the
-numbers that --steps tells, from 0. Where the run has none of them it has no
-columns. With --explain the text of a bad line says why it is bad.
+With --from and --to these events alone are shown, both included, by the
+numbers that --steps tells, from 0. A history is always whole. With --explain
+the text of a bad line says why it is bad.
 
 Examples:
   unidraw < queue.script > queue.svg
@@ -55,7 +54,7 @@ Examples:
 /// What is said where words ask for forms that don't go together.
 const SEVERAL: &str = "\
 only one of --text, --steps, --json, --html and --history can be used, --full beside --json alone, \
---columns beside --text alone, and --from and --to without any of them but --text";
+--columns beside --text alone, and --from and --to not beside --history";
 
 /// What is said where no event is chosen.
 const BACKWARD: &str = "--from is above --to";
@@ -74,31 +73,34 @@ struct FormOption {
     help: &'static str,
 }
 
+/// All events.
+const ALL: Range = Range { from: 0, to: None };
+
 /// The options, in the order of the help: one for each form but an SVG.
 const OPTIONS: [FormOption; 6] = [
     FormOption {
         name: "text",
-        form: Form::Lines(Range { from: 0, to: None }, COLUMNS),
+        form: Form::Lines(ALL, COLUMNS),
         help: "Draws lines of text in place of an SVG",
     },
     FormOption {
         name: "steps",
-        form: Form::Steps,
+        form: Form::Steps(ALL),
         help: "Tells each step and what it changed, in words",
     },
     FormOption {
         name: "json",
-        form: Form::Json,
+        form: Form::Json(ALL),
         help: "Tells each step and what it changed, in lines of JSON",
     },
     FormOption {
         name: "full",
-        form: Form::Full,
+        form: Form::Full(ALL),
         help: "Beside --json: tells the whole memory after each event",
     },
     FormOption {
         name: "html",
-        form: Form::Html,
+        form: Form::Html(ALL),
         help: "Writes a page for a browser, which shows each step",
     },
     FormOption {
@@ -168,8 +170,8 @@ fn unidraw<'a>(alloc: Global) -> Result<Command<'a>, AllocError>
     ensures { IfOk result (λ command. app_of command ≡ unidraw) }
 {
     with_options(alloc, described(alloc), &OPTIONS)?
-        .arg(event_option(alloc, "from", "Draws the events from this number on"))?
-        .arg(event_option(alloc, "to", "Draws the events up to this number"))?
+        .arg(event_option(alloc, "from", "Shows the events from this number on"))?
+        .arg(event_option(alloc, "to", "Shows the events up to this number"))?
         .arg(columns_option(alloc))?
         .arg(flag(alloc, "explain", "Says why a line is bad"))
 }
@@ -180,8 +182,8 @@ fn form_with(asked: Option<Form>, further: Form) -> Option<Form>
     ensures { result ≡ form_with asked further }
 {
     match (asked, further) {
-        (Some(Form::Json), Form::Full) => Some(Form::Full),
-        (Some(Form::Svg(_)), Form::Full) => None,
+        (Some(Form::Json(_)), Form::Full(range)) => Some(Form::Full(range)),
+        (Some(Form::Svg(_)), Form::Full(_)) => None,
         (Some(Form::Svg(_)), form) => Some(form),
         _ => None,
     }
@@ -223,8 +225,8 @@ fn comes_after(event: u64, last: Option<u64>) -> bool
     }
 }
 
-/// A form with the events that are chosen, if they are; `None` where the form has no such choice, or the first one
-/// comes after the last.
+/// A form with the events that are chosen, if they are; `None` where the form has no such choice, as a history has
+/// none, or the first one comes after the last.
 fn with_range(form: Form, range: Option<Range>) -> Option<Form>
     ensures { result ≡ with_range range form }
 {
@@ -233,7 +235,11 @@ fn with_range(form: Form, range: Option<Range>) -> Option<Form>
         (_, Some(range)) if comes_after(range.from, range.to) => None,
         (Form::Svg(_), Some(range)) => Some(Form::Svg(range)),
         (Form::Lines(_, columns), Some(range)) => Some(Form::Lines(range, columns)),
-        (_, Some(_)) => None,
+        (Form::Steps(_), Some(range)) => Some(Form::Steps(range)),
+        (Form::Json(_), Some(range)) => Some(Form::Json(range)),
+        (Form::Full(_), Some(range)) => Some(Form::Full(range)),
+        (Form::Html(_), Some(range)) => Some(Form::Html(range)),
+        (Form::History, Some(_)) => None,
     }
 }
 

@@ -1,6 +1,5 @@
 use Rattle.run_tell.proofs.Vocabulary.{HasTooManyEvents-run, IsPage, default_run, page_between}
-use Rattle.run_layout.specs.Choice.{all_events}
-use Rattle.run_tell.proofs.Tellings.{IsToldBy-run, IfOk-two, all_chosen}
+use Rattle.run_tell.proofs.Tellings.{IsToldBy-run, IfOk-two}
 use Rattle.run_tell.specs.declared.viewer.TheConstants.{START, MIDDLE, END}
 use Rattle.run_tell.proofs.page.page_of.Goals as goal
 
@@ -9,7 +8,7 @@ unfolding IsPage
 returns-clause-page g c =
     let of = c.page_of_run.ensures in
     let run = c.in_ok-run.run' in
-    IfOk-two c.page_of_run.result _ _ _ of.few of.page (λ text few is. IsToldBy-run (page_between START.now MIDDLE.now END.now) _ run (default_run _ _ run c.default.ensures c.in_ok-run.ensures.run) text.items few is of.linearizable)
+    IfOk-two c.page_of_run.result _ _ _ of.few of.page (λ text few is. IsToldBy-run (page_between START.now MIDDLE.now END.now c.args.range) c.args.range _ run (default_run _ _ run c.default.ensures c.in_ok-run.ensures.run) text.items few is of.linearizable)
 
 pub returns-clause-many : goal.returns-clause-many
-returns-clause-many g c = λ many. HasTooManyEvents-run all_events _ c.in_ok-run.run' (default_run _ _ c.in_ok-run.run' c.default.ensures c.in_ok-run.ensures.run) (all_chosen _ (c.page_of_run.ensures.many many))
+returns-clause-many g c = λ many. HasTooManyEvents-run c.args.range _ c.in_ok-run.run' (default_run _ _ c.in_ok-run.run' c.default.ensures c.in_ok-run.ensures.run) (c.page_of_run.ensures.many many)

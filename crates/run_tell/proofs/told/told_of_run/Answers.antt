@@ -10,4 +10,4 @@ returns-clause-text g c = λ version.
     c.in_ok-told.ensures
     ∙ ap (λ lines. told_text words trace lines c.deref-2.result.now) c.deref.ensures.value
     ∙ ap (told_text words trace run.lines.items) c.deref-2.ensures.value
-    ∙ ap (λ t. told_text words t run.lines.items run.remarks.items) (c.in_ok-trace.ensures.trace version ∙ ap (λ is_whole. trace_of_session is_whole (session_of_record version run.record)) c.is_whole.ensures)
+    ∙ ap (λ t. told_text words t run.lines.items run.remarks.items) (c.in_ok-trace.ensures.trace version ∙ ap (λ is_whole. trace_of_session c.args.range is_whole (session_of_record version run.record)) c.is_whole.ensures)
