@@ -1,7 +1,7 @@
 //! The whole text.
 
-ghost use Rattle.std.specs.Prelude.{◌≡◌, ◌++◌, ◌∷◌, [], ◌+◌, ◌<◌, ◌≤◌, ◌^◌, IfOk, IsErrOf, IsTrue, OnOk};
-ghost use Rattle.std.specs.Prelude.{length, map, take};
+ghost use Rattle.std.specs.Prelude.{◌≡◌, ◌++◌, ◌∷◌, [], ◌+◌, ◌<◌, ◌≤◌, ◌^◌};
+ghost use Rattle.std.specs.Prelude.{IfOk, IsErrOf, IsTrue, OnOk, length, map, take};
 ghost use Rattle.std.specs.List.{flat_map};
 ghost use Rattle.signs.specs.Signs.{meaning, places_shown};
 ghost use Rattle.uni_script.specs.declared.fault.BenchFault.{BenchFault as Fault};
@@ -311,7 +311,8 @@ fn push_above(
     remarks: &[PlacedRemark],
     text: &mut Vec<u8>,
 ) -> Result<(), AllocError>
-    ensures { OnOk result (text.new.items ≡ text.old.items ++ above_text columns (marks_shown marks.now) remarks.now) }
+    ensures { OnOk result (text.new.items
+        ≡ text.old.items ++ above_text columns (marks_shown marks.now) remarks.now) }
 {
     push_wrapped(alloc, columns, &title_of(alloc, marks)?, text)?;
     push_headings(alloc, columns, remarks, text)
@@ -342,7 +343,8 @@ fn push_below(
     text: &mut Vec<u8>,
 ) -> Result<(), AllocError>
     requires { length remarks.now ≤ 100000 }
-    ensures { OnOk result (text.new.items ≡ text.old.items ++ below_text columns (marks_shown marks.now) remarks.now) }
+    ensures { OnOk result (text.new.items
+        ≡ text.old.items ++ below_text columns (marks_shown marks.now) remarks.now) }
 {
     push_notes(alloc, columns, remarks, text)?;
     push_eras(alloc, columns, &marks.dots, &marks.eras, text)
