@@ -1,6 +1,7 @@
 //! The world at the end of a path.
 
-ghost use Rattle.std.specs.Prelude.{◌≡◌, None, Some, IfOk, IfSome, IsSome, false, option_map, slice_get, if◌then◌else◌};
+ghost use Rattle.std.specs.Prelude.{◌≡◌, None, Some, IfOk, IfSome, IsSome, false};
+ghost use Rattle.std.specs.Prelude.{if◌then◌else◌, option_map, slice_get};
 ghost use Rattle.uni_model.specs.Places.{new_of};
 ghost use Rattle.uni_model.specs.Places.Name.{Anchor};
 ghost use Rattle.uni_core.specs.World.{world_of, KeepsFixed};
@@ -60,7 +61,8 @@ pub fn world_at<O: SeqObject + Copy>(
     plan: &Plan<O>,
     path: &[u64],
 ) -> Result<Option<World<O>>, ExploreFault>
-    ensures world { IfOk result (λ end. world_at (planned O.sequential plan.now) path.now ≡ option_map world_of end) }
+    ensures world { IfOk result (λ end. world_at (planned O.sequential plan.now) path.now
+        ≡ option_map world_of end) }
     ensures object { IfOk result (λ end. IfSome end (λ world. world.object ≡ plan.now.object)) }
     ensures anchor { IfOk result (λ end. IfSome end (λ world. new_of (world_of world).memory Anchor
         ≡ Some ((O.sequential plan.now.object).initial, None))) }

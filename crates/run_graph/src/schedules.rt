@@ -204,7 +204,8 @@ fn opening<O: SeqObject + Copy>(
     plan: &Plan<O>,
     index: &mut Index,
 ) -> Result<Graph, ExploreFault>
-    ensures part { IfOk result (λ graph. IsPart (planned O.sequential plan.now) graph.paths.items graph.targets.items) }
+    ensures part { IfOk result (λ graph. IsPart (planned O.sequential plan.now)
+        graph.paths.items graph.targets.items) }
     ensures one { IfOk result (λ graph. (length graph.paths.items ≡ 1) × (length graph.targets.items ≡ 0)) }
 {
     let start = Vec::new(alloc);

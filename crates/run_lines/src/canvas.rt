@@ -76,11 +76,14 @@ impl Stroke {
         self.top <= row && row < self.bottom
     }
 
-    /// Whether it is a text with letters on both sides of the left edge of a column.
-    pub fn goes_across(&self, column: u64) -> bool {
-        match &self.ink {
-            Ink::Text(text) => { self.column < column && column - self.column < text.len() as u64 }
-            Ink::Bar(_) | Ink::Line | Ink::Arrow => false,
+    /// Marks the left edge of each column that a text goes across, with letters on both sides.
+    pub fn mark_across(&self, crossed: &mut [bool]) {
+        if let Ink::Text(text) = &self.ink {
+            let from = (self.column as usize).min(crossed.len());
+            let count = text.len().min(crossed.len() - from);
+            for place in 1..count {
+                crossed[from + place] = true;
+            }
         }
     }
 

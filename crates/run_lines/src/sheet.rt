@@ -1,7 +1,7 @@
 //! The whole text.
 
-ghost use Rattle.std.specs.Prelude.{◌≡◌, ◌++◌, ◌∷◌, [], ◌+◌, ◌<◌, ◌≤◌, ◌^◌, IfOk, IsErrOf, IsTrue, OnOk};
-ghost use Rattle.std.specs.Prelude.{length, map, take};
+ghost use Rattle.std.specs.Prelude.{◌≡◌, ◌++◌, ◌∷◌, [], ◌+◌, ◌<◌, ◌≤◌, ◌^◌};
+ghost use Rattle.std.specs.Prelude.{IfOk, IsErrOf, IsTrue, OnOk, length, map, take};
 ghost use Rattle.std.specs.List.{flat_map};
 ghost use Rattle.signs.specs.Signs.{meaning, places_shown};
 ghost use Rattle.uni_script.specs.declared.fault.BenchFault.{BenchFault as Fault};
@@ -128,8 +128,19 @@ fn push_row(
     push_shown(row, trimmed(&line), text)
 }
 
+/// Of the left edges of so many columns, which a text goes across.
+///
+/// An `Err` says that memory was refused.
+fn edges_crossed(alloc: Global, strokes: &[Stroke], count: usize) -> Result<Vec<bool>, AllocError> {
+    let mut crossed = vec![in alloc; false; count]?;
+    for stroke in strokes {
+        stroke.mark_across(&mut crossed);
+    }
+    Ok(crossed)
+}
+
 /// How wide a block is that begins at a column: as wide as it can be behind the names, so that its end cuts no label.
-fn block_width(columns: u64, strokes: &[Stroke], from: usize) -> usize
+fn block_width(columns: u64, crossed: &[bool], from: usize) -> usize
     requires { from ≤ 2 ^ 33 }
     ensures some { 0 < result }
     ensures most { result ≤ 1000 }
@@ -139,8 +150,7 @@ fn block_width(columns: u64, strokes: &[Stroke], from: usize) -> usize
         .max(1);
     for left_out in 0..most {
         let width = most - left_out;
-        let edge = (from + width) as u64;
-        if !strokes.iter().any(|stroke| stroke.goes_across(edge)) {
+        if crossed.get(from + width) != Some(&true) {
             return width;
         }
     }
@@ -158,10 +168,11 @@ fn blocks_of(
     strokes: &[Stroke],
 ) -> Result<Vec<Block>, AllocError> {
     let width = width as usize;
+    let crossed = edges_crossed(alloc, strokes, width + MOST_COLUMNS as usize)?;
     let mut blocks = Vec::new(alloc);
     let mut from = 0;
     while from < width {
-        let to = from + block_width(columns, strokes, from);
+        let to = from + block_width(columns, &crossed, from);
         let start = from as u64;
         let named = lanes_between(stretches, start, start + 1);
         let lanes = lanes_between(stretches, start, to as u64) as u8;
@@ -300,7 +311,8 @@ fn push_above(
     remarks: &[PlacedRemark],
     text: &mut Vec<u8>,
 ) -> Result<(), AllocError>
-    ensures { OnOk result (text.new.items ≡ text.old.items ++ above_text columns (marks_shown marks.now) remarks.now) }
+    ensures { OnOk result (text.new.items
+        ≡ text.old.items ++ above_text columns (marks_shown marks.now) remarks.now) }
 {
     push_wrapped(alloc, columns, &title_of(alloc, marks)?, text)?;
     push_headings(alloc, columns, remarks, text)
@@ -331,7 +343,8 @@ fn push_below(
     text: &mut Vec<u8>,
 ) -> Result<(), AllocError>
     requires { length remarks.now ≤ 100000 }
-    ensures { OnOk result (text.new.items ≡ text.old.items ++ below_text columns (marks_shown marks.now) remarks.now) }
+    ensures { OnOk result (text.new.items
+        ≡ text.old.items ++ below_text columns (marks_shown marks.now) remarks.now) }
 {
     push_notes(alloc, columns, remarks, text)?;
     push_eras(alloc, columns, &marks.dots, &marks.eras, text)

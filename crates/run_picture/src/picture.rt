@@ -40,8 +40,8 @@ fn svg_of_subject(alloc: Global, range: Range, subject: Subject) -> Result<Vec<u
 /// The picture of the run of the script that a reader has, where these events are chosen, as the text of an SVG.
 ///
 /// An `Err` is the first fault of the script; `Read` where the reader failed; `Memory` where memory was
-/// refused; `TooManyEvents` of a good script of which more than 2,000 events are chosen; or `Misdrawn` where the drawing
-/// of its run does not show its marks, of which no script is known.
+/// refused; `TooManyEvents` of a good script of which more than 2,000 events are chosen; or `Misdrawn` where the
+/// drawing of its run does not show its marks, of which no script is known.
 pub fn picture_of<I: TextIn>(
     alloc: Global,
     range: Range,

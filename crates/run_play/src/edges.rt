@@ -1,6 +1,7 @@
 //! What the edges of a graph tell.
 
-ghost use Rattle.std.specs.Prelude.{◌≡◌, ◌<◌, None, IfOk, OnOk, length, option_map, option_and_then, slice_index_or};
+ghost use Rattle.std.specs.Prelude.{◌≡◌, ◌<◌, None, IfOk, OnOk, length};
+ghost use Rattle.std.specs.Prelude.{option_and_then, option_map, slice_index_or};
 ghost use Rattle.uni_model.specs.Places.{new_of};
 ghost use Rattle.uni_model.specs.Places.Name.{Anchor};
 ghost use Rattle.uni_core.specs.World.{world_of};

@@ -78,8 +78,8 @@ fn page_of_record<O: Spoken + Copy>(
     goal: &[u8],
     recorded: &Recorded<O>,
 ) -> Result<Vec<u8>, PlayFault>
-    ensures page { IfOk result (λ text. IsPageOf (spoken O.sequential O.language recorded.now.world.object) O.state_text
-        name.now goal.now recorded.now.processes recorded.now.world.row recorded.now.first
+    ensures page { IfOk result (λ text. IsPageOf (spoken O.sequential O.language recorded.now.world.object)
+        O.state_text name.now goal.now recorded.now.processes recorded.now.world.row recorded.now.first
         (events_shown recorded.now.events) text.items) }
     ensures memory { (e : Fault) → IsErrOf result (PlayFault.Script e) → e ≡ Fault.Memory }
 {

@@ -1,5 +1,5 @@
-//! Runs of scripts, told: from the bytes of a script to a text with a piece for how the run opened, and one for each event
-//! that is chosen, each note and each refusal, in the script's order.
+//! Runs of scripts, told: from the bytes of a script to a text with a piece for how the run opened, and one for each
+//! event that is chosen, each note and each refusal, in the script's order.
 //!
 //! What the pieces are, a `Telling` says: lines of JSON, which tell what each event did to the memory (a trace), or the
 //! calls that begin and the replies (a history); sentences for a terminal (steps); or a page for a browser, which needs

@@ -2,8 +2,8 @@
 
 ghost use Rattle.std.specs.Prelude.{◌≡◌, ◌++◌, IfOk, OnOk, [], map, option_map};
 ghost use Rattle.run_replay.specs.Held.{changes_between};
-ghost use Rattle.run_replay.specs.ScenesShown.{begun_shown, change_shown, end_shown, field_shown, held_shown, start_shown};
-ghost use Rattle.run_replay.specs.ScenesShown.{step_shown};
+ghost use Rattle.run_replay.specs.ScenesShown.{begun_shown, change_shown, end_shown, field_shown};
+ghost use Rattle.run_replay.specs.ScenesShown.{held_shown, start_shown, step_shown};
 ghost use Rattle.run_tell.specs.Opened.{opening_shown};
 ghost use Rattle.run_tell.specs.Sentences.{begun_sentence, begun_words, end_sentence, end_word, end_words};
 ghost use Rattle.run_tell.specs.Sentences.{event_start, holds_words, kept_words, left_out_words, left_words, note_words};

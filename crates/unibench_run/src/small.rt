@@ -1,7 +1,8 @@
 //! Threads that make calls on one object of several words.
 
-ghost use Rattle.std.specs.Prelude.{◌≡◌, ◌+◌, ◌++◌, ◌∷◌, ◌<◌, ◌≤◌, ◌^◌, ℕ, List, [], All, IfOk, IsErrOf, OnOk};
-ghost use Rattle.std.specs.Prelude.{drop, flat_map, length, map, suc, vec_len, true};
+ghost use Rattle.std.specs.Prelude.{◌≡◌, ◌+◌, ◌++◌, ◌∷◌, ◌<◌, ◌≤◌, ◌^◌};
+ghost use Rattle.std.specs.Prelude.{ℕ, List, [], All, IfOk, IsErrOf, OnOk};
+ghost use Rattle.std.specs.Prelude.{drop, flat_map, length, map, suc, true, vec_len};
 ghost use Rattle.std.specs.List.{sum_by};
 ghost use Rattle.small_objects.specs.Placed.{placed};
 ghost use Rattle.small_objects.specs.Replay.{IsReplayed};

@@ -1,7 +1,7 @@
 //! Threads that make calls on one object.
 
-ghost use Rattle.std.specs.Prelude.{◌↔◌, ◌≡◌, ◌≢◌, ◌++◌, ◌*◌, ◌<◌, ◌≤◌, ◌^◌, ℕ, All, []};
-ghost use Rattle.std.specs.Prelude.{IfOk, IsErrOf, IsOk, Ok, OnOk, Some, length, map, vec_len};
+ghost use Rattle.std.specs.Prelude.{◌↔◌, ◌≡◌, ◌≢◌, ◌++◌, ◌*◌, ◌<◌, ◌≤◌, ◌^◌};
+ghost use Rattle.std.specs.Prelude.{ℕ, [], All, IfOk, IsErrOf, IsOk, Ok, OnOk, Some, length, map, vec_len};
 ghost use Rattle.std.specs.List.{range_with_len};
 ghost use Rattle.uni_words.specs.Belongs.{object_of, processes_of, row_of};
 ghost use Rattle.uni_words.specs.Compare.{Agrees, IsFirstFault};

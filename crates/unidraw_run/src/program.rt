@@ -1,7 +1,7 @@
 //! The program over its ends, and its statuses.
 
-ghost use Rattle.std.specs.Prelude.{◌≡◌, ◌≢◌, ◌⊎◌, ◌↔◌, true, false, None, Some, IfOk, IsErrOf, is_some};
-ghost use Rattle.std.specs.Prelude.{map};
+ghost use Rattle.std.specs.Prelude.{◌≡◌, ◌≢◌, ◌⊎◌, ◌↔◌, true, false, None, Some};
+ghost use Rattle.std.specs.Prelude.{IfOk, IsErrOf, is_some, map};
 ghost use Rattle.uni_script.specs.Replay.{HasFault, IsFaultOfScript};
 ghost use Rattle.uni_script.specs.Scripts.{scripts_of};
 ghost use Rattle.uni_script.specs.declared.fault.BenchFault.{BenchFault as Fault};
@@ -137,12 +137,13 @@ fn draw<I: KeepsText, O: TextOut, F: TextOut>(
 /// The picture of the script that a reader has, in a form.
 ///
 /// An `Err` is the first fault of the script; `Read` where the reader failed; `Memory` where memory was
-/// refused; `TooManyEvents` of a good script of which more than 2,000 events are chosen; or `Misdrawn` where the drawing
-/// of its run does not show it.
+/// refused; `TooManyEvents` of a good script of which more than 2,000 events are chosen; or `Misdrawn` where the
+/// drawing of its run does not show it.
 fn picture_in<I: TextIn>(alloc: Global, form: Form, reader: &mut I) -> Result<Vec<u8>, PictureFault>
     requires { I.has_failed reader.old ≡ false }
     ensures picture { IfOk result (λ text. IsPictureIn form (I.remaining reader.old) text.items) }
-    ensures many { IsErrOf result PictureFault.TooManyEvents → HasTooManyEvents (range_of form) (I.remaining reader.old) }
+    ensures many { IsErrOf result PictureFault.TooManyEvents
+        → HasTooManyEvents (range_of form) (I.remaining reader.old) }
     ensures fault { (e : Fault) → IsErrOf result (PictureFault.Script e) → IsFaultOfScript e
         → HasFault (scripts_of 1048576) (I.remaining reader.old) e }
 {

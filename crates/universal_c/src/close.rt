@@ -39,7 +39,8 @@ fn close_in(alloc: Global, held: &mut Held) -> u32
     ensures status { (result ≡ 0) ⊎ (result ≡ 3) ⊎ (result ≡ 6) ⊎ (result ≡ 7) }
     ensures kept { result ≡ 7 → held.new ≡ held.old }
     ensures busy { result ≡ 6 → IsSome (seat_in (Some held.new))
-        × (seat_in (Some held.new) ≡ seat_in (Some held.old)) × (log_in (Some held.new) ≡ log_in (Some held.old)) }
+        × (seat_in (Some held.new) ≡ seat_in (Some held.old))
+        × (log_in (Some held.new) ≡ log_in (Some held.old)) }
     ensures closed { IsSome (seat_in (Some held.old)) → (result ≡ 0) ⊎ (result ≡ 3)
         → HasClosed (Some held.old) (Some held.new) }
     ensures again { IsSome (unread_in (Some held.old)) → closed_in (Some held.new) ≡ closed_in (Some held.old) }

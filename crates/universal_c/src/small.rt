@@ -1,6 +1,6 @@
 //! What a handle holds of a small object: the object with its seats, or a seat.
-ghost use Rattle.std.specs.Prelude.{◌≡◌, ◌≢◌, ◌==◌, ◌+◌, ◌<◌, ◌≤◌, ◌↔◌, ◌⊎◌, [], length, vec_len};
-ghost use Rattle.std.specs.Prelude.{IfOk, IfErr, IsErrOf, OnErr, OnOk};
+ghost use Rattle.std.specs.Prelude.{◌≡◌, ◌≢◌, ◌==◌, ◌+◌, ◌<◌, ◌≤◌, ◌↔◌, ◌⊎◌};
+ghost use Rattle.std.specs.Prelude.{[], IfOk, IfErr, IsErrOf, OnErr, OnOk, length, vec_len};
 ghost use Rattle.uni_small.specs.Belongs.{AreFirstSeats, IsSeatOf, calls_made, invocation_width_of, known_calls};
 ghost use Rattle.uni_small.specs.Belongs.{object_of, own_calls, process_of, processes_of, reply_width_of, sizes_of};
 ghost use Rattle.uni_small.specs.Belongs.{version_of, width_of};
@@ -57,7 +57,8 @@ impl SmallOpened {
         n: u64,
     ) -> Result<SmallOpened, SmallOpenFault>
         ensures count { IsErrOf result SmallOpenFault.BadCount ↔ ((n ≡ 0) ⊎ (64 < n)) }
-        ensures width { IsErrOf result SmallOpenFault.BadWidth ↔ ((1 ≤ n) × (n ≤ 64) × (65536 < state_words kind)) }
+        ensures width { IsErrOf result SmallOpenFault.BadWidth
+            ↔ ((1 ≤ n) × (n ≤ 64) × (65536 < state_words kind)) }
         ensures object { IfOk result (λ opened. object_of opened.shared.value ≡ kind) }
         ensures shape { IfOk result (λ opened. (sizes_of opened.shared.value ≡ small_sizes kind n)
             × (vec_len opened.seats ≡ n)) }
@@ -135,7 +136,8 @@ impl SmallPlace {
     pub(crate) fn apply(&mut self, invocation: &[u64], reply: &mut [u64]) -> Result<u64, CallFault>
         ensures shared { self.new.shared ≡ self.old.shared }
         ensures width { let shared = self.old.shared.value in IsErrOf result CallFault.Width
-            ↔ ((length invocation.now ≢ invocation_width_of shared) ⊎ (length reply.old ≢ reply_width_of shared)) }
+            ↔ ((length invocation.now ≢ invocation_width_of shared)
+            ⊎ (length reply.old ≢ reply_width_of shared)) }
         ensures spent { let shared = self.old.shared.value in IsErrOf result CallFault.Spent
             ↔ ((length invocation.now ≡ invocation_width_of shared) × (length reply.old ≡ reply_width_of shared)
             × (calls_made self.old.seat ≡ most_calls)) }
