@@ -27,9 +27,9 @@ use std::alloc::{AllocError, Global};
 use uni_core::{Place, Progress, StepKind, World, reshape, trim};
 use uni_record::{Event, Events, Recorded};
 
-/// What some events of the run did that a record has stored: of those from number `from` on, which counts from 0, at most
-/// so many; `object` is a further value of the record's object. Each has a scene, and the scenes tell the whole memory
-/// only where that is asked for. They are found by a replay of the events.
+/// What some events of the run did that a record has stored: of those from number `from` on, which counts from 0, at
+/// most so many; `object` is a further value of the record's object. Each has a scene, and the scenes tell the whole
+/// memory only where that is asked for. They are found by a replay of the events.
 ///
 /// An `Err` says that memory was refused. It would come too where the replay refused an event, as it never does with
 /// the object of the record; that isn't proved.

@@ -90,7 +90,8 @@ fn line_of(event: u64, lines: &[u64]) -> Option<u64>
     lines.get(event as usize).copied()
 }
 
-/// Adds the events that are chosen, each with its line and behind what is told before it, and what is told after the last.
+/// Adds the events that are chosen, each with its line and behind what is told before it, and what is told after the
+/// last.
 ///
 /// An `Err` says that memory was refused.
 fn push_events<T: Telling>(
@@ -117,8 +118,8 @@ fn push_events<T: Telling>(
 }
 
 impl<'a> Trace<'a> {
-    /// The events, told. `lines` has the number of the script's line that stored each event of the run, where there was a
-    /// script; `remarks` is what is told beside the run, of which that is told which belongs to these events.
+    /// The events, told. `lines` has the number of the script's line that stored each event of the run, where there was
+    /// a script; `remarks` is what is told beside the run, of which that is told which belongs to these events.
     ///
     /// An `Err` says that memory was refused.
     pub fn told<T: Telling>(

@@ -6,8 +6,8 @@ ghost use Rattle.run_replay.specs.ScenesShown.{begun_shown, change_shown, end_sh
 ghost use Rattle.run_replay.specs.ScenesShown.{held_shown, start_shown, step_shown};
 ghost use Rattle.run_tell.specs.Opened.{opening_shown};
 ghost use Rattle.run_tell.specs.Sentences.{begun_sentence, begun_words, end_sentence, end_word, end_words};
-ghost use Rattle.run_tell.specs.Sentences.{event_start, holds_words, kept_words, left_out_words, left_words, note_words};
-ghost use Rattle.run_tell.specs.Sentences.{number_words, opening_words, outcome_words, plain_words};
+ghost use Rattle.run_tell.specs.Sentences.{event_start, holds_words, kept_words, left_out_words, left_words};
+ghost use Rattle.run_tell.specs.Sentences.{note_words, number_words, opening_words, outcome_words, plain_words};
 ghost use Rattle.run_tell.specs.Sentences.{proposed_words, refused_words, remark_words, reply_words, return_words};
 ghost use Rattle.run_tell.specs.Sentences.{role_of, sentence, spent_words, step_words};
 

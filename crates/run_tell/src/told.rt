@@ -23,8 +23,8 @@ use std::alloc::{AllocError, Global};
 use uni_record::Recorded;
 use uni_script::{ObjectName, Options, ScriptRecord, ScriptRun, TextIn, run_of_script};
 
-/// The trace of these events of the run that a record has stored, on an object of this name: of a linearizable run. It has
-/// the whole memory after each event only where that is asked for.
+/// The trace of these events of the run that a record has stored, on an object of this name: of a linearizable run. It
+/// has the whole memory after each event only where that is asked for.
 ///
 /// Errors: `TooManyEvents` where more than 2,000 are chosen; else `Memory`.
 pub fn trace_of_record<'a, O: Spoken + Copy>(

@@ -36,5 +36,5 @@ returns-clause-world g c =
     elim c.loop-left-test.branch [
       | else-loop-left-test b ↦ (let none : left ≡ 0 = search (rules, b.loop-left-test.false) in ap (λ k. world_after_all object w (take k (events_shown c.loop-left.events))) (sym none) ∙ here.world)
       | then-loop-left-test+in_default b ↦ (let empty : c.loop-left.events ≡ [] = search (rules, b.next.ensures.steps) in
-        ap (world_after_all object w) (sym (none_taken left)) ∙ ap (λ es. world_after_all object w (take left (events_shown es))) (sym empty) ∙ here.world)
+          ap (world_after_all object w) (sym (none_taken left)) ∙ ap (λ es. world_after_all object w (take left (events_shown es))) (sym empty) ∙ here.world)
     ]
