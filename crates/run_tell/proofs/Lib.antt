@@ -1,6 +1,8 @@
 pub mod Vocabulary
 pub mod JsonPieces
 pub mod TellingPieces
+pub mod ToldOn
+pub mod TraceIs
 pub mod Tellings
 pub mod TracePieces
 pub mod StepPieces

@@ -27,7 +27,7 @@ abbrev line_of_scene : Option Scene → List ℕ
 line_of_scene scene = event_text history_wording 0 None scene
 
 -- nothing is told beside the events
-no_remark : (told : Bool) → (if told then [] else []) ≡ []
+no_remark : (told : Bool) → (let none : List ℕ = [] in (if told then none else none) ≡ none)
 no_remark true = refl
 no_remark false = refl
 

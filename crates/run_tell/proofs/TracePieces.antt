@@ -1,7 +1,9 @@
 -- Lists and texts, piece by piece.
 use Rattle.run_tell.proofs.Vocabulary.{Begins, Ends, Frame, List, Option, Stepped, Steps, [], after_comma, ap, append_assoc, arith, flat_map, flat_map-append, frame_members, get_or, length, length-append, map, map-append, member_text, object_text, separated, step_call, step_members, step_place, step_start, sym, take, take_more, ℕ, ◌++◌, ◌+◌, ◌<◌, ◌∙◌, ◌∷◌, ◌≡◌}
 use Rattle.run_tell.specs.Json.{Member}
+use Rattle.run_tell.specs.Opened.{Opening}
 use Rattle.run_tell.specs.TraceLines.{line_text}
+use Rattle.run_tell.specs.TraceMembers.{run_members}
 use Rattle.run_tell.proofs.JsonPieces.{members_more}
 
 -- one more element, as it is seen
@@ -35,6 +37,10 @@ pub frame_members-some : (k : ℕ) (line : Option ℕ) (f : Frame) → 0 < lengt
 frame_members-some k line (Begins b) = omega arith
 frame_members-some k line (Steps s) = let some = step_start-some k line s in omega (arith, length-append (step_start k line s) (step_place s ++ step_call s))
 frame_members-some k line (Ends e) = omega arith
+
+-- and so has a run
+pub run_members-some : (o : Opening) → 0 < length (run_members o)
+run_members-some o = omega arith
 
 -- a line, its first members and then further ones
 braces : (old first more : List ℕ) → (((old ++ 123 ∷ []) ++ first) ++ more) ++ (125 ∷ []) ++ (10 ∷ []) ≡ old ++ ((123 ∷ []) ++ (first ++ more) ++ (125 ∷ []) ++ (10 ∷ []))

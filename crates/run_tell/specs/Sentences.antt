@@ -158,11 +158,15 @@ abbrev pub left_out_words : Option Start → List ℕ
 left_out_words None = []
 left_out_words (Some s) = codes " Left out first: " ++ counted_text s.events (codes "event") (codes "events") ++ codes "."
 
-abbrev pub opening_words : Opening → List ℕ
-opening_words o =
+abbrev pub run_words : Opening → List ℕ
+run_words o =
     o.object ++ codes ": " ++ counted_text o.processes (codes "process") (codes "processes") ++ codes ", at most "
     ++ counted_text o.row (codes "call") (codes "calls") ++ codes " each in an era; the anchor has number " ++ decimal o.number
-    ++ codes " and state " ++ o.state ++ codes "." ++ left_out_words o.start
+    ++ codes " and state " ++ o.state ++ codes "."
+
+-- how it opened, and that
+abbrev pub opening_words : Opening → List ℕ
+opening_words o = run_words o ++ left_out_words o.start
 
 -- ---- rows
 

@@ -9,7 +9,7 @@ ghost use Rattle.run_tell.specs.Sentences.{begun_sentence, begun_words, end_sent
 ghost use Rattle.run_tell.specs.Sentences.{event_start, holds_words, kept_words, left_out_words, left_words};
 ghost use Rattle.run_tell.specs.Sentences.{note_words, number_words, opening_words, outcome_words, plain_words};
 ghost use Rattle.run_tell.specs.Sentences.{proposed_words, refused_words, remark_words, reply_words, return_words};
-ghost use Rattle.run_tell.specs.Sentences.{role_of, sentence, spent_words, step_words};
+ghost use Rattle.run_tell.specs.Sentences.{role_of, run_words, sentence, spent_words, step_words};
 
 use crate::access::access_of;
 use crate::opened::Opened;
@@ -338,11 +338,22 @@ pub fn remark_words(alloc: Global, remark: &Remark) -> Result<Vec<u8>, AllocErro
     }
 }
 
-/// The sentence of how a run opened.
+/// The sentence of how a run opened, and how many of its events are left out before those that are told.
 ///
 /// An `Err` says that memory was refused.
 pub fn opening_words(alloc: Global, opened: &Opened<'_>) -> Result<Vec<u8>, AllocError>
     ensures { IfOk result (λ words. words.items ≡ opening_words (opening_shown opened.now)) }
+{
+    let mut words = run_words(alloc, opened)?;
+    push_left_out(&mut words, &opened.start)?;
+    Ok(words)
+}
+
+/// The sentence of how a run opened.
+///
+/// An `Err` says that memory was refused.
+fn run_words(alloc: Global, opened: &Opened<'_>) -> Result<Vec<u8>, AllocError>
+    ensures { IfOk result (λ words. words.items ≡ run_words (opening_shown opened.now)) }
 {
     let number = opened.number;
     let mut words = Vec::new(alloc);
@@ -358,7 +369,6 @@ pub fn opening_words(alloc: Global, opened: &Opened<'_>) -> Result<Vec<u8>, Allo
     .map_err(|_| AllocError)?;
     words.extend_from_slice(&opened.state)?;
     words.push(b'.')?;
-    push_left_out(&mut words, &opened.start)?;
     Ok(words)
 }
 
