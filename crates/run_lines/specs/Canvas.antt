@@ -1,6 +1,6 @@
 -- Rows of letters, upon which strokes are put one after the other.
 use Rattle.std.specs.Prelude.{◌≡◌, ℕ, ◌+◌, ◌-◌, ◌==◌, ◌&&◌, ◌||◌, if◌then◌else◌, nat_le, nat_lt, Bool}
-use Rattle.std.specs.Prelude.{List, [], ◌∷◌, ◌++◌, length, map, fold, slice_index, Option, Some, codes, refl}
+use Rattle.std.specs.Prelude.{List, [], ◌∷◌, ◌++◌, length, map, fold, slice_index, Some, codes, refl}
 use Rattle.std.specs.List.{range_with_len}
 use Rattle.signs.specs.declared.sign.Look.{Look}
 use Rattle.signs.specs.declared.sign.Look.TheVariants as look

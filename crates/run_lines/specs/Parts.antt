@@ -1,5 +1,5 @@
 -- The strokes that the rows of a text are to have, sign by sign, from the lowest on.
-use Rattle.std.specs.Prelude.{◌≡◌, ℕ, ◌+◌, if◌then◌else◌, not, Bool, true, false, List, [], ◌∷◌, ◌++◌, map, None, codes, refl}
+use Rattle.std.specs.Prelude.{◌≡◌, ℕ, ◌+◌, if◌then◌else◌, not, Bool, true, false, List, [], ◌∷◌, ◌++◌, None, codes, refl}
 use Rattle.std.specs.List.{filter, flat_map}
 use Rattle.std.specs.Fmt.{decimal}
 use Rattle.signs.specs.declared.sign.Look.TheVariants as look

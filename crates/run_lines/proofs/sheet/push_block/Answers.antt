@@ -1,4 +1,4 @@
-use Rattle.run_lines.proofs.Vocabulary.{List, [], ap, append-nil, append_assoc, block_text, bottom_row, drop_all, map, rows_text, sym, take, take-map, ℕ, ◌++◌, ◌∙◌, ◌∷◌, ◌≡◌}
+use Rattle.run_lines.proofs.Vocabulary.{[], ap, append-nil, append_assoc, block_text, bottom_row, drop_all, map, rows_text, sym, take, take-map, ◌++◌, ◌∙◌, ◌∷◌, ◌≡◌}
 use Rattle.run_lines.proofs.sheet.push_block.Goals as goal
 
 pub returns : goal.returns
