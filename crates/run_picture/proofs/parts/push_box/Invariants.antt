@@ -1,5 +1,5 @@
-use Rattle.run_picture.proofs.Vocabulary.{[], anywhere, box_parts, map, meaning, ◌++◌, ◌∷◌, ◌≡◌}
-use Rattle.signs.specs.declared.sign.Look.TheVariants.{Bar, Text}
+use Rattle.run_picture.proofs.Vocabulary.{anywhere, map, meaning, ◌++◌, ◌≡◌}
+use Rattle.signs.specs.declared.sign.Look.TheVariants.{Text}
 use Rattle.run_picture.proofs.parts.push_box.Given as goal
 
 -- those so far, and those of the rest
