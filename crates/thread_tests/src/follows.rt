@@ -4,13 +4,14 @@ ghost use Rattle.std.specs.Prelude.{◌≡◌, ℕ, ◌<◌, All, IfSome};
 ghost use Rattle.uni_model.specs.Eras.{StandsAt};
 ghost use Rattle.uni_words.specs.Belongs.{IsSeatOf, calls_made, log_in, process_of};
 
-use crate::words::last;
+use crate::words::{answer, answers, entries_of, last, last_two, opened};
 use seq_object::CallId;
-use std::alloc::Global;
+use std::alloc::{AllocError, Global};
+use std::process::Abort;
 use std::sync::atomic::{AtomicU64, Ordering};
 use std::thread;
 use std::thread::Threads;
-use uni_words::{Answer, WordEntry, WordLog, WordObject, WordSeat, WordTally, Words, read_log};
+use uni_words::{Answer, WordEntry, WordLog, WordObject, WordSeat, WordTally, Words};
 
 /// A call of the first seat, and then, once the second one has asked about it, a call of that one, which
 /// closes the log. `None` where one of them has made all its calls, or the second was answered `false`.
@@ -36,36 +37,45 @@ fn one_and_then_the_other<O: WordObject>(
     Some(log.close_with(second))
 }
 
+/// The seat is told this of these calls, one after the other.
+fn follows<O: WordObject>(
+    rt: &impl Abort,
+    log: &WordLog<O>,
+    seat: &mut WordSeat,
+    rows: &[(CallId, bool)],
+)
+    requires { IsSeatOf log.now seat.old }
+    ensures { IsSeatOf log.now seat.new }
+{
+    for row in rows {
+        assert!(rt; seat.follows(log, row.0) == row.1, "{row:?}");
+    }
+}
+
+/// The call of a process with this number.
+fn call(process: u32, nth: u64) -> CallId {
+    CallId { process, nth }
+}
+
 #[test]
 fn calls_are_asked_about(rt: HostRuntime) {
-    let Ok((log, mut seats)) = WordLog::open(rt.alloc(), WordTally, 2, 1) else {
-        panic!(rt; "not opened")
-    };
-    let first = CallId { process: 0, nth: 0 };
-    let second = CallId { process: 1, nth: 0 };
-    assert!(rt; !seats[0].follows(&log, second), "before it is made");
-    assert!(rt; seats[1].apply(&log, 5).is_ok());
-    assert!(rt; seats[0].follows(&log, second), "once it has returned");
-    assert!(rt; seats[0].follows(&log, second), "and again");
-    assert!(rt; seats[1].follows(&log, second), "by its own process");
-    assert!(rt; !seats[0].follows(&log, first), "not made");
-    assert!(rt;
-        !seats[0].follows(&log, CallId { process: 2, nth: 0 }),
-        "no such process"
-    );
-    assert!(rt;
-        !seats[0].follows(&log, CallId { process: 1, nth: 1 }),
-        "no such call"
-    );
-    assert!(rt;
-        seats[0].apply(&log, 3).ok()
-            == Some(Answer {
-                call: first,
-                reply: 5,
-                number: 3,
-                turns: 1
-            })
-    );
+    let (log, mut seats) = opened(&rt, rt.alloc(), WordTally, 2, 1);
+    let (mut first, mut second) = last_two(&rt, &log, &mut seats);
+    follows(&rt, &log, &mut first, &[(call(1, 0), false)]);
+    answers(&rt, &log, &mut second, &[(5, answer(1, 0, 2, 0))]);
+    let rows = [
+        // once it has returned, and again
+        (call(1, 0), true),
+        (call(1, 0), true),
+        // a call that isn't made, one of no process, and one past its process's last
+        (call(0, 0), false),
+        (call(2, 0), false),
+        (call(1, 1), false),
+    ];
+    follows(&rt, &log, &mut first, &rows);
+    // by its own process
+    follows(&rt, &log, &mut second, &[(call(1, 0), true)]);
+    answers(&rt, &log, &mut first, &[(3, answer(0, 0, 3, 5))]);
 }
 
 /// How many threads there are, and how many calls each makes.
@@ -187,44 +197,47 @@ fn count_in_order(entries: &[WordEntry], threads: &[Result<Vec<Pair>, Fault>]) -
     count
 }
 
-/// Runs the threads on a log whose last seat has made a call, and closes it with that seat: how many
-/// pairs are in order. The threads' seats are dropped.
+/// A counter for each thread.
+fn counters(alloc: Global) -> Result<Vec<AtomicU64>, AllocError> {
+    let mut counters = Vec::new(alloc);
+    for _ in 0..THREADS {
+        counters.push(AtomicU64::new(0))?;
+    }
+    Ok(counters)
+}
+
+/// What threads with these seats come to, once another one has made a call; `None` where memory was refused.
 fn run_threads<R: Threads + Sync, O: WordObject + Sync>(
     rt: &R,
     alloc: Global,
-    log: WordLog<O>,
+    log: &WordLog<O>,
+    closer: &mut WordSeat,
     seats: Vec<WordSeat>,
-    returned: &[AtomicU64],
-) -> Option<u64>
-    requires { All (IsSeatOf log) seats.items }
+) -> Option<Vec<Result<Vec<Pair>, Fault>>>
+    requires closer { IsSeatOf log.now closer.old }
+    requires seats { All (IsSeatOf log.now) seats.items }
+    ensures { IsSeatOf log.now closer.new }
 {
-    let mut seats = seats;
-    let mut closer = last(&log, &mut seats)?;
-    let first = closer.apply(&log, 1).ok()?.call;
-    let threads = thread::map_vec(
+    let first = closer.apply(log, 1).ok()?.call;
+    let returned = counters(alloc).ok()?;
+    thread::map_vec(
         rt,
         seats,
         &|seat: WordSeat| -> Result<Vec<Pair>, Fault>
-            requires { IsSeatOf log seat }
-        { ask_by_turns(alloc, &log, seat, first, returned) },
+            requires { IsSeatOf log.now seat }
+        { ask_by_turns(alloc, log, seat, first, &returned) },
     )
-    .ok()?;
-    let words = log.close_with(closer);
-    let entries = read_log(alloc, &words).ok()?;
-    Some(count_in_order(&entries, &threads))
+    .ok()
 }
 
-/// The same of a tally.
-fn run_a_tally<R: Threads + Sync>(rt: &R, alloc: Global) -> Option<u64> {
-    let (log, seats) = WordLog::open(alloc, WordTally, THREADS as u64 + 1, CALLS).ok()?;
-    let mut returned = Vec::new(alloc);
-    for _ in 0..THREADS {
-        returned.push(AtomicU64::new(0)).ok()?;
-    }
-    run_threads(rt, alloc, log, seats, &returned)
-}
-
+/// The threads' seats are dropped.
 #[test]
 fn eight_threads_ask_about_each_others_calls(rt: HostRuntime) {
-    assert!(rt; run_a_tally(&rt, rt.alloc()) == Some(10_000));
+    let (log, mut seats) = opened(&rt, rt.alloc(), WordTally, THREADS as u64 + 1, CALLS);
+    let mut closer = last(&rt, &log, &mut seats);
+    let Some(threads) = run_threads(&rt, rt.alloc(), &log, &mut closer, seats) else {
+        panic!(rt; "out of memory")
+    };
+    let entries = entries_of(&rt, rt.alloc(), log, closer);
+    assert!(rt; count_in_order(&entries, &threads) == 10_000);
 }

@@ -1,8 +1,9 @@
 //! Calls that are made again in the order that their replies tell.
 
-ghost use Rattle.std.specs.Prelude.{◌≡◌, All, IfSome, length};
+ghost use Rattle.std.specs.Prelude.{◌≡◌};
 ghost use Rattle.uni_small.specs.Belongs.{IsSeatOf, invocation_width_of, reply_width_of};
 
+use crate::small::{last_two, opened};
 use seq_object::CallId;
 use small_objects::{
     InPlace, MapCall, MapReply, Placed, ReplayFault, SmallCounter, SmallMap, Words, replay,
@@ -41,9 +42,7 @@ fn made(
 
 #[test]
 fn a_counter_tells_places(rt: HostRuntime) {
-    let Ok((shared, mut seats)) = SmallShared::open(rt.alloc(), Placed::new(SmallCounter), 2) else {
-        panic!(rt; "not opened")
-    };
+    let (shared, mut seats) = opened(&rt, rt.alloc(), Placed::new(SmallCounter), 2);
     assert!(rt; made(&rt, &shared, &mut seats[0], 5) == told(5, 0, 0));
     assert!(rt; made(&rt, &shared, &mut seats[1], 3) == told(3, 1, 5));
     assert!(rt; made(&rt, &shared, &mut seats[0], 1) == told(1, 2, 8));
@@ -81,8 +80,8 @@ fn what_is_replayed(rt: HostRuntime) {
 /// A map that tells places.
 type PlacedMap = Placed<SmallMap>;
 
-/// A seat of a map that tells places, and its calls, each with what it was told.
-type Done = (SmallSeat<PlacedMap>, Vec<(MapCall, InPlace<MapReply>)>);
+/// Calls of a map, each with what it was told.
+type Calls = Vec<(MapCall, InPlace<MapReply>)>;
 
 /// How many calls each thread makes.
 const CALLS: u64 = 5_000;
@@ -103,11 +102,10 @@ fn calls(
     shared: &SmallShared<PlacedMap>,
     mut seat: SmallSeat<PlacedMap>,
     seed: u64,
-) -> Done
+) -> Calls
     requires seat { IsSeatOf shared.now seat }
     requires call { invocation_width_of shared.now ≡ 3 }
     requires reply { reply_width_of shared.now ≡ 3 }
-    ensures { IsSeatOf shared.now result.0 }
 {
     let mut all = Vec::new(alloc);
     let (mut invocation, mut reply) = ([0; 3], [0; 3]);
@@ -126,21 +124,7 @@ fn calls(
             let _ = all.push((call, told));
         }
     }
-    (seat, all)
-}
-
-/// The last two seats.
-fn last_two(
-    shared: &SmallShared<PlacedMap>,
-    mut seats: Vec<SmallSeat<PlacedMap>>,
-) -> Option<(SmallSeat<PlacedMap>, SmallSeat<PlacedMap>)>
-    requires { All (IsSeatOf shared.now) seats.items }
-    ensures { IfSome result (λ two. IsSeatOf shared.now two.0 × IsSeatOf shared.now two.1) }
-{
-    match (seats.pop(), seats.pop()) {
-        (Some(second), Some(first)) => Some((first, second)),
-        _ => None,
-    }
+    all
 }
 
 /// Two threads make their calls.
@@ -149,7 +133,7 @@ fn in_two_threads<R: Threads + Sync>(
     alloc: Global,
     shared: &SmallShared<PlacedMap>,
     seats: (SmallSeat<PlacedMap>, SmallSeat<PlacedMap>),
-) -> (Done, Done)
+) -> (Calls, Calls)
     requires seats { IsSeatOf shared.now seats.0 × IsSeatOf shared.now seats.1 }
     requires wide { (invocation_width_of shared.now ≡ 3) × (reply_width_of shared.now ≡ 3) }
 {
@@ -161,25 +145,30 @@ fn in_two_threads<R: Threads + Sync>(
     )
 }
 
-/// Whether the calls of two threads on a map of eight pairs are replayed; `None` where memory was refused.
-fn map_in_two_threads<R: Threads + Abort + Sync>(rt: &R, alloc: Global) -> Option<bool> {
-    let map = SmallMap { capacity: 8 };
-    let (shared, seats) = SmallShared::open(alloc, Placed::new(map), 2).ok()?;
+/// A map of eight pairs.
+const MAP: SmallMap = SmallMap { capacity: 8 };
+
+/// The calls of two threads on a map, which is closed then; its last state is written.
+fn calls_and_state<R: Threads + Abort + Sync>(
+    rt: &R,
+    alloc: Global,
+    state: &mut [u64],
+) -> (Calls, Calls) {
+    let (shared, mut seats) = opened(rt, alloc, Placed::new(MAP), 2);
     assert!(rt; shared.invocation_width() == 3);
     assert!(rt; shared.reply_width() == 3);
-    assert!(rt; shared.width() == 18);
-    let pair = last_two(&shared, seats)?;
-    let (first, second) = in_two_threads(rt, alloc, &shared, pair);
-    let (_, first) = first;
-    let (_, second) = second;
-    assert!(rt; first.len() as u64 == CALLS && second.len() as u64 == CALLS);
-    let mut last = [0; 18];
-    shared.close(&mut last);
-    assert!(rt; last[0] == 2 * CALLS);
-    Some(replay(alloc, &map, &[first, second], &last[1..]).is_ok())
+    assert!(rt; shared.width() == state.len() as u64);
+    let pair = last_two(rt, &shared, &mut seats);
+    let calls = in_two_threads(rt, alloc, &shared, pair);
+    shared.close(state);
+    calls
 }
 
 #[test]
 fn two_threads_on_a_map(rt: HostRuntime) {
-    assert!(rt; map_in_two_threads(&rt, rt.alloc()) == Some(true));
+    let mut state = [0; 18];
+    let (first, second) = calls_and_state(&rt, rt.alloc(), &mut state);
+    assert!(rt; first.len() as u64 == CALLS && second.len() as u64 == CALLS);
+    assert!(rt; state[0] == 2 * CALLS);
+    assert!(rt; replay(rt.alloc(), &MAP, &[first, second], &state[1..]).is_ok());
 }

@@ -1,11 +1,13 @@
 //! Calls of four threads at the same time, on a queue.
 
-ghost use Rattle.std.specs.Prelude.{◌≡◌, All, IfSome, length};
+ghost use Rattle.std.specs.Prelude.{◌≡◌, length};
 ghost use Rattle.uni_small.specs.Belongs.{IsSeatOf, invocation_width_of, reply_width_of, width_of};
 
+use crate::small::{last_two, opened};
 use small_objects::SmallQueue;
 use std::alloc::Global;
 use std::process::Abort;
+use std::test::Fail;
 use std::thread::{Threads, join};
 use uni_small::{SmallSeat, SmallShared};
 
@@ -142,69 +144,63 @@ fn unmark_left(marks: &mut [bool], state: &[u64]) -> bool {
     true
 }
 
-/// The last two seats.
-fn last_two(
-    shared: &SmallShared<SmallQueue>,
-    seats: &mut Vec<SmallSeat<SmallQueue>>,
-) -> Option<(SmallSeat<SmallQueue>, SmallSeat<SmallQueue>)>
-    requires { All (IsSeatOf shared.now) seats.old.items }
-    ensures rest { All (IsSeatOf shared.now) seats.new.items }
-    ensures two { IfSome result (λ two. IsSeatOf shared.now two.0 × IsSeatOf shared.now two.1) }
+/// The replies that four threads are given on the queue, which is closed then with the seat of the first one; its
+/// state is written.
+fn replies_of<R: Threads + Sync>(
+    rt: &R,
+    alloc: Global,
+    shared: SmallShared<SmallQueue>,
+    first: (SmallSeat<SmallQueue>, SmallSeat<SmallQueue>),
+    second: (SmallSeat<SmallQueue>, SmallSeat<SmallQueue>),
+    state: &mut [u64],
+) -> [Vec<u64>; 4]
+    requires first { IsSeatOf shared first.0 × IsSeatOf shared first.1 }
+    requires second { IsSeatOf shared second.0 × IsSeatOf shared second.1 }
+    requires wide { (invocation_width_of shared ≡ 1) × (reply_width_of shared ≡ 1) }
+    requires state { length state.old ≡ width_of shared }
 {
-    let second = last(shared, seats)?;
-    let first = last(shared, seats)?;
-    Some((first, second))
+    let ((a, b), (c, d)) = in_four_threads(rt, alloc, &shared, first, second);
+    shared.close_with(a.0, state);
+    [a.1, b.1, c.1, d.1]
 }
 
-/// The last seat.
-fn last(
-    shared: &SmallShared<SmallQueue>,
-    seats: &mut Vec<SmallSeat<SmallQueue>>,
-) -> Option<SmallSeat<SmallQueue>>
-    requires { All (IsSeatOf shared.now) seats.old.items }
-    ensures rest { All (IsSeatOf shared.now) seats.new.items }
-    ensures last { IfSome result (IsSeatOf shared.now) }
-{
-    seats.pop()
-}
-
-/// Closes the queue with a seat, and writes its state: whether that has as many words.
-fn closed(shared: SmallShared<SmallQueue>, seat: SmallSeat<SmallQueue>, state: &mut [u64]) -> bool
-    requires { IsSeatOf shared seat }
-{
-    if shared.width() != state.len() as u64 {
-        return false;
-    }
-    shared.close_with(seat, state);
-    true
-}
-
-/// Whether each value that went into the queue came out once, or is left; `None` where memory was refused.
-fn queue_in_four_threads<R: Threads + Abort + Sync>(rt: &R, alloc: Global) -> Option<bool> {
-    let (shared, mut seats) = SmallShared::open(alloc, SmallQueue { capacity: 64 }, 4).ok()?;
+/// The same of a new queue.
+fn replies_and_state<R: Threads + Abort + Sync>(
+    rt: &R,
+    alloc: Global,
+    state: &mut [u64],
+) -> [Vec<u64>; 4] {
+    let (shared, mut seats) = opened(rt, alloc, SmallQueue { capacity: 64 }, 4);
     assert!(rt; shared.invocation_width() == 1);
     assert!(rt; shared.reply_width() == 1);
-    let second = last_two(&shared, &mut seats)?;
-    let first = last_two(&shared, &mut seats)?;
-    let ((a, b), (c, d)) = in_four_threads(rt, alloc, &shared, first, second);
-    let mut marks = vec![in alloc; true; 1 + 4 * VALUES as usize].ok()?;
-    marks[0] = false;
-    let mut from = 1;
-    for done in [&a.1, &b.1, &c.1, &d.1] {
-        assert!(rt; done.len() as u64 == 2 * VALUES);
-        unmark_refused(&mut marks, from, done);
-        from = VALUES.wrapping_add(from);
-    }
-    for done in [&a.1, &b.1, &c.1, &d.1] {
-        assert!(rt; unmark_taken(&mut marks, done));
-    }
-    let mut state = [0; 65];
-    assert!(rt; closed(shared, a.0, &mut state));
-    assert!(rt; unmark_left(&mut marks, &state));
-    Some(!marks.contains(&true))
+    assert!(rt; shared.width() == state.len() as u64);
+    let second = last_two(rt, &shared, &mut seats);
+    let first = last_two(rt, &shared, &mut seats);
+    replies_of(rt, alloc, shared, first, second, state)
 }
 
+/// Unmarks 0, and the values whose puts were answered 0.
+fn unmark_all_refused(rt: &impl Abort, marks: &mut [bool], all: &[Vec<u64>]) {
+    unmark(marks, 0);
+    let mut from = 1u64;
+    for replies in all {
+        assert!(rt; replies.len() as u64 == 2 * VALUES);
+        unmark_refused(marks, from, replies);
+        from = from.wrapping_add(VALUES);
+    }
+}
+
+/// Each value that went into the queue came out once, or is left.
 #[test]
-fn four_threads_on_a_queue(rt: HostRuntime) {
-    assert!(rt; queue_in_four_threads(&rt, rt.alloc()) == Some(true));
+fn four_threads_on_a_queue(rt: HostRuntime) -> Result<(), Fail> {
+    let mut state = [0; 65];
+    let all = replies_and_state(&rt, rt.alloc(), &mut state);
+    let mut marks = vec![in rt.alloc(); true; 1 + 4 * VALUES as usize]?;
+    unmark_all_refused(&rt, &mut marks, &all);
+    for replies in all.iter() {
+        assert!(rt; unmark_taken(&mut marks, replies));
+    }
+    assert!(rt; unmark_left(&mut marks, &state));
+    assert!(rt; !marks.contains(&true));
+    Ok(())
 }
