@@ -1,11 +1,12 @@
 //! What is done with a world of a register, and what has to come of it: the rows of which the tests of worlds and of
 //! their logs are made.
 
+ghost use Rattle.std.specs.Prelude.{◌≤◌};
+
 use cell_arena::CellId;
 use seq_object::{CallId, SwapRegister};
 use std::alloc::{AllocError, Global};
 use std::process::Abort;
-use std::test::Fail;
 use uni_core::{BeginFault, Place, Progress, StepKind, World};
 use uni_log::Log;
 
@@ -167,9 +168,12 @@ fn has_one_entry(
 
 /// Whether the cell at a place has this index; `None` where there is none there.
 fn is_at(cells: Result<Vec<CellId>, AllocError>, place: u64, index: Option<u32>) -> bool {
-    match cells {
-        Ok(cells) => cells.get(place as usize).map(|cell| cell.index()) == index,
-        Err(_) => false,
+    let Ok(cells) = cells else {
+        return false;
+    };
+    match cells.get(place as usize) {
+        Some(cell) => Some(cell.index()) == index,
+        None => index.is_none(),
     }
 }
 
@@ -239,21 +243,31 @@ pub(crate) fn does_all(
 }
 
 /// A world of so many processes with rows of so many cells.
-pub(crate) fn opened(alloc: Global, n: u64, k: u64) -> Result<World<SwapRegister>, Fail> {
-    World::open(alloc, SwapRegister { start: 0 }, n, k).map_err(|_| Fail::from(
-        "no world was opened",
-    ))
+pub(crate) fn opened(rt: &impl Abort, alloc: Global, n: u64, k: u64) -> World<SwapRegister> {
+    let Ok(world) = World::open(alloc, SwapRegister { start: 0 }, n, k) else {
+        panic!(rt; "no world was opened")
+    };
+    world
 }
 
-/// Does these, one after the other, with a new world, which `opened` opens.
-pub(crate) fn plays(
+/// The same, with this start state and this number of the anchor.
+pub(crate) fn opened_at(
     rt: &impl Abort,
     alloc: Global,
     n: u64,
     k: u64,
-    acts: &[Act],
-) -> Result<(), Fail> {
-    let mut world = opened(alloc, n, k)?;
-    does_all(rt, alloc, &mut world, acts);
-    Ok(())
+    state: u32,
+    seq: u64,
+) -> World<SwapRegister>
+    requires { 1 ≤ seq }
+{
+    let Ok(world) = World::open_at(alloc, SwapRegister { start: 0 }, n, k, state, seq) else {
+        panic!(rt; "no world was opened")
+    };
+    world
+}
+
+/// Does these, one after the other, with a new world, which `opened` opens.
+pub(crate) fn plays(rt: &impl Abort, alloc: Global, n: u64, k: u64, acts: &[Act]) {
+    does_all(rt, alloc, &mut opened(rt, alloc, n, k), acts);
 }

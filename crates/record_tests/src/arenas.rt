@@ -17,6 +17,14 @@ type Fields = (
     Option<(u64, Option<u8>)>,
 );
 
+/// The index of a cell, where there is one.
+fn index_of(cell: Option<CellId>) -> Option<u32> {
+    match cell {
+        Some(cell) => Some(cell.index()),
+        None => None,
+    }
+}
+
 /// Reads each field of a cell.
 fn fields<C: Cells<Inv = u32, State = u64, Resp = u8>>(arena: &C, id: CellId) -> Fields
     requires { IsSome (C.cell arena.now id) }
@@ -24,8 +32,8 @@ fn fields<C: Cells<Inv = u32, State = u64, Resp = u8>>(arena: &C, id: CellId) ->
     (
         arena.seq(id),
         arena.inv(id).copied(),
-        arena.before(id).map(|before| before.index()),
-        arena.after(id).map(|after| after.index()),
+        index_of(arena.before(id)),
+        index_of(arena.after(id)),
         arena.new_of(id).copied(),
     )
 }

@@ -4,10 +4,8 @@ use crate::seat_calls::{Stops, enqueues, has_added, last, queue, resumes};
 use cell_arena::CellId;
 use ready_objects::QueueObject;
 use std::alloc::Global;
-use std::process::Abort;
 use std::sync::atomic::{AtomicU64, Ordering};
 use std::sync::{Mutex, Wait};
-use std::test::Fail;
 use uni_core::Place;
 use uni_shared::{ApplyFault, Gate, GaveUp, NoGate, Seat, Shared};
 
@@ -74,10 +72,10 @@ fn places_of(mine: CellId) -> [Place; 16] {
 }
 
 #[test]
-fn a_gate_is_told_of_each_step(rt: HostRuntime) -> Result<(), Fail> {
+fn a_gate_is_told_of_each_step(rt: HostRuntime) {
     let alloc = rt.alloc();
-    let (shared, mut seats) = queue(alloc, 2, 8)?;
-    let mut seat = last(&mut seats)?;
+    let (shared, mut seats) = queue(&rt, alloc, 2, 8);
+    let mut seat = last(&rt, &mut seats);
     let places = places_of(CellId::of(2, 1, 0));
     let (before, after) = places.split_at(9);
     let gate = Told::of(before);
@@ -87,7 +85,6 @@ fn a_gate_is_told_of_each_step(rt: HostRuntime) -> Result<(), Fail> {
     let gate = Told::of(after);
     assert!(rt; seat.resume(&rt, alloc, &shared, &gate).is_ok());
     assert!(rt; gate.of_each() && has_added(&seat, 1, 0, 7, 16, 1));
-    Ok(())
 }
 
 /// Before the step after fourteen, has process 0 end its call, and begin another one that it announces.
@@ -116,11 +113,11 @@ impl<R: Wait> Gate for Beside<'_, R> {
 }
 
 #[test]
-fn a_call_takes_all_its_steps(rt: HostRuntime) -> Result<(), Fail> {
+fn a_call_takes_all_its_steps(rt: HostRuntime) {
     let alloc = rt.alloc();
-    let (shared, mut seats) = queue(alloc, 2, 8)?;
-    let mut second = last(&mut seats)?;
-    let mut first = last(&mut seats)?;
+    let (shared, mut seats) = queue(&rt, alloc, 2, 8);
+    let mut second = last(&rt, &mut seats);
+    let mut first = last(&rt, &mut seats);
     let stops = Stops::after(10);
     assert!(rt; enqueues(&rt, alloc, &shared, &mut first, 10, &stops) == Some(ApplyFault::GaveUp));
     let gate = Beside {
@@ -133,5 +130,4 @@ fn a_call_takes_all_its_steps(rt: HostRuntime) -> Result<(), Fail> {
     assert!(rt; enqueues(&rt, alloc, &shared, &mut second, 30, &gate).is_none());
     // with two processes a call takes 32 steps at most
     assert!(rt; has_added(&second, 1, 0, 30, 32, 3));
-    Ok(())
 }

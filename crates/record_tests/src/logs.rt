@@ -1,12 +1,9 @@
 //! Logs, where no script says it: the places of calls, states and cells, and numbers that begin higher.
 
-use crate::acts::{Act, Fact, call, does_all, plays};
-use seq_object::SwapRegister;
-use std::test::Fail;
-use uni_core::World;
+use crate::acts::{Act, Fact, call, does_all, opened_at, plays};
 
 #[test]
-fn calls_states_and_cells_lie_along_the_list(rt: HostRuntime) -> Result<(), Fail> {
+fn calls_states_and_cells_lie_along_the_list(rt: HostRuntime) {
     let acts = [
         Act::Begins(call(0, 0), 10),
         Act::Goes(0, 10),
@@ -32,11 +29,11 @@ fn calls_states_and_cells_lie_along_the_list(rt: HostRuntime) -> Result<(), Fail
         Act::Shows(Fact::Cells(3, Some(2), Some(0))),
         Act::Shows(Fact::Cells(4, None, None)),
     ];
-    plays(&rt, rt.alloc(), 2, 8, &acts)
+    plays(&rt, rt.alloc(), 2, 8, &acts);
 }
 
 #[test]
-fn a_linked_call_has_no_state_yet(rt: HostRuntime) -> Result<(), Fail> {
+fn a_linked_call_has_no_state_yet(rt: HostRuntime) {
     let acts = [
         Act::Shows(Fact::Cells(0, Some(0), Some(0))),
         Act::Shows(Fact::Cells(1, None, None)),
@@ -48,19 +45,16 @@ fn a_linked_call_has_no_state_yet(rt: HostRuntime) -> Result<(), Fail> {
         Act::Shows(Fact::State(1, Some(7))),
         Act::Shows(Fact::State(2, None)),
     ];
-    plays(&rt, rt.alloc(), 1, 8, &acts)
+    plays(&rt, rt.alloc(), 1, 8, &acts);
 }
 
 #[test]
-fn numbers_go_on_from_the_anchors(rt: HostRuntime) -> Result<(), Fail> {
+fn numbers_go_on_from_the_anchors(rt: HostRuntime) {
     let acts = [
         Act::Begins(call(0, 0), 7),
         Act::Ends(0, 9),
         Act::Shows(Fact::OneEntry(6, call(0, 0), 9)),
     ];
-    let mut world = World::open_at(rt.alloc(), SwapRegister { start: 0 }, 1, 1, 9, 5).map_err(
-        |_| Fail::from("no world was opened"),
-    )?;
+    let mut world = opened_at(&rt, rt.alloc(), 1, 1, 9, 5);
     does_all(&rt, rt.alloc(), &mut world, &acts);
-    Ok(())
 }

@@ -18,7 +18,11 @@ use uni_record::{
 };
 
 /// The reply with which a process ends its pending call.
-fn finishes<O: SeqObject>(alloc: Global, recorded: &mut Recorded<O>, p: u64) -> Option<O::Resp> {
+pub(crate) fn finishes<O: SeqObject>(
+    alloc: Global,
+    recorded: &mut Recorded<O>,
+    p: u64,
+) -> Option<O::Resp> {
     for _ in 0..1000 {
         match recorded.step(alloc, p) {
             Ok(Progress::Going) => {}
@@ -31,12 +35,28 @@ fn finishes<O: SeqObject>(alloc: Global, recorded: &mut Recorded<O>, p: u64) -> 
 
 /// A record of a queue that so many processes share, with rows of so many calls and so many events.
 pub(crate) fn record_of_queue(
+    rt: &impl Abort,
     alloc: Global,
     n: u64,
     k: u64,
     h: u64,
-) -> Result<Recorded<QueueObject>, Fail> {
-    Recorded::open(alloc, QueueObject, n, k, h).map_err(|_| Fail::from("no record was opened"))
+) -> Recorded<QueueObject> {
+    let Ok(recorded) = Recorded::open(alloc, QueueObject, n, k, h) else {
+        panic!(rt; "no record was opened")
+    };
+    recorded
+}
+
+/// The entries of a record.
+pub(crate) fn entries_of(
+    rt: &impl Abort,
+    alloc: Global,
+    recorded: &Recorded<QueueObject>,
+) -> Vec<Entry<QueueInv, QueueResp>> {
+    let Ok(entries) = recorded.entries(alloc) else {
+        panic!(rt; "out of memory")
+    };
+    entries
 }
 
 /// Why no record of so many events is opened from this number, if none is.
@@ -69,24 +89,8 @@ fn what_cannot_be_opened_is_refused_in_order(rt: HostRuntime) {
     assert!(rt; refused_at(alloc, 281_474_976_710_647, 1) == None);
 }
 
-/// Whether the first call of process 0 enqueues 7.
-fn enqueues(alloc: Global, recorded: &mut Recorded<QueueObject>) -> bool {
-    recorded.begin(alloc, 0, &enq(7)) == Ok(call(0, 0))
-        && finishes(alloc, recorded, 0) == Some(QueueResp::Added)
-}
-
-/// A record of one process that has enqueued 7.
-fn enqueued(alloc: Global) -> Result<Recorded<QueueObject>, Fail> {
-    let mut recorded = record_of_queue(alloc, 1, 8, 100)?;
-    if enqueues(alloc, &mut recorded) {
-        Ok(recorded)
-    } else {
-        Err(Fail::from("the call should have been made"))
-    }
-}
-
-/// What `a_call_is_stored_event_by_event` looks at.
-fn a_call_is_stored_event_by_event_in(rt: &impl Abort, recorded: &Recorded<QueueObject>) {
+/// What is stored of a call of process 0, which enqueues 7.
+fn is_stored(rt: &impl Abort, recorded: &Recorded<QueueObject>) {
     assert!(rt; recorded.events().len() == 15);
     assert!(rt; recorded.events().next() == Some(Event::Call(0, enq(7)).as_ref()));
     assert!(rt; recorded.events().last() == Some(Event::Step(0).as_ref()));
@@ -104,10 +108,11 @@ fn a_call_is_stored_event_by_event_in(rt: &impl Abort, recorded: &Recorded<Queue
 }
 
 #[test]
-fn a_call_is_stored_event_by_event(rt: HostRuntime) -> Result<(), Fail> {
-    let recorded = enqueued(rt.alloc())?;
-    a_call_is_stored_event_by_event_in(&rt, &recorded);
-    Ok(())
+fn a_call_is_stored_event_by_event(rt: HostRuntime) {
+    let mut recorded = record_of_queue(&rt, rt.alloc(), 1, 8, 100);
+    assert!(rt; recorded.begin(rt.alloc(), 0, &enq(7)) == Ok(call(0, 0)));
+    assert!(rt; finishes(rt.alloc(), &mut recorded, 0) == Some(QueueResp::Added));
+    is_stored(&rt, &recorded);
 }
 
 /// Whether a record that is given these commands answers these.
@@ -131,8 +136,8 @@ fn runs(
     commands: &[Command<QueueInv>],
     told: &[Outcome<QueueResp>],
     stored: usize,
-) -> Result<(), Fail> {
-    let mut recorded = record_of_queue(alloc, n, k, h)?;
+) {
+    let mut recorded = record_of_queue(rt, alloc, n, k, h);
     assert!(rt;
         answers(alloc, &mut recorded, commands, told),
         "other outcomes"
@@ -142,11 +147,10 @@ fn runs(
         recorded.events().size_hint() == (stored, Some(stored)),
         "another hint"
     );
-    Ok(())
 }
 
 #[test]
-fn refused_commands_are_not_stored(rt: HostRuntime) -> Result<(), Fail> {
+fn refused_commands_are_not_stored(rt: HostRuntime) {
     let commands = [
         Command::Call(1, enq(5)),
         Command::Step(0),
@@ -161,11 +165,11 @@ fn refused_commands_are_not_stored(rt: HostRuntime) -> Result<(), Fail> {
         Outcome::Refused(Refusal::Pending(1)),
         Outcome::Refused(Refusal::BadCount),
     ];
-    runs(&rt, rt.alloc(), (2, 8, 1000), &commands, &told, 1)
+    runs(&rt, rt.alloc(), (2, 8, 1000), &commands, &told, 1);
 }
 
 #[test]
-fn a_run_of_commands_ends_eras(rt: HostRuntime) -> Result<(), Fail> {
+fn a_run_of_commands_ends_eras(rt: HostRuntime) {
     let commands = [
         Command::Trim,
         Command::Reshape(3),
@@ -180,7 +184,7 @@ fn a_run_of_commands_ends_eras(rt: HostRuntime) -> Result<(), Fail> {
         Outcome::Reshaped(1, 1),
         Outcome::Refused(Refusal::HistoryFull),
     ];
-    runs(&rt, rt.alloc(), (1, 8, 23), &commands, &told, 3)
+    runs(&rt, rt.alloc(), (1, 8, 23), &commands, &told, 3);
 }
 
 /// A command and so many steps of a process, at the end of others.
@@ -235,7 +239,7 @@ fn the_entries_of_ended_eras_are_kept_in(
 
 #[test]
 fn the_entries_of_ended_eras_are_kept(rt: HostRuntime) -> Result<(), Fail> {
-    let mut recorded = record_of_queue(rt.alloc(), 2, 8, 1000)?;
+    let mut recorded = record_of_queue(&rt, rt.alloc(), 2, 8, 1000);
     the_entries_of_ended_eras_are_kept_in(&rt, rt.alloc(), &mut recorded)?;
     Ok(())
 }
@@ -255,12 +259,11 @@ fn numbers_that_would_pass_the_greatest_are_refused_in(
 }
 
 #[test]
-fn numbers_that_would_pass_the_greatest_are_refused(rt: HostRuntime) -> Result<(), Fail> {
-    let alloc = rt.alloc();
+fn numbers_that_would_pass_the_greatest_are_refused(rt: HostRuntime) {
     let object = SwapRegister { start: 5 };
-    let mut recorded = Recorded::open_at(alloc, object, 2, 4, 281_474_976_710_647, 1000).map_err(
-        |_| Fail::from("no record was opened"),
-    )?;
-    numbers_that_would_pass_the_greatest_are_refused_in(&rt, alloc, &mut recorded);
-    Ok(())
+    let opened = Recorded::open_at(rt.alloc(), object, 2, 4, 281_474_976_710_647, 1000);
+    let Ok(mut recorded) = opened else {
+        panic!(rt; "no record was opened")
+    };
+    numbers_that_would_pass_the_greatest_are_refused_in(&rt, rt.alloc(), &mut recorded);
 }

@@ -3,9 +3,9 @@
 use ready_objects::{Amount, QueueInv, QueueObject, QueueResp};
 use seq_object::CallId;
 use std::alloc::Global;
+use std::process::Abort;
 use std::sync::Wait;
 use std::sync::atomic::{AtomicU64, Ordering};
-use std::test::Fail;
 use uni_core::Place;
 use uni_shared::{ApplyFault, Closed, Gate, GaveUp, NoGate, Receipt, Seat, Shared};
 
@@ -13,44 +13,46 @@ use uni_shared::{ApplyFault, Closed, Gate, GaveUp, NoGate, Receipt, Seat, Shared
 pub(crate) type Opened = (Shared<QueueObject>, Vec<Seat<QueueObject>>);
 
 /// A queue that so many processes share under a lock, with rows of so many calls and so many events.
-pub(crate) fn queue_of_events(alloc: Global, n: u64, k: u64, h: u64) -> Result<Opened, Fail> {
-    match Shared::open(alloc, QueueObject, n, k, h) {
-        Ok(opened) => Ok(opened),
-        Err(_) => Err(Fail::from("nothing was opened")),
-    }
+pub(crate) fn queue_of_events(rt: &impl Abort, alloc: Global, n: u64, k: u64, h: u64) -> Opened {
+    let Ok(opened) = Shared::open(alloc, QueueObject, n, k, h) else {
+        panic!(rt; "nothing was opened")
+    };
+    opened
 }
 
 /// A queue that so many processes share under a lock, with rows of so many calls and 1,000 events.
-pub(crate) fn queue(alloc: Global, n: u64, k: u64) -> Result<Opened, Fail> {
-    queue_of_events(alloc, n, k, 1000)
+pub(crate) fn queue(rt: &impl Abort, alloc: Global, n: u64, k: u64) -> Opened {
+    queue_of_events(rt, alloc, n, k, 1000)
 }
 
 /// A queue of one process under a lock, with rows of so many calls, and its seat.
 pub(crate) fn queue_of_one(
+    rt: &impl Abort,
     alloc: Global,
     k: u64,
-) -> Result<(Shared<QueueObject>, Seat<QueueObject>), Fail> {
-    let (shared, mut seats) = queue(alloc, 1, k)?;
-    let seat = last(&mut seats)?;
-    Ok((shared, seat))
+) -> (Shared<QueueObject>, Seat<QueueObject>) {
+    let (shared, mut seats) = queue(rt, alloc, 1, k);
+    (shared, last(rt, &mut seats))
 }
 
 /// The last seat, taken out.
-pub(crate) fn last(seats: &mut Vec<Seat<QueueObject>>) -> Result<Seat<QueueObject>, Fail> {
-    match seats.pop() {
-        Some(seat) => Ok(seat),
-        None => Err(Fail::from("there should be one more seat")),
-    }
+pub(crate) fn last(rt: &impl Abort, seats: &mut Vec<Seat<QueueObject>>) -> Seat<QueueObject> {
+    let Some(seat) = seats.pop() else {
+        panic!(rt; "there should be one more seat")
+    };
+    seat
 }
 
-/// A list of one seat.
-pub(crate) fn alone(
+/// A list of these seats.
+pub(crate) fn listed<const N: usize>(
+    rt: &impl Abort,
     alloc: Global,
-    seat: Seat<QueueObject>,
-) -> Result<Vec<Seat<QueueObject>>, Fail> {
-    let mut seats = Vec::new(alloc);
-    seats.push(seat)?;
-    Ok(seats)
+    seats: [Seat<QueueObject>; N],
+) -> Vec<Seat<QueueObject>> {
+    let Ok(list) = Vec::from_array(alloc, seats) else {
+        panic!(rt; "out of memory")
+    };
+    list
 }
 
 /// A number.
@@ -155,12 +157,13 @@ pub(crate) fn receipts_of(closed: &Closed<QueueObject>, p: u64) -> &[Receipt<Que
 
 /// What was closed.
 pub(crate) fn closed(
+    rt: &impl Abort,
     alloc: Global,
     shared: Shared<QueueObject>,
     seats: Vec<Seat<QueueObject>>,
-) -> Result<Closed<QueueObject>, Fail> {
-    match shared.close(alloc, seats) {
-        Ok(closed) => Ok(closed),
-        Err(_) => Err(Fail::from("it should have been closed")),
-    }
+) -> Closed<QueueObject> {
+    let Ok(closed) = shared.close(alloc, seats) else {
+        panic!(rt; "it should have been closed")
+    };
+    closed
 }

@@ -1,15 +1,14 @@
 //! Two threads over one record: what the lock lets happen between the steps of a call.
 
-use crate::records::record_of_queue;
+use crate::records::{entries_of, finishes, record_of_queue};
 use crate::seat_calls::{
-    Stops, alone, amount, calls, closed, enq, enqueues, last, queue, receipts_of, resumes,
+    Stops, amount, calls, closed, enq, enqueues, last, listed, queue, receipts_of, resumes,
 };
 use ready_objects::{QueueInv, QueueObject, QueueResp};
-use std::alloc::{AllocError, Global};
+use std::alloc::Global;
 use std::process::Abort;
 use std::sync::Wait;
 use std::sync::atomic::{AtomicU64, Ordering};
-use std::test::Fail;
 use std::thread::{Threads, join};
 use uni_core::{Place, Progress};
 use uni_log::Entry;
@@ -70,140 +69,86 @@ impl Gate for Between {
     }
 }
 
-/// Process 0's one call.
-fn makes_one<R: Wait>(
+/// The seat of process 0 after its one call.
+fn makes_one<R: Wait + Abort>(
     rt: &R,
     alloc: Global,
     shared: &Shared<QueueObject>,
     mut seat: Seat<QueueObject>,
     inv: QueueInv,
     gate: &Between,
-) -> (Seat<QueueObject>, bool) {
-    let made = calls(rt, alloc, shared, &mut seat, inv, gate).is_none();
-    (seat, made)
+) -> Seat<QueueObject> {
+    assert!(rt; calls(rt, alloc, shared, &mut seat, inv, gate).is_none());
+    seat
 }
 
-/// Process 1's two calls, once process 0 stands before the step in question.
-fn makes_two<R: Wait>(
+/// The seat of process 1 after its two calls, once process 0 stands before the step in question.
+fn makes_two<R: Wait + Abort>(
     rt: &R,
     alloc: Global,
     shared: &Shared<QueueObject>,
     mut seat: Seat<QueueObject>,
     inv: QueueInv,
     gate: &Between,
-) -> (Seat<QueueObject>, bool) {
-    if !is_raised(&gate.stands) {
-        return (seat, false);
+) -> Seat<QueueObject> {
+    assert!(rt; is_raised(&gate.stands));
+    for inv in [inv, QueueInv::Deq] {
+        assert!(rt; calls(rt, alloc, shared, &mut seat, inv, gate).is_none());
     }
-    let first = calls(rt, alloc, shared, &mut seat, inv, gate).is_none();
-    let second = calls(rt, alloc, shared, &mut seat, QueueInv::Deq, gate).is_none();
     gate.made.store(1, Ordering::SeqCst);
-    (seat, first && second)
-}
-
-/// The two seats of a queue of two processes.
-fn two_seats(
-    alloc: Global,
-) -> Result<(Shared<QueueObject>, Seat<QueueObject>, Seat<QueueObject>), Fail> {
-    let (shared, mut seats) = queue(alloc, 2, 2)?;
-    let second = last(&mut seats)?;
-    let first = last(&mut seats)?;
-    Ok((shared, first, second))
-}
-
-/// Process 0 makes a call in one thread, and process 1 makes two in another: their seats, once all
-/// calls have ended.
-fn meet<R: Threads + Wait + Sync>(
-    rt: &R,
-    alloc: Global,
-    shared: &Shared<QueueObject>,
-    (first, second): (Seat<QueueObject>, Seat<QueueObject>),
-    gate: &Between,
-) -> Result<(Seat<QueueObject>, Seat<QueueObject>), Fail> {
-    let ten = enq(10);
-    let one = enq(1);
-    let ((first, is_made), (second, are_made)) = join(
-        rt,
-        move || makes_one(rt, alloc, shared, first, ten, gate),
-        move || makes_two(rt, alloc, shared, second, one, gate),
-    );
-    if is_made && are_made {
-        Ok((first, second))
-    } else {
-        Err(Fail::from("the calls should have ended"))
-    }
-}
-
-/// What two seats close.
-fn closed_by_two(
-    alloc: Global,
-    shared: Shared<QueueObject>,
-    first: Seat<QueueObject>,
-    second: Seat<QueueObject>,
-) -> Result<Closed<QueueObject>, Fail> {
-    let mut seats = alone(alloc, first)?;
-    seats.push(second)?;
-    closed(alloc, shared, seats)
+    seat
 }
 
 /// What is closed after process 0 made a call in one thread, stopped at a gate, while process 1 made
 /// two in another.
-fn in_two_threads<R: Threads + Wait + Sync>(
+fn in_two_threads<R: Threads + Wait + Abort + Sync>(
     rt: &R,
     alloc: Global,
     gate: &Between,
-) -> Result<Closed<QueueObject>, Fail> {
-    let (shared, first, second) = two_seats(alloc)?;
-    let (first, second) = meet(rt, alloc, &shared, (first, second), gate)?;
-    closed_by_two(alloc, shared, first, second)
+) -> Closed<QueueObject> {
+    let (shared, mut seats) = queue(rt, alloc, 2, 2);
+    let second = last(rt, &mut seats);
+    let first = last(rt, &mut seats);
+    let queue = &shared;
+    let (first, second) = join(
+        rt,
+        move || makes_one(rt, alloc, queue, first, enq(10), gate),
+        move || makes_two(rt, alloc, queue, second, enq(1), gate),
+    );
+    closed(rt, alloc, shared, listed(rt, alloc, [first, second]))
 }
 
-/// A process takes the steps of its pending call to its end.
-fn ends(alloc: Global, recorded: &mut Recorded<QueueObject>, p: u64) -> Result<(), Fail> {
-    for _ in 0..32 {
-        match recorded.step(alloc, p) {
-            Ok(Progress::Going) => {}
-            Ok(Progress::Done(_)) => return Ok(()),
-            Err(_) => return Err(Fail::from("the step should have been taken")),
-        }
-    }
-    Err(Fail::from("the call should have ended"))
+/// A process begins this call, and takes its steps to its end.
+fn makes(
+    rt: &impl Abort,
+    alloc: Global,
+    recorded: &mut Recorded<QueueObject>,
+    p: u64,
+    inv: QueueInv,
+) {
+    assert!(rt; recorded.begin(alloc, p, &inv).is_ok());
+    assert!(rt; finishes(alloc, recorded, p).is_some());
 }
 
 /// The same events, given one by one.
-fn one_by_one(alloc: Global, recorded: &mut Recorded<QueueObject>, steps: u64) -> Result<(), Fail> {
-    let ten = enq(10);
-    let one = enq(1);
-    let Ok(_) = recorded.begin(alloc, 0, &ten) else {
-        return Err(Fail::from("the call should have begun"));
-    };
+fn one_by_one(rt: &impl Abort, alloc: Global, recorded: &mut Recorded<QueueObject>, steps: u64) {
+    assert!(rt; recorded.begin(alloc, 0, &enq(10)).is_ok());
     for _ in 0..steps {
-        let Ok(Progress::Going) = recorded.step(alloc, 0) else {
-            return Err(Fail::from("the call should go on"));
-        };
+        assert!(rt; matches!(recorded.step(alloc, 0), Ok(Progress::Going)));
     }
-    let Ok(_) = recorded.begin(alloc, 1, &one) else {
-        return Err(Fail::from("the call should have begun"));
-    };
-    ends(alloc, recorded, 1)?;
-    let Ok(_) = recorded.begin(alloc, 1, &QueueInv::Deq) else {
-        return Err(Fail::from("the call should have begun"));
-    };
-    ends(alloc, recorded, 1)?;
-    ends(alloc, recorded, 0)
+    makes(rt, alloc, recorded, 1, enq(1));
+    makes(rt, alloc, recorded, 1, QueueInv::Deq);
+    assert!(rt; finishes(alloc, recorded, 0).is_some());
 }
 
 /// Two records have the same entries.
-fn has_entries_of<R: Abort>(
-    rt: &R,
+fn has_entries_of(
+    rt: &impl Abort,
     alloc: Global,
     recorded: &Recorded<QueueObject>,
     expected: &Recorded<QueueObject>,
-) -> Result<(), AllocError> {
-    let entries = recorded.entries(alloc)?;
-    let want = expected.entries(alloc)?;
-    assert!(rt; entries == want, "other entries");
-    Ok(())
+) {
+    assert!(rt; entries_of(rt, alloc, recorded) == entries_of(rt, alloc, expected));
 }
 
 /// Whether a receipt is of this return with these counts.
@@ -221,11 +166,7 @@ fn is_receipt_of(closed: &Closed<QueueObject>, told: &Return<QueueResp>, counts:
 }
 
 /// What is closed has three receipts, which are the returns of a record with their counts.
-fn has_returns_of<R: Abort>(
-    rt: &R,
-    closed: &Closed<QueueObject>,
-    expected: &Recorded<QueueObject>,
-) {
+fn has_returns_of(rt: &impl Abort, closed: &Closed<QueueObject>, expected: &Recorded<QueueObject>) {
     let returns = expected.returns();
     let counts = expected.counts();
     assert!(rt; returns.len() == 3 && counts.len() == 3);
@@ -235,38 +176,31 @@ fn has_returns_of<R: Abort>(
 }
 
 /// What is closed has these events, and its receipts are these returns with their counts.
-fn is_as_expected<R: Abort>(
-    rt: &R,
+fn is_as_expected(
+    rt: &impl Abort,
     alloc: Global,
     closed: &Closed<QueueObject>,
     expected: &Recorded<QueueObject>,
-) -> Result<(), AllocError> {
+) {
     assert!(rt; closed.recorded().events().eq(expected.events()));
     has_returns_of(rt, closed, expected);
-    has_entries_of(rt, alloc, closed.recorded(), expected)
+    has_entries_of(rt, alloc, closed.recorded(), expected);
 }
 
 /// What is closed has the events and the returns that the same events have when they are given one by
 /// one.
-fn is_as_one_by_one<R: Abort>(
-    rt: &R,
-    alloc: Global,
-    closed: &Closed<QueueObject>,
-    steps: u64,
-) -> Result<(), Fail> {
-    let mut expected = record_of_queue(alloc, 2, 2, 1000)?;
-    one_by_one(alloc, &mut expected, steps)?;
-    is_as_expected(rt, alloc, closed, &expected)?;
-    Ok(())
+fn is_as_one_by_one(rt: &impl Abort, alloc: Global, closed: &Closed<QueueObject>, steps: u64) {
+    let mut expected = record_of_queue(rt, alloc, 2, 2, 1000);
+    one_by_one(rt, alloc, &mut expected, steps);
+    is_as_expected(rt, alloc, closed, &expected);
 }
 
 #[test]
-fn between_any_two_steps(rt: HostRuntime) -> Result<(), Fail> {
+fn between_any_two_steps(rt: HostRuntime) {
     for steps in 0..16 {
-        let closed = in_two_threads(&rt, rt.alloc(), &Between::new(steps))?;
-        is_as_one_by_one(&rt, rt.alloc(), &closed, steps)?;
+        let closed = in_two_threads(&rt, rt.alloc(), &Between::new(steps));
+        is_as_one_by_one(&rt, rt.alloc(), &closed, steps);
     }
-    Ok(())
 }
 
 /// Whether an entry of the log is this call, with this number.
@@ -299,47 +233,33 @@ fn are_after_the_first_step(entries: &[Entry<QueueInv, QueueResp>]) -> bool {
         && is_entry(&entries[2], 4, 1, 1, QueueResp::Taken(amount(1)))
 }
 
-/// What `after_the_first_step` looks at.
-fn is_after_the_first_step<R: Abort>(
-    rt: &R,
-    alloc: Global,
-    closed: &Closed<QueueObject>,
-) -> Result<(), Fail> {
-    assert!(rt; counts_are(closed, 0, 0, 8, 0));
-    assert!(rt; counts_are(closed, 1, 0, 16, 1));
-    assert!(rt; counts_are(closed, 1, 1, 24, 2));
-    let entries = closed.recorded().entries(alloc)?;
-    assert!(rt; are_after_the_first_step(&entries));
-    Ok(())
-}
-
 #[test]
-fn after_the_first_step(rt: HostRuntime) -> Result<(), Fail> {
+fn after_the_first_step(rt: HostRuntime) {
     let gate = Between::new(1);
-    let closed = in_two_threads(&rt, rt.alloc(), &gate)?;
+    let closed = in_two_threads(&rt, rt.alloc(), &gate);
     assert!(rt; gate.at_own_head.load(Ordering::SeqCst) == 1);
-    is_after_the_first_step(&rt, rt.alloc(), &closed)
+    for (p, nth, steps, turns) in [(0, 0, 8, 0), (1, 0, 16, 1), (1, 1, 24, 2)] {
+        assert!(rt; counts_are(&closed, p, nth, steps, turns), "{p} {nth}");
+    }
+    let entries = entries_of(&rt, rt.alloc(), closed.recorded());
+    assert!(rt; are_after_the_first_step(&entries));
 }
 
-/// Calls of a process among three that enqueue these numbers, each within 42 own steps and 4 turns.
-fn makes_all<R: Wait>(
+/// The seat of a process among three, after calls that enqueue these numbers, each within 42 own steps and 4 turns.
+fn makes_all<R: Wait + Abort>(
     rt: &R,
     alloc: Global,
     shared: &Shared<QueueObject>,
     mut seat: Seat<QueueObject>,
     values: [u32; 4],
-) -> (Seat<QueueObject>, bool) {
-    let mut made = true;
+) -> Seat<QueueObject> {
     for value in values {
-        if enqueues(rt, alloc, shared, &mut seat, value, &NoGate).is_some() {
-            made = false;
-        }
+        assert!(rt; enqueues(rt, alloc, shared, &mut seat, value, &NoGate).is_none());
     }
-    let few = seat
-        .receipts()
-        .iter()
-        .all(|receipt| receipt.steps <= 42 && receipt.turns <= 4);
-    (seat, made && few)
+    for receipt in seat.receipts() {
+        assert!(rt; receipt.steps <= 42 && receipt.turns <= 4);
+    }
+    seat
 }
 
 /// Process 0 announces its call and stops.
@@ -353,37 +273,6 @@ fn stops<R: Wait>(
     enqueues(rt, alloc, shared, seat, 1, &gate) == Some(ApplyFault::GaveUp)
 }
 
-/// The seats of processes 1 and 2.
-type Others = (Seat<QueueObject>, Seat<QueueObject>);
-
-/// A queue of three processes with rows of four calls, the seat of process 0, and the others.
-fn three_seats(alloc: Global) -> Result<(Shared<QueueObject>, Seat<QueueObject>, Others), Fail> {
-    let (shared, mut seats) = queue(alloc, 3, 4)?;
-    let third = last(&mut seats)?;
-    let second = last(&mut seats)?;
-    let first = last(&mut seats)?;
-    Ok((shared, first, (second, third)))
-}
-
-/// Processes 1 and 2 make four calls each, at once.
-fn make_eight<R: Threads + Wait + Sync>(
-    rt: &R,
-    alloc: Global,
-    shared: &Shared<QueueObject>,
-    (second, third): Others,
-) -> Result<Others, Fail> {
-    let ((second, one), (third, two)) = join(
-        rt,
-        move || makes_all(rt, alloc, shared, second, [10, 11, 12, 13]),
-        move || makes_all(rt, alloc, shared, third, [20, 21, 22, 23]),
-    );
-    if one && two {
-        Ok((second, third))
-    } else {
-        Err(Fail::from("all calls should have ended soon"))
-    }
-}
-
 /// Whether no era ends before process 0 goes on, which then ends its call.
 fn goes_on<R: Wait>(
     rt: &R,
@@ -395,39 +284,31 @@ fn goes_on<R: Wait>(
         && resumes(rt, alloc, shared, seat).is_none()
 }
 
-/// What three seats close.
-fn closed_by_three(
-    alloc: Global,
-    shared: Shared<QueueObject>,
-    first: Seat<QueueObject>,
-    (second, third): Others,
-) -> Result<Closed<QueueObject>, Fail> {
-    let mut seats = alone(alloc, first)?;
-    seats.push(second)?;
-    seats.push(third)?;
-    closed(alloc, shared, seats)
-}
-
-/// A record has nine entries, and their audit agrees.
-fn nine_calls_agree<R: Abort>(
-    rt: &R,
-    alloc: Global,
-    recorded: &Recorded<QueueObject>,
-) -> Result<(), Fail> {
-    let entries = recorded.entries(alloc)?;
-    assert!(rt; entries.len() == 9);
-    let verdict = audit(alloc, &QueueObject, &entries, recorded.returns())?;
-    assert!(rt; verdict == Verdict::Agrees);
-    Ok(())
+/// A queue of three processes with rows of four calls, whose process 0 stops in a call and goes on when the others have
+/// made four calls each, at once.
+fn one_stops<R: Threads + Wait + Abort + Sync>(rt: &R, alloc: Global) -> Closed<QueueObject> {
+    let (shared, mut seats) = queue(rt, alloc, 3, 4);
+    let third = last(rt, &mut seats);
+    let second = last(rt, &mut seats);
+    let mut first = last(rt, &mut seats);
+    assert!(rt; stops(rt, alloc, &shared, &mut first));
+    let queue = &shared;
+    let (second, third) = join(
+        rt,
+        move || makes_all(rt, alloc, queue, second, [10, 11, 12, 13]),
+        move || makes_all(rt, alloc, queue, third, [20, 21, 22, 23]),
+    );
+    assert!(rt; goes_on(rt, alloc, &shared, &mut first));
+    closed(rt, alloc, shared, listed(rt, alloc, [first, second, third]))
 }
 
 #[test]
-fn beside_a_stopped_process(rt: HostRuntime) -> Result<(), Fail> {
-    let (shared, mut first, others) = three_seats(rt.alloc())?;
-    assert!(rt; stops(&rt, rt.alloc(), &shared, &mut first));
-    let others = make_eight(&rt, rt.alloc(), &shared, others)?;
-    assert!(rt; goes_on(&rt, rt.alloc(), &shared, &mut first));
-    let closed = closed_by_three(rt.alloc(), shared, first, others)?;
+fn beside_a_stopped_process(rt: HostRuntime) {
+    let closed = one_stops(&rt, rt.alloc());
     assert!(rt; counts_are(&closed, 0, 0, 10, 0));
-    nine_calls_agree(&rt, rt.alloc(), closed.recorded())
+    let recorded = closed.recorded();
+    let entries = entries_of(&rt, rt.alloc(), recorded);
+    assert!(rt; entries.len() == 9);
+    let verdict = audit(rt.alloc(), &QueueObject, &entries, recorded.returns());
+    assert!(rt; verdict == Ok(Verdict::Agrees));
 }

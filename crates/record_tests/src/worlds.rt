@@ -3,12 +3,11 @@
 
 ghost use Rattle.std.specs.Prelude.{◌≤◌};
 
-use crate::acts::{Act, Fact, call, does_all, goes, next, opened, plays};
+use crate::acts::{Act, Fact, call, does_all, goes, next, opened, opened_at, plays};
 use cell_arena::CellId;
 use seq_object::SwapRegister;
 use std::alloc::Global;
 use std::process::Abort;
-use std::test::Fail;
 use uni_core::{
     BeginFault, Command, OpenFault, Outcome, Place, Refusal, ReshapeFault, StepKind, TrimFault,
     World, reshape, trim,
@@ -54,8 +53,8 @@ fn steps_are(
 }
 
 #[test]
-fn each_step_has_its_kind_and_place(rt: HostRuntime) -> Result<(), Fail> {
-    let mut world = opened(rt.alloc(), 1, 8)?;
+fn each_step_has_its_kind_and_place(rt: HostRuntime) {
+    let mut world = opened(&rt, rt.alloc(), 1, 8);
     let before = [Act::Shows(Fact::Next(0, None)), Act::Begins(call(0, 0), 7)];
     does_all(&rt, rt.alloc(), &mut world, &before);
     let anchor = CellId::anchor();
@@ -82,11 +81,10 @@ fn each_step_has_its_kind_and_place(rt: HostRuntime) -> Result<(), Fail> {
         Act::Shows(Fact::Next(0, None)),
     ];
     does_all(&rt, rt.alloc(), &mut world, &after);
-    Ok(())
 }
 
 #[test]
-fn a_world_shows_its_list(rt: HostRuntime) -> Result<(), Fail> {
+fn a_world_shows_its_list(rt: HostRuntime) {
     let mine = CellId::of(2, 1, 0);
     let acts = [
         Act::Shows(Fact::Pending(None)),
@@ -104,7 +102,7 @@ fn a_world_shows_its_list(rt: HostRuntime) -> Result<(), Fail> {
         Act::Shows(Fact::CellOf(call(1, 1), None)),
         Act::Shows(Fact::CellOf(call(2, 0), None)),
     ];
-    plays(&rt, rt.alloc(), 2, 8, &acts)
+    plays(&rt, rt.alloc(), 2, 8, &acts);
 }
 
 /// Whether a world that is given these commands answers these.
@@ -158,14 +156,13 @@ fn a_run_passes_over_what_is_refused_in(
 }
 
 #[test]
-fn a_run_passes_over_what_is_refused(rt: HostRuntime) -> Result<(), Fail> {
-    let mut world = opened(rt.alloc(), 2, 1)?;
+fn a_run_passes_over_what_is_refused(rt: HostRuntime) {
+    let mut world = opened(&rt, rt.alloc(), 2, 1);
     a_run_passes_over_what_is_refused_in(&rt, rt.alloc(), &mut world);
-    Ok(())
 }
 
 #[test]
-fn an_era_ends(rt: HostRuntime) -> Result<(), Fail> {
+fn an_era_ends(rt: HostRuntime) {
     let acts = [
         Act::Shows(Fact::Among(1, 0)),
         Act::Begins(call(1, 0), 5),
@@ -183,11 +180,11 @@ fn an_era_ends(rt: HostRuntime) -> Result<(), Fail> {
         Act::Shows(Fact::Last(CellId::of(2, 1, 0), Some(call(1, 1)))),
         Act::Shows(Fact::LastSeq(3)),
     ];
-    plays(&rt, rt.alloc(), 2, 8, &acts)
+    plays(&rt, rt.alloc(), 2, 8, &acts);
 }
 
 #[test]
-fn an_era_ends_for_others(rt: HostRuntime) -> Result<(), Fail> {
+fn an_era_ends_for_others(rt: HostRuntime) {
     let acts = [
         Act::Begins(call(1, 0), 5),
         Act::Ends(1, 0),
@@ -205,7 +202,7 @@ fn an_era_ends_for_others(rt: HostRuntime) -> Result<(), Fail> {
         Act::RenewsFor(2),
         Act::Begins(call(1, 1), 7),
     ];
-    plays(&rt, rt.alloc(), 2, 8, &acts)
+    plays(&rt, rt.alloc(), 2, 8, &acts);
 }
 
 /// What `numbers_that_would_pass_the_greatest_are_refused` looks at.
@@ -228,11 +225,7 @@ fn numbers_that_would_pass_the_greatest_are_refused_in(
 }
 
 #[test]
-fn numbers_that_would_pass_the_greatest_are_refused(rt: HostRuntime) -> Result<(), Fail> {
-    let object = SwapRegister { start: 0 };
-    let mut world = World::open_at(rt.alloc(), object, 2, 4, 5, 281_474_976_710_647).map_err(
-        |_| Fail::from("no world was opened"),
-    )?;
+fn numbers_that_would_pass_the_greatest_are_refused(rt: HostRuntime) {
+    let mut world = opened_at(&rt, rt.alloc(), 2, 4, 5, 281_474_976_710_647);
     numbers_that_would_pass_the_greatest_are_refused_in(&rt, rt.alloc(), &mut world);
-    Ok(())
 }
