@@ -127,7 +127,7 @@ fn differs<R: Wait + Abort>(
     plays(
         rt,
         alloc,
-        &[],
+        &[&shared],
         &mut others,
         &[(0, 0, Ask::Has(0, 8, 14, 1))],
     );
