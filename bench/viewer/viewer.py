@@ -171,6 +171,12 @@ class Browser:
         shutil.rmtree(self.folder, ignore_errors=True)
 
 
+def start_of(run):
+    """How many events come before the first that is told, how many processes there are then, and the memory, if told."""
+    start = run.get("start", {"events": 0, "processes": run["processes"], "memory": None})
+    return start["events"], start["processes"], start["memory"]
+
+
 def memory_after(lines, event):
     """The places of the memory after an event, with their texts, and which of them the event changed."""
     def anchor(processes, number, state):
@@ -178,8 +184,10 @@ def memory_after(lines, event):
         return {**places, "anchor.seq": str(number), "anchor.state": state, "anchor.reply": "none"}
 
     run = lines[0]
-    processes, changed = run["processes"], set()
+    (_, processes, memory), changed = start_of(run), set()
     places = anchor(processes, run["number"], run["state"])
+    if memory is not None:
+        places = {held["place"]: held["content"] for held in memory}
     for line in lines:
         if line.get("event", event + 1) > event:
             continue
@@ -195,7 +203,8 @@ def memory_after(lines, event):
 
 def places_of(lines, rows):
     """The places of a walk, the lines but notes before the header: the latest event, the script's line, the sentence."""
-    places, event = [(lines[0], (-1, None), rows[0][4])], -1
+    event = start_of(lines[0])[0] - 1
+    places = [(lines[0], (event, None), rows[0][4])]
     for line, row in zip(lines[1:], rows[1:]):
         if line["what"] != "heading":
             event = line.get("event", event)
@@ -210,7 +219,7 @@ def number(event, line):
 
 def spent_after(lines, processes, event):
     """Of each process its latest call, and what that has spent of its steps and turns, and has left."""
-    spent, count = {}, lines[0]["processes"]
+    spent, count = {}, start_of(lines[0])[1]
     for line in lines:
         if line.get("event", event + 1) > event:
             continue
@@ -243,7 +252,7 @@ def wanted(places, at):
     names = {place.rsplit(".", 1)[0] for place in memory if "[" not in place}
     empty = {"seq": "0"}
     cells = {name: {field: text(f"{name}.{field}", memory.get(f"{name}.{field}", empty.get(field, "?")))
-                    for field in FIELDS if (name, field) != ("anchor", "inv")} for name in names}
+                    for field in FIELDS if (name, field) != ("anchor", "inv") or "anchor.inv" in memory} for name in names}
     return {"titles": titles, "arrays": arrays, "cells": cells, "spent": spent_after(lines, processes, event),
             "sentence": places[at][2]}
 
@@ -313,16 +322,16 @@ def compare(browser, page, trace):
     for row, want in zip(rows, wanted_rows(lines)):
         check(f"row {want[0]}", row[:4] + row[5:], want)
     places = places_of(lines, rows)
-    last = len(places) - 1
+    last, first = len(places) - 1, start_of(lines[0])[0]
 
     def check_place(what, at):
         shown, event = browser.shown(), places[at][1][0]
         for part, want in wanted(places, at).items():
             check(f"{what}, place {at}, {part}", shown[part], want)
         check(f"{what}, address", shown["hash"], f"#e={event}")
-        check(f"{what}, number", shown["place"], "before event 0" if event < 0 else f"event {number(*places[at][1])}")
+        check(f"{what}, number", shown["place"], f"event {number(*places[at][1])}" if at else f"before event {first}")
 
-    for event in sorted({part * places[-1][1][0] // 4 for part in range(5)}):
+    for event in sorted({first + part * (places[-1][1][0] - first) // 4 for part in range(5)}):
         browser.open(page, event)
         at = next(k for k, (line, _, _) in enumerate(places) if line.get("event") == event)
         check_place(f"event {event}", at)
