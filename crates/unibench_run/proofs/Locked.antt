@@ -1,5 +1,5 @@
 -- Threads under a lock whose calls are made: their seats, and what the record has.
-use Rattle.unibench_run.proofs.Vocabulary.{AllocError, Err, IfOk, IsClosed, IsLockedRun, IsPromised, Job, List, MakesCalls, Ok, OnOk, Recording, Result, SeatOf, Sequential, Some, ap, arith, asked_by, drawn_by, first_seat, first_seats, length, length-map, map, range_with_len, refl, seed_of, slice_get, slice_get-index, slice_get-map, slice_index_or, subst, suc, sym, zero, ℕ, ◌<◌, ◌∙◌, ◌≡◌, ◌≤◌}
+use Rattle.unibench_run.proofs.Vocabulary.{AllocError, Err, IfOk, IsClosed, IsLockedRun, IsPromised, Job, List, MakesCalls, Memory, Ok, OnOk, Recording, Result, SeatOf, Sequential, Some, ThreadsFault, ℕ, ap, arith, asked_by, drawn_by, first_seat, first_seats, inl, inr, length, length-map, map, range_with_len, refl, seed_of, slice_get, slice_get-index, slice_get-map, slice_index_or, subst, suc, sym, zero, ◌<◌, ◌∙◌, ◌≡◌, ◌≤◌, ◌⊎◌}
 use Rattle.std.specs.List.{All}
 use Rattle.unibench_run.proofs.DrawnBy.{none_is, of_place}
 use Rattle.unibench_run.proofs.Told.{at_below}
@@ -12,6 +12,11 @@ on_ok_of (Err e) p a b step = tt
 pub on_ok : {T E P : Type 0} (r : Result T E) → P → OnOk r P
 on_ok (Ok x) p = p
 on_ok (Err e) p = tt
+
+-- what holds of an answer, and where memory is refused
+pub or_memory : {T : Type 0} (P : Result T ThreadsFault → Type 0) (r answer : Result T ThreadsFault) → (r ≡ answer) ⊎ (r ≡ Err Memory) → P answer → P (Err Memory) → P r
+or_memory P r answer (inl is) p memory = subst P (sym is) p
+or_memory P r answer (inr is) p memory = subst P (sym is) memory
 
 abbrev pub seat_of : {I R : Type 0} → Job (SeatOf I R) → SeatOf I R
 seat_of job = job.seat

@@ -40,9 +40,8 @@ pub(crate) fn tip_for<S: AsStr>(error: &clap::Error, words: &[S]) -> Option<&'st
     if error.kind() != ErrorKind::UnknownArgument || !is_replay(words) {
         return None;
     }
-    let befores = words.iter().skip(1);
-    for (before, word) in befores.zip(words.iter().skip(2)) {
-        if may_be_file(before.as_str(), word.as_str()) {
+    for place in 2..words.len() {
+        if may_be_file(words[place - 1].as_str(), words[place].as_str()) {
             return Some(TIP);
         }
     }
@@ -90,18 +89,27 @@ pub(crate) fn fault_of_names<S: AsStr>(alloc: Global, words: &[S]) -> Option<cla
     }
 }
 
-/// `threads`, of which `clap` knows the names of objects and of forms.
-fn named_threads<'a>(alloc: Global) -> Result<Command<'a>, AllocError> {
-    let threads = naming(threads_command(alloc)?, "object", OBJECTS.as_slice())?;
-    naming(threads, "form", FORMS.as_slice())
+/// A program with one more command, of which `clap` knows these names.
+fn with_named<'a>(
+    program: Command<'a>,
+    command: Result<Command<'a>, AllocError>,
+    name: &str,
+    names: &'static [&'static str],
+) -> Result<Command<'a>, AllocError> {
+    program.subcommand(naming(command?, name, names)?)
 }
 
 /// The program, of which `clap` knows the names.
 fn named_program<'a>(alloc: Global) -> Result<Command<'a>, AllocError> {
-    let random = naming(random_command(alloc)?, "object", SHARED.as_slice())?;
-    let program = program(alloc).subcommand(random)?;
-    let program = program.subcommand(named_threads(alloc)?)?;
-    program.subcommand(naming(language_command(alloc)?, "object", SHARED.as_slice())?)
+    let threads = naming(threads_command(alloc)?, "object", OBJECTS.as_slice());
+    let program = with_named(program(alloc), threads, "form", FORMS.as_slice())?;
+    let program = with_named(program, random_command(alloc), "object", SHARED.as_slice())?;
+    with_named(
+        program,
+        language_command(alloc),
+        "object",
+        SHARED.as_slice(),
+    )
 }
 
 /// Reads a command line, the program's name first, where `clap` knows the names.

@@ -1,6 +1,6 @@
 //! Threads that make calls on one object under a lock.
 
-ghost use Rattle.std.specs.Prelude.{◌≡◌, ◌≢◌, ◌≤◌, ◌*◌, ◌↔◌, All, []};
+ghost use Rattle.std.specs.Prelude.{◌≡◌, ◌≢◌, ◌≤◌, ◌*◌, ◌↔◌, ◌⊎◌, All, [], Err};
 ghost use Rattle.std.specs.Prelude.{IsErr, IsErrOf, IfOk, OnOk, length};
 ghost use Rattle.uni_record.specs.Recorded.{Recording, IsPromised};
 ghost use Rattle.uni_shared.specs.Agreement.{IsClosed};
@@ -18,9 +18,9 @@ use std::alloc::{AllocError, Global};
 use std::sync::Wait;
 use std::thread;
 use std::thread::Threads;
-use uni_record::Verdict;
+use uni_record::{Recorded, Verdict};
 use uni_script::Drawn;
-use uni_shared::{ApplyFault, CloseFault, NoGate, Seat, Shared};
+use uni_shared::{ApplyFault, CloseFault, Closed, NoGate, Seat, Shared};
 
 /// The most events that a history holds.
 pub(crate) const MOST_EVENTS: u64 = 16_777_216;
@@ -78,16 +78,14 @@ fn count_receipts<O: SeqObject>(seats: &[Seat<O>], calls: u64) -> Result<u64, Th
     ensures each { OnOk result (All (λ seat. length seat.receipts ≡ calls) seats.now) }
     ensures lacks { (fault : ThreadsFault) → IsErrOf result fault → IsLacking seats.now calls fault }
 {
-    let mut receipts = 0;
     for seat in seats {
         let nth = seat.receipts().len() as u64;
         if nth < calls {
             let process = seat.process() as u32;
             return Err(ThreadsFault::Differs(CallId { process, nth }));
         }
-        receipts += nth;
     }
-    Ok(receipts)
+    Ok(seats.len() as u64 * calls)
 }
 
 /// The fault of threads that a closing was refused for.
@@ -103,6 +101,40 @@ fn closing_fault(fault: CloseFault) -> ThreadsFault
         CloseFault::PendingSeat(p) => ThreadsFault::SeatPending(p),
         CloseFault::Mismatch(call) => ThreadsFault::Differs(call),
         CloseFault::Memory => ThreadsFault::Memory,
+    }
+}
+
+/// Ends the lock.
+fn closed<O: SeqObject>(
+    alloc: Global,
+    shared: Shared<O>,
+    seats: Vec<Seat<O>>,
+) -> Result<Closed<O>, ThreadsFault>
+    ensures closed { IfOk result (λ closed. IsClosed O.sequential closed.recorded seats.items) }
+    ensures others { (IsErrOf result ThreadsFault.NoSuchObject → ⊥)
+        × (IsErrOf result ThreadsFault.CallsTooMany → ⊥) × (IsErrOf result ThreadsFault.Write → ⊥) }
+    ensures audited { (verdict : Verdict) → IsErrOf result (ThreadsFault.Audit verdict) → ⊥ }
+{
+    match shared.close(alloc, seats) {
+        Ok(closed) => Ok(closed),
+        Err(refused) => Err(closing_fault(refused.fault)),
+    }
+}
+
+/// Audits a record, which agrees. The answer is the one that is handed in, where memory isn't refused.
+fn audited<O: SeqObject>(
+    alloc: Global,
+    recorded: &Recorded<O>,
+    answer: Result<u64, ThreadsFault>,
+) -> Result<u64, ThreadsFault>
+    ensures promised { IsPromised O.sequential recorded.now }
+    ensures same { (result ≡ answer) ⊎ (result ≡ Err ThreadsFault.Memory) }
+{
+    recorded.promise();
+    match recorded.audit(alloc) {
+        Ok(Verdict::Agrees) => answer,
+        Ok(verdict) => Err(ThreadsFault::Audit(verdict)),
+        Err(AllocError) => Err(ThreadsFault::Memory),
     }
 }
 
@@ -125,14 +157,9 @@ fn close_and_audit<O: SeqObject>(
     ensures audited { (verdict : Verdict) → IsErrOf result (ThreadsFault.Audit verdict) → ⊥ }
 {
     let replies = count_receipts(&seats, calls);
-    let closed = match shared.close(alloc, seats) {
-        Ok(closed) => closed,
-        Err(refused) => return Err(closing_fault(refused.fault)),
-    };
-    closed.recorded().promise();
-    match closed.recorded().audit(alloc)? {
-        Verdict::Agrees => replies,
-        verdict => Err(ThreadsFault::Audit(verdict)),
+    match closed(alloc, shared, seats) {
+        Ok(closed) => audited(alloc, closed.recorded(), replies),
+        Err(fault) => Err(fault),
     }
 }
 

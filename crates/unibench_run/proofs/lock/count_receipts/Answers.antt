@@ -1,4 +1,4 @@
-use Rattle.unibench_run.proofs.Vocabulary.{List, SeatOf, Some, ap, arith, length, slice_get-index, slice_index_or, subst, sym, ℕ, ◌*◌, ◌+◌, ◌<◌, ◌∙◌, ◌≡◌, ◌≤◌}
+use Rattle.unibench_run.proofs.Vocabulary.{List, SeatOf, Some, ap, arith, length, slice_get-index, slice_index_or, subst, sym, ℕ, ◌<◌, ◌∙◌, ◌≡◌, ◌≤◌}
 use borrow.Author.Count.{below_more}
 use Rattle.unibench_run.proofs.lock.count_receipts.Goals as goal
 
@@ -6,12 +6,8 @@ use Rattle.unibench_run.proofs.lock.count_receipts.Goals as goal
 same_there : {A : Type 0} (xs : List A) (i : ℕ) (d e : A) → i < length xs → slice_index_or xs i d ≡ slice_index_or xs i e
 same_there xs i d e below = let same : Some (slice_index_or xs i d) ≡ Some (slice_index_or xs i e) = sym (slice_get-index xs i d below) ∙ slice_get-index xs i e below in cc
 
-one_more : (index calls : ℕ) → (index + 1) * calls ≡ index * calls + calls
-one_more index calls = grind arith
-
 pub loop-seat-preserved : goal.loop-seat-preserved
 loop-seat-preserved g c =
-    let at = c.loop-seat.invariant in
     let index = c.loop-seat.seat-index in
     let calls = c.args.calls in
     let seats = c.args.seats.now in
@@ -20,9 +16,5 @@ loop-seat-preserved g c =
     let no_more : length seat.receipts ≤ calls = subst (λ (s : SeatOf g.row.O-Inv.Denot g.row.O-Resp.Denot). length s.receipts ≤ calls) (sym c.seat-item.is) (c.requires.no_more index seat below) in
     let here : length c.receipts.result.now ≡ length seat.receipts = ap length c.receipts.ensures in
     let all : length seat.receipts ≡ calls = (let no_less = c.if-nth-calls.false in omega arith) in
-    record {
-      receipts = (let before = at.receipts in let more = one_more index calls in omega arith);
-      few = (let before = at.few in let most = c.requires.few.1 in omega arith);
-      each = below_more (λ k. (d : SeatOf g.row.O-Inv.Denot g.row.O-Resp.Denot) → length (slice_index_or seats k d).receipts ≡ calls) index at.each
-          (λ d. ap (λ (s : SeatOf g.row.O-Inv.Denot g.row.O-Resp.Denot). length s.receipts) (same_there seats index d seat below ∙ sym c.seat-item.is) ∙ all);
-    }
+    below_more (λ k. (d : SeatOf g.row.O-Inv.Denot g.row.O-Resp.Denot) → length (slice_index_or seats k d).receipts ≡ calls) index c.loop-seat.invariant
+    (λ d. ap (λ (s : SeatOf g.row.O-Inv.Denot g.row.O-Resp.Denot). length s.receipts) (same_there seats index d seat below ∙ sym c.seat-item.is) ∙ all)
