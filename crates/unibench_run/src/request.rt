@@ -4,7 +4,7 @@ ghost use Rattle.std.specs.Prelude.{◌≡◌, [], IfOk, IfErr, map, codes, fals
 ghost use Rattle.clap.specs.Words.{HasKind, app_of, found_of, rows_of, new_app, rule_of, subcommand_rows_of};
 ghost use Rattle.clap.specs.declared.builder.command.Command.TheViews.{out-Command};
 ghost use Rattle.command_line.specs.Flags.{versioned};
-ghost use Rattle.command_line.specs.Numbers.{value_of};
+ghost use Rattle.command_line.specs.Numbers.{in_range, value_of};
 ghost use Rattle.unibench_run.specs.CommandLine.{asked_of, faults_of_words, language_command};
 ghost use Rattle.unibench_run.specs.CommandLine.{needs_subcommand, operand, option, random_command, replay_command};
 ghost use Rattle.unibench_run.specs.CommandLine.{replay_in, request_in, threads_command, unibench};
@@ -235,6 +235,22 @@ fn option<'a>(
         .default_value(value)
 }
 
+/// An option that takes a number within these bounds.
+fn number<'a>(
+    alloc: Global,
+    name: &'a str,
+    placeholder: &'a str,
+    help: &'a str,
+    value: &'a str,
+    least: u64,
+    most: u64,
+) -> Arg<'a>
+    ensures rule { rule_of result ≡ in_range (option name.entry.now value.entry.now) least most }
+    ensures local { result.global ≡ false }
+{
+    in_range(option(alloc, name, placeholder, help, value), least, most)
+}
+
 /// A word that isn't an option and may be left out, with what its help calls it.
 fn operand<'a>(alloc: Global, name: &'a str, placeholder: &'a str, help: &'a str) -> Arg<'a>
     ensures rule { rule_of result ≡ operand name.entry.now }
@@ -261,14 +277,15 @@ fn replay_command<'a>(alloc: Global) -> Result<Command<'a>, AllocError>
     ensures app { IfOk result (λ command. app_of command ≡ replay_command) }
     ensures local { IfOk result (λ command. (out-Command command).has_globals ≡ false) }
 {
-    let history = option(
+    let history = number(
         alloc,
         "history",
         "H",
         "The most events, from 1 to 16777216",
         "1048576",
+        1,
+        16_777_216,
     );
-    let history = in_range(history, 1, 16_777_216);
     described(
         alloc,
         "replay",
@@ -311,47 +328,39 @@ pub(crate) fn random_command<'a>(alloc: Global) -> Result<Command<'a>, AllocErro
         "One of queue, directory, book and sticky",
         "queue",
     ))?
-    .arg(in_range(
-        option(
-            alloc,
-            "processes",
-            "N",
-            "How many processes there are, from 1 to 64",
-            "2",
-        ),
+    .arg(number(
+        alloc,
+        "processes",
+        "N",
+        "How many processes there are, from 1 to 64",
+        "2",
         1,
         MAX_PROCESSES,
     ))?
-    .arg(in_range(
-        option(
-            alloc,
-            "row",
-            "K",
-            "The most calls of each, from 1 to 4096",
-            "64",
-        ),
+    .arg(number(
+        alloc,
+        "row",
+        "K",
+        "The most calls of each, from 1 to 4096",
+        "64",
         1,
         MAX_ROW,
     ))?
-    .arg(in_range(
-        option(
-            alloc,
-            "seed",
-            "S",
-            "The seed, from 0 to 18446744073709551615",
-            "1",
-        ),
+    .arg(number(
+        alloc,
+        "seed",
+        "S",
+        "The seed, from 0 to 18446744073709551615",
+        "1",
         0,
         u64::MAX,
     ))?
-    .arg(in_range(
-        option(
-            alloc,
-            "events",
-            "M",
-            "How many events are drawn, from 1 to 99000",
-            "100",
-        ),
+    .arg(number(
+        alloc,
+        "events",
+        "M",
+        "How many events are drawn, from 1 to 99000",
+        "100",
         1,
         99_000,
     ))
@@ -400,36 +409,30 @@ pub(crate) fn threads_command<'a>(alloc: Global) -> Result<Command<'a>, AllocErr
         "An object that the form has, as below",
         "queue",
     ))?
-    .arg(in_range(
-        option(
-            alloc,
-            "processes",
-            "N",
-            "How many threads there are, from 1 to 64",
-            "2",
-        ),
+    .arg(number(
+        alloc,
+        "processes",
+        "N",
+        "How many threads there are, from 1 to 64",
+        "2",
         1,
         MAX_PROCESSES,
     ))?
-    .arg(in_range(
-        option(
-            alloc,
-            "calls",
-            "C",
-            "Calls of each thread, from 1 to 10000000",
-            "100",
-        ),
+    .arg(number(
+        alloc,
+        "calls",
+        "C",
+        "Calls of each thread, from 1 to 10000000",
+        "100",
         1,
         MAX_CALLS,
     ))?
-    .arg(in_range(
-        option(
-            alloc,
-            "seed",
-            "S",
-            "The seed of the first thread's calls",
-            "1",
-        ),
+    .arg(number(
+        alloc,
+        "seed",
+        "S",
+        "The seed of the first thread's calls",
+        "1",
         0,
         u64::MAX,
     ))
