@@ -1,5 +1,5 @@
 -- Where a call is pending, its next step can be taken, and its last step finds a response.
-use Rattle.uni_core.proofs.Vocabulary.{Anchor, Announce, AtHead, Bool, CanStep, CellRecord, Content, DecideAfter, DecideNew, Finish, Has, IsCellOf, IsSome, IsThere, IsWorld, Name, None, Of, Option, ReadAnnounce, ReadHelpSeq, ScanHead, ScanSeq, Sequential, SharedEntries, Some, Stage, Stands, Test, Whole, WriteBefore, WriteHead, WriteScan, WriteSeq, after_of, ap, arith, calls_in_era, cell_of, cond, effect_at, enough, era_calls, false, first_of, inl, inr, inv_of, memory_of, named, nat_eq, nat_lt, number_in, option_map, option_map_or, place_of, processes_of, refl, response_in, seq_of, stage_after, stage_of, subst, sum_below-bound, sym, true, turn_of, turns_to, world_of, ℕ, ◌%◌, ◌*◌, ◌+◌, ◌<◌, ◌^◌, ◌∙◌, ◌≡◌, ◌≤◌, ◌⊎◌}
+use Rattle.uni_core.proofs.Vocabulary.{Anchor, Announce, AtHead, Bool, CanStep, CellRecord, Content, DecideAfter, DecideNew, Finish, Has, IsCellOf, IsSome, IsThere, IsWorld, Name, None, Of, Option, is_some, stage_left, if◌then◌else◌, ReadAnnounce, ReadHelpSeq, ScanHead, ScanSeq, Sequential, SharedEntries, Some, Stage, Stands, Test, Whole, WriteBefore, WriteHead, WriteScan, WriteSeq, after_of, ap, arith, calls_in_era, cell_of, cond, effect_at, enough, era_calls, false, first_of, inl, inr, inv_of, memory_of, named, nat_eq, nat_lt, number_in, option_map, option_map_or, place_of, processes_of, refl, response_in, seq_of, stage_after, stage_of, subst, sum_below-bound, sym, true, turn_of, turns_to, world_of, ℕ, ◌%◌, ◌*◌, ◌+◌, ◌<◌, ◌^◌, ◌∙◌, ◌≡◌, ◌≤◌, ◌⊎◌}
 use Rattle.uni_model.specs.Stages.{Stage as at}
 use Rattle.uni_model.proofs.Steps.{linked_call, head_number}
 use Rattle.uni_model.proofs.Values.{response-settled}
@@ -103,21 +103,22 @@ abbrev pub turns_at : Option at → ℕ
 turns_at (Some (at.ReadAnnounce c c_seq)) = 1
 turns_at _ = 0
 
-turns_to-stage_of : (name : ℕ → Name) (to : Option Stage) → turns_to to ≡ turns_at (option_map (stage_of name) to)
-turns_to-stage_of name None = refl
-turns_to-stage_of name (Some Announce) = refl
-turns_to-stage_of name (Some (ScanHead q best s)) = refl
-turns_to-stage_of name (Some (ScanSeq q best s head)) = refl
-turns_to-stage_of name (Some (WriteScan best s)) = refl
-turns_to-stage_of name (Some (Test c s)) = refl
-turns_to-stage_of name (Some (ReadAnnounce c s)) = refl
-turns_to-stage_of name (Some (ReadHelpSeq c s help)) = refl
-turns_to-stage_of name (Some (DecideAfter c s prefer)) = refl
-turns_to-stage_of name (Some (DecideNew c s d)) = refl
-turns_to-stage_of name (Some (WriteBefore c s d)) = refl
-turns_to-stage_of name (Some (WriteSeq c s d)) = refl
-turns_to-stage_of name (Some (WriteHead c s d)) = refl
-turns_to-stage_of name (Some (Finish s t)) = refl
+turns_to-stage_of : {R : Type 0} (name : ℕ → Name) (left : Stage) (response : Option R)
+    → (if is_some response then 0 else turns_to left) ≡ turns_at (option_map (stage_of name) (stage_left left response))
+turns_to-stage_of name left (Some response) = refl
+turns_to-stage_of name Announce None = refl
+turns_to-stage_of name (ScanHead q best s) None = refl
+turns_to-stage_of name (ScanSeq q best s head) None = refl
+turns_to-stage_of name (WriteScan best s) None = refl
+turns_to-stage_of name (Test c s) None = refl
+turns_to-stage_of name (ReadAnnounce c s) None = refl
+turns_to-stage_of name (ReadHelpSeq c s help) None = refl
+turns_to-stage_of name (DecideAfter c s prefer) None = refl
+turns_to-stage_of name (DecideNew c s d) None = refl
+turns_to-stage_of name (WriteBefore c s d) None = refl
+turns_to-stage_of name (WriteSeq c s d) None = refl
+turns_to-stage_of name (WriteHead c s d) None = refl
+turns_to-stage_of name (Finish s t) None = refl
 
 -- how many turns a step adds, told by where the process stands then
 turn_of-stage_after : {S I R : Type 0} (n : ℕ) (mine : Name) (stage : at) (v : Content S I R)
@@ -145,8 +146,8 @@ turn_of-stage_after n mine (at.WriteSeq c s d) v = refl
 turn_of-stage_after n mine (at.WriteHead c s d) v = refl
 turn_of-stage_after n mine (at.Finish s t) v = refl
 
-pub turns_to-effect : {S I R : Type 0} (object : Sequential S I R) (a : SharedEntries S I R) (p : ℕ) (mine : Name) (stage : at) (to : Option Stage)
-    → option_map (stage_of (named a)) to ≡ (effect_at object a p mine stage).stage
-    → turns_to to ≡ turn_of stage (memory_of a (place_of (processes_of a.cells) p mine stage))
-turns_to-effect object a p mine stage to e =
-    turns_to-stage_of (named a) to ∙ ap turns_at e ∙ sym (turn_of-stage_after (processes_of a.cells) mine stage _)
+pub turns_to-effect : {S I R : Type 0} (object : Sequential S I R) (a : SharedEntries S I R) (p : ℕ) (mine : Name) (stage : at) (left : Stage) (response : Option R)
+    → option_map (stage_of (named a)) (stage_left left response) ≡ (effect_at object a p mine stage).stage
+    → (if is_some response then 0 else turns_to left) ≡ turn_of stage (memory_of a (place_of (processes_of a.cells) p mine stage))
+turns_to-effect object a p mine stage left response e =
+    turns_to-stage_of (named a) left response ∙ ap turns_at e ∙ sym (turn_of-stage_after (processes_of a.cells) mine stage _)

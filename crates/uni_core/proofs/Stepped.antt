@@ -1,9 +1,7 @@
 -- What a step leaves.
-use Rattle.uni_core.proofs.Vocabulary.{Announce, CanGo, CanStep, DecideAfter, DecideNew, Done, Err, Finish, Going, IsBounded, IsBounded-held, IsSome, IsWithinBound, IsWorld, Local, MayBeRefused, MayNeedMemory, MayNeedMemoryAt, Name, None, Ok, OnErr, Option, Pending, ReadAnnounce, ReadHelpSeq, Result, ScanHead, ScanSeq, SeesSettled, Sequential, SharedEntries, Some, Stage, Step, Takes, TakesEffect, Test, Whole, WriteBefore, WriteHead, WriteScan, WriteSeq, ap, arith, get_or, length, memory_of, named, option_map, pending_of, place_of, processes_of, progress_of, refl, response_of_step, response_told, slice_get, slice_get-set_same, slice_set, stage_of, stage_told, step_accepted, subst, sym, turn_of, turns_to, world_after, world_of, ℕ, ◌*◌, ◌+◌, ◌<◌, ◌^◌, ◌∙◌, ◌≡◌, ◌≤◌}
+use Rattle.uni_core.proofs.Vocabulary.{Announce, Bool, CanGo, CanStep, DecideAfter, DecideNew, Done, Err, Finish, Going, IsBounded, IsBounded-held, IsSome, IsWithinBound, if◌then◌else◌, is_some, IsWorld, Local, MayBeRefused, MayNeedMemory, MayNeedMemoryAt, None, Ok, OnErr, Option, Pending, ReadAnnounce, ReadHelpSeq, Result, ScanHead, ScanSeq, SeesSettled, Sequential, SharedEntries, Some, Stage, Step, Takes, TakesEffect, Test, Whole, WriteBefore, WriteHead, WriteScan, WriteSeq, ap, arith, get_or, length, memory_of, named, option_map, pending_of, place_of, processes_of, progress_of, refl, response_of_step, slice_get, slice_get-set_same, slice_set, stage_of, stage_left, step_accepted, subst, sym, turn_of, turns_to, world_after, world_of, ℕ, ◌*◌, ◌+◌, ◌<◌, ◌^◌, ◌∙◌, ◌≡◌, ◌≤◌}
 use Rattle.uni_model.specs.Stages.{Pending as PendingAt}
 use Rattle.uni_model.proofs.Seen.{SeesSettled-held}
-use Rattle.uni_core.specs.declared.transition.After.{After}
-use Rattle.uni_core.specs.declared.transition.After.TheVariants.{At, Ended}
 use Rattle.uni_core.proofs.Begin.{inside_count, local_here}
 use Rattle.uni_core.proofs.Shown.{stepped_whole, stepped_local, world_of-world_after_step, IsWorld-world_after_step}
 use Rattle.uni_core.proofs.Steppable.{CanStep-pending, turns_to-effect}
@@ -67,34 +65,40 @@ module _ {O S I R : Type 0} (object : Sequential S I R) (v now : Whole O S I R) 
   pub may_need : MayBeRefused v.shared call.stage → MayNeedMemory (world_of now) p
   may_need h = subst (λ (x : Whole O S I R). MayNeedMemory (world_of x) p) view (rw pend (refused_at v.shared call.stage h))
 
-  module _ (a' : SharedEntries S I R) (told : After R)
-      (taken : Takes object p (named v.shared call.mine) (stage_of (named v.shared) call.stage) v.shared a' (stage_told (named v.shared) told) (response_told told))
-      (to : Option Stage) (to_is : (name : ℕ → Name) → option_map (stage_of name) to ≡ stage_told name told)
-      (after : Local) (call_is : after.call ≡ option_map (λ s. record { mine = call.mine; stage = s }) to) (begun_is : after.begun ≡ l.begun) (among_is : after.among ≡ l.among)
-      (steps_is : after.steps ≡ l.steps + 1) (turns_is : after.turns ≡ l.turns + turns_to to) where
-    takes : Takes object p (named v.shared call.mine) (stage_of (named v.shared) call.stage) v.shared a' (option_map (stage_of (named v.shared)) to) (response_told told)
-    takes = subst (λ s. Takes object p (named v.shared call.mine) (stage_of (named v.shared) call.stage) v.shared a' s (response_told told)) (sym (to_is (named v.shared))) taken
+  module _ (a' : SharedEntries S I R) (left_at : Stage) (response : Option R)
+      (takes : Takes object p (named v.shared call.mine) (stage_of (named v.shared) call.stage) v.shared a' (option_map (stage_of (named v.shared)) (stage_left left_at response)) response)
+      (over : Bool) (over_is : over ≡ is_some response)
+      (after : Local) (call_is : after.call ≡ (if over then None else Some (record { mine = call.mine; stage = left_at }))) (begun_is : after.begun ≡ l.begun) (among_is : after.among ≡ l.among)
+      (steps_is : after.steps ≡ l.steps + 1) (turns_is : after.turns ≡ l.turns + (if over then 0 else turns_to left_at)) where
+    abbrev to : Option Stage
+    to = stage_left left_at response
+
+    call_left : after.call ≡ option_map (λ s. let c : Pending = record { mine = call.mine; stage = s } in c) (stage_left left_at response)
+    call_left = call_is ∙ ap (λ b. if b then None else Some (let c : Pending = record { mine = call.mine; stage = left_at } in c)) over_is ∙ by_response response where
+      by_response : (r : Option R) → (if is_some r then None else Some (let c : Pending = record { mine = call.mine; stage = left_at } in c)) ≡ option_map (λ s. let c : Pending = record { mine = call.mine; stage = s } in c) (stage_left left_at r)
+      by_response None = refl
+      by_response (Some r) = refl
 
     turns_counted : after.turns ≡ l.turns + turn_of (stage_of (named v.shared) call.stage) (memory_of v.shared (place_of (processes_of v.shared.cells) p (named v.shared call.mine) (stage_of (named v.shared) call.stage)))
-    turns_counted = turns_is ∙ ap (λ t. l.turns + t) (turns_to-effect object v.shared p (named v.shared call.mine) (stage_of (named v.shared) call.stage) to takes.stage)
+    turns_counted = turns_is ∙ ap (λ b. l.turns + (if b then 0 else turns_to left_at)) over_is ∙ ap (λ t. l.turns + t) (turns_to-effect object v.shared p (named v.shared call.mine) (stage_of (named v.shared) call.stage) left_at response takes.stage)
 
     abbrev pub left : Whole O S I R
     left = record { object = v.object; row = v.row; shared = a'; locals = slice_set v.locals p after }
 
-    same_local : stepped_local object v is p l here inside a' call pending to (response_told told) takes after.steps after.turns steps_is turns_counted ≡ after
-    same_local = λ i. record { call = sym call_is i; begun = sym begun_is i; among = sym among_is i; steps = after.steps; turns = after.turns }
+    same_local : stepped_local object v is p l here inside a' call pending to response takes after.steps after.turns steps_is turns_counted ≡ after
+    same_local = λ i. record { call = sym call_left i; begun = sym begun_is i; among = sym among_is i; steps = after.steps; turns = after.turns }
 
-    same_whole : stepped_whole object v is p l here inside a' call pending to (response_told told) takes after.steps after.turns steps_is turns_counted ≡ left
+    same_whole : stepped_whole object v is p l here inside a' call pending to response takes after.steps after.turns steps_is turns_counted ≡ left
     same_whole = ap (λ (x : Local). let w : Whole O S I R = record { object = v.object; row = v.row; shared = a'; locals = slice_set v.locals p x } in w) same_local
 
     pub IsWorld-left : IsWorld object left
-    IsWorld-left = subst (λ w. IsWorld object w) same_whole (IsWorld-world_after_step object v is p l here inside a' call pending to (response_told told) takes after.steps after.turns steps_is turns_counted)
+    IsWorld-left = subst (λ w. IsWorld object w) same_whole (IsWorld-world_after_step object v is p l here inside a' call pending to response takes after.steps after.turns steps_is turns_counted)
 
     pub IsBounded-left : IsBounded (world_of left)
     IsBounded-left = let world = IsWorld-left in IsBounded-held object (world_of left) world.counts world.sound
 
     pub world_of-left : world_of left ≡ world_after object (world_of now) (Step p)
-    world_of-left = sym (ap world_of same_whole) ∙ world_of-world_after_step object v is p l here inside a' call pending to (response_told told) takes after.steps after.turns steps_is turns_counted
+    world_of-left = sym (ap world_of same_whole) ∙ world_of-world_after_step object v is p l here inside a' call pending to response takes after.steps after.turns steps_is turns_counted
         ∙ ap (λ (x : Whole O S I R). world_after object (world_of x) (Step p)) view
 
     Follows-left : TakesEffect object (world_of now) (Step p)
@@ -121,21 +125,18 @@ module _ {O S I R : Type 0} (object : Sequential S I R) (v now : Whole O S I R) 
       Follows-left_with = subst (λ (x : Whole O S I R). TakesEffect (sequential x.object) (world_of now) (Step p)) view (subst (λ f. TakesEffect f (world_of now) (Step p)) is_object Follows-left)
 
     -- what the step answers
-    pub answers : progress_of (response_told told) ≡ progress_of (response_of_step (world_of now) p)
-    answers = subst (λ (x : Whole O S I R). progress_of (response_told told) ≡ progress_of (response_of_step (world_of x) p)) view (rw pend (ap progress_of taken.told))
+    pub answers : progress_of response ≡ progress_of (response_of_step (world_of now) p)
+    answers = subst (λ (x : Whole O S I R). progress_of response ≡ progress_of (response_of_step (world_of x) p)) view (rw pend (ap progress_of takes.told))
 
-    pub still_pending : progress_of (response_told told) ≡ Going → IsSome ((world_of left).call p)
-    still_pending going = rw (slice_get-same) (rw call_is (some_to told (to_is (named v.shared)) going)) where
+    pub still_pending : progress_of response ≡ Going → IsSome ((world_of left).call p)
+    still_pending going = rw (slice_get-same) (rw call_left (goes_on response going)) where
       slice_get-same : slice_get (slice_set v.locals p after) p ≡ Some after
       slice_get-same = slice_get-set_same v.locals p after (let all : processes_of v.shared.cells ≤ length v.locals = is.locals in let below : p < processes_of v.shared.cells = inside in omega arith)
 
-      some_to : (x : After R) → option_map (stage_of (named v.shared)) to ≡ stage_told (named v.shared) x → progress_of (response_told x) ≡ Going
-          → IsSome (option_map (pending_of (named a')) (option_map (λ s. record { mine = call.mine; stage = s }) to))
-      some_to (At s) e going = by_stage to e where
-        by_stage : (o : Option Stage) → option_map (stage_of (named v.shared)) o ≡ Some (stage_of (named v.shared) s) → IsSome (option_map (pending_of (named a')) (option_map (λ s. record { mine = call.mine; stage = s }) o))
-        by_stage None f = absurd (let g : None ≡ Some (stage_of (named v.shared) s) = f in cc)
-        by_stage (Some x) f = refl
-      some_to (Ended r) e going = absurd (let f : Done r ≡ Going = going in cc)
+      goes_on : (r : Option R) → progress_of r ≡ Going
+          → IsSome (option_map (pending_of (named a')) (option_map (λ s. let c : Pending = record { mine = call.mine; stage = s } in c) (stage_left left_at r)))
+      goes_on None e = refl
+      goes_on (Some r) e = absurd (let f : Done r ≡ Going = e in cc)
 
 -- a call that is refused
 pub if_not_ok : {A E P : Type 0} (r : Result A E) → ((x : A) → r ≡ Ok x → ⊥) → OnErr r P → P

@@ -12,8 +12,6 @@ use Rattle.uni_core.specs.declared.stage.Stage.{Stage}
 use Rattle.uni_core.specs.declared.stage.Stage.TheVariants.{Announce, ScanHead, ScanSeq, WriteScan, Test, ReadAnnounce, ReadHelpSeq}
 use Rattle.uni_core.specs.declared.stage.Stage.TheVariants.{DecideAfter, DecideNew, WriteBefore, WriteSeq, WriteHead, Finish}
 use Rattle.uni_core.specs.declared.stage.Pending.{Pending}
-use Rattle.uni_core.specs.declared.transition.After.{After}
-use Rattle.uni_core.specs.declared.transition.After.TheVariants.{At, Ended}
 use Rattle.uni_core.specs.SharedEntries.{SharedEntries, named, memory_of, HasShapeOf}
 
 -- the stage, with names for indices
@@ -45,14 +43,10 @@ abbrev pub ChangesAt : {S I R : Type 0} → Sequential S I R → SharedEntries S
 ChangesAt object a p mine stage =
     (effect_at object a p mine stage).content ≢ memory_of a (place_of (processes_of a.cells) p mine stage)
 
--- where the process stands after a step, and the response, where its call has ended
-abbrev pub stage_told : {R : Type 0} → (name : ℕ → Name) → After R → Option at
-stage_told name (At stage) = Some (stage_of name stage)
-stage_told name (Ended response) = None
-
-abbrev pub response_told : {R : Type 0} → After R → Option R
-response_told (At stage) = None
-response_told (Ended response) = Some response
+-- where a process stands after a step that left this stage, with the response where its call has ended
+abbrev pub stage_left : {R : Type 0} → Stage → Option R → Option Stage
+stage_left stage None = Some stage
+stage_left stage (Some response) = None
 
 -- the process has taken the step of its stage: one place is written, it stands where it stands after it, and has this response
 pub record Takes {S I R : Type 0} (object : Sequential S I R) (p : ℕ) (mine : Name) (from : at)
@@ -91,6 +85,6 @@ MayBeRefused a (DecideNew c c_seq d) = new_of (memory_of a) (named a d) ≡ None
 MayBeRefused a _ = ⊥
 
 -- how many turns begin with this stage
-abbrev pub turns_to : Option Stage → ℕ
-turns_to (Some (ReadAnnounce c c_seq)) = 1
+abbrev pub turns_to : Stage → ℕ
+turns_to (ReadAnnounce c c_seq) = 1
 turns_to _ = 0

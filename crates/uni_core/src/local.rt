@@ -1,10 +1,10 @@
 //! What a process keeps for itself.
 
-ghost use Rattle.std.specs.Prelude.{◌≡◌, ◌+◌, ◌<◌, ◌^◌, IsTrue, option_map};
+ghost use Rattle.std.specs.Prelude.{◌≡◌, ◌+◌, ◌<◌, ◌^◌, if◌then◌else◌, IsTrue, None};
+ghost use Rattle.std.specs.Option.{option_map_or};
 ghost use Rattle.uni_core.specs.Stage.{turns_to};
 
 use crate::stage::{Pending, Stage};
-use cell_arena::CellId;
 
 /// What a process keeps for itself: its pending call, how many calls it has begun since the
 /// opening, and of its latest call among how many processes it ran (0 where it has begun none), its
@@ -48,21 +48,27 @@ impl Local {
         self.begun == other.begun && self.call == other.call
     }
 
-    /// Takes note of a step, which left the process at this stage in the call of cell `mine`, or ended the
-    /// call.
-    pub(crate) fn advance(&mut self, mine: CellId, next: Option<Stage>)
+    /// Takes note of a step, which left the pending call as it is now, or ended it.
+    pub(crate) fn advance(&mut self, is_over: bool)
         requires steps { self.old.steps < 2 ^ 32 }
         requires turns { self.old.turns < 2 ^ 32 }
-        ensures call { self.new.call ≡ option_map (λ stage. record { mine = mine; stage = stage }) next }
+        ensures call { self.new.call ≡ (if is_over then None else self.old.call) }
         ensures begun { self.new.begun ≡ self.old.begun }
         ensures among { self.new.among ≡ self.old.among }
         ensures steps { self.new.steps ≡ self.old.steps + 1 }
-        ensures turns { self.new.turns ≡ self.old.turns + turns_to next }
+        ensures turns { self.new.turns ≡ self.old.turns
+            + (if is_over then 0 else option_map_or (λ call. turns_to call.stage) self.old.call 0) }
     {
-        if let Some(Stage::ReadAnnounce { .. }) = next {
+        self.steps += 1;
+        if is_over {
+            self.call = None;
+            return;
+        }
+        let Some(call) = self.call else {
+            return;
+        };
+        if let Stage::ReadAnnounce { .. } = call.stage {
             self.turns += 1;
         }
-        self.steps += 1;
-        self.call = next.map(|stage| Pending { mine, stage });
     }
 }

@@ -11,9 +11,8 @@ ghost use Rattle.uni_model.specs.Places.Content.{Settled};
 ghost use Rattle.uni_model.specs.Stages.{Stage as at};
 ghost use Rattle.uni_model.specs.Transition.{stage_after_scan, value_after};
 ghost use Rattle.uni_core.specs.SharedEntries.{named, memory_of, HasShapeOf};
-ghost use Rattle.uni_core.specs.Stage.{stage_of, stage_told, response_told, Takes, CanStep, ChangesAt, MayBeRefused};
+ghost use Rattle.uni_core.specs.Stage.{stage_of, stage_left, Takes, CanStep, ChangesAt, MayBeRefused};
 
-use crate::fault::Progress;
 use crate::shared::SharedEntries;
 use crate::stage::Stage;
 use cell_arena::CellId;
@@ -55,39 +54,6 @@ fn preferred(help: CellId, help_seq: u64, mine: CellId) -> CellId
     ensures { (name : ℕ → Name) → name result ≡ (if help_seq == 0 then name help else name mine) }
 {
     if help_seq == 0 { help } else { mine }
-}
-
-/// What a step comes to for its process.
-#[derive(Clone, Copy)]
-pub(crate) enum After<R> {
-    /// The process stands at this stage.
-    At(Stage),
-    /// Its call has ended with this response.
-    Ended(R),
-}
-
-impl<R: Copy> After<R> {
-    ghost use Rattle.uni_core.specs.World.{progress_of};
-
-    /// Where the process stands; `None` where its call has ended.
-    pub(crate) fn stage(&self) -> Option<Stage>
-        ensures { (name : ℕ → Name) → option_map (stage_of name) result ≡ stage_told name self.now }
-    {
-        match self {
-            After::At(stage) => Some(*stage),
-            After::Ended(_) => None,
-        }
-    }
-
-    /// What the step answers.
-    pub(crate) fn progress(&self) -> Progress<R>
-        ensures { result ≡ progress_of (response_told self.now) }
-    {
-        match self {
-            After::At(_) => Progress::Going,
-            After::Ended(response) => Progress::Done(*response),
-        }
-    }
 }
 
 /// The object and the shared places.
@@ -151,8 +117,8 @@ impl<O: SeqObject> Machine<O> {
     }
 
     /// Takes the next step of process `p`, which stands at `stage` in the call of cell `mine`: it
-    /// touches the one place of that step. The answer is where the process stands then, or the
-    /// response with which its call has ended.
+    /// touches the one place of that step. `stage` becomes where the process stands then; the answer is the
+    /// response where its call has ended, and `None` where it goes on.
     ///
     /// An `Err` says that the object's apply was refused memory; nothing is changed then.
     pub(crate) fn take_step(
@@ -160,89 +126,101 @@ impl<O: SeqObject> Machine<O> {
         alloc: Global,
         p: u64,
         mine: CellId,
-        stage: Stage,
-    ) -> Result<After<O::Resp>, AllocError>
+        stage: &mut Stage,
+    ) -> Result<Option<O::Resp>, AllocError>
         requires process { p < processes_of self.old.shared.cells }
-        requires step { CanStep self.old.shared mine stage }
-        ensures taken { IfOk result (λ after. Takes (O.sequential self.old.object) p (named self.old.shared mine)
-            (stage_of (named self.old.shared) stage) self.old.shared self.new.shared
-            (stage_told (named self.old.shared) after) (response_told after)) }
-        ensures refused { OnErr result (MayBeRefused self.old.shared stage) }
+        requires step { CanStep self.old.shared mine stage.old }
+        ensures taken { IfOk result (λ response. Takes (O.sequential self.old.object) p (named self.old.shared mine)
+            (stage_of (named self.old.shared) stage.old) self.old.shared self.new.shared
+            (option_map (stage_of (named self.old.shared)) (stage_left stage.new response)) response) }
+        ensures refused { OnErr result (MayBeRefused self.old.shared stage.old) }
         ensures object { self.new.object ≡ self.old.object }
         ensures unchanged { OnErr result (self.new.shared ≡ self.old.shared) }
+        ensures kept { OnErr result (stage.new ≡ stage.old) }
     {
         let n = self.shared.processes();
-        let next = match stage {
+        let from = *stage;
+        match from {
             Stage::Announce => {
                 self.shared.announce(p, mine);
-                Stage::ScanHead {
+                *stage = Stage::ScanHead {
                     q: 0,
                     best: CellId::anchor(),
                     best_seq: 0,
-                }
+                };
             }
-            Stage::ScanHead { q, best, best_seq } => Stage::ScanSeq {
-                q,
-                best,
-                best_seq,
-                head: self.shared.head(q),
-            },
+            Stage::ScanHead { q, best, best_seq } => {
+                *stage = Stage::ScanSeq {
+                    q,
+                    best,
+                    best_seq,
+                    head: self.shared.head(q),
+                };
+            }
             Stage::ScanSeq {
                 q,
                 best,
                 best_seq,
                 head,
-            } => after_comparing(n, q, (best, best_seq), (head, self.shared.seq(head))),
+            } => {
+                *stage = after_comparing(n, q, (best, best_seq), (head, self.shared.seq(head)));
+            }
             Stage::WriteScan { best, best_seq } => {
                 self.shared.set_head(p, best);
-                Stage::Test {
+                *stage = Stage::Test {
                     c: best,
                     c_seq: best_seq,
-                }
+                };
             }
-            Stage::Test { c, c_seq } => after_test(c, c_seq, self.shared.seq(mine)),
-            Stage::ReadAnnounce { c, c_seq } => Stage::ReadHelpSeq {
-                c,
-                c_seq,
-                help: self.shared.announced(c_seq % n),
-            },
-            Stage::ReadHelpSeq { c, c_seq, help } => Stage::DecideAfter {
-                c,
-                c_seq,
-                prefer: preferred(help, self.shared.seq(help), mine),
-            },
-            Stage::DecideAfter { c, c_seq, prefer } => Stage::DecideNew {
-                c,
-                c_seq,
-                d: self.shared.decide_after(c, prefer),
-            },
+            Stage::Test { c, c_seq } => *stage = after_test(c, c_seq, self.shared.seq(mine)),
+            Stage::ReadAnnounce { c, c_seq } => {
+                *stage = Stage::ReadHelpSeq {
+                    c,
+                    c_seq,
+                    help: self.shared.announced(c_seq % n),
+                };
+            }
+            Stage::ReadHelpSeq { c, c_seq, help } => {
+                *stage = Stage::DecideAfter {
+                    c,
+                    c_seq,
+                    prefer: preferred(help, self.shared.seq(help), mine),
+                };
+            }
+            Stage::DecideAfter { c, c_seq, prefer } => {
+                *stage = Stage::DecideNew {
+                    c,
+                    c_seq,
+                    d: self.shared.decide_after(c, prefer),
+                };
+            }
             Stage::DecideNew { c, c_seq, d } => {
                 self.settle_new(alloc, c, d)?;
-                Stage::WriteBefore { c, c_seq, d }
+                *stage = Stage::WriteBefore { c, c_seq, d };
             }
             Stage::WriteBefore { c, c_seq, d } => {
                 self.shared.set_before(d, c);
-                Stage::WriteSeq { c, c_seq, d }
+                *stage = Stage::WriteSeq { c, c_seq, d };
             }
             Stage::WriteSeq { c, c_seq, d } => {
                 self.shared.set_seq(d, c_seq + 1);
-                Stage::WriteHead { c, c_seq, d }
+                *stage = Stage::WriteHead { c, c_seq, d };
             }
             Stage::WriteHead { c: _, c_seq, d } => {
                 self.shared.set_head(p, d);
-                Stage::Test {
+                *stage = Stage::Test {
                     c: d,
                     c_seq: c_seq + 1,
-                }
+                };
             }
             Stage::Finish { c_seq, mine_seq } => {
                 let response = self.shared.response(mine);
                 if c_seq < mine_seq {
                     self.shared.set_head(p, mine);
                 }
-                return Ok(After::Ended(response));
+                return Ok(Some(response));
             }
-        };
-        Ok(After::At(next))
+        }
+        Ok(None)
     }
 }

@@ -212,13 +212,16 @@ impl<O: SeqObject> World<O> {
             return Err(StepFault::BadProcess);
         }
         let local = &mut self.locals[p as usize];
-        let Some(call) = local.pending() else {
+        let Some(call) = local.call.as_mut() else {
             return Err(StepFault::Idle(p));
         };
-        let Ok(after) = self.machine.take_step(alloc, p, call.mine, call.stage) else {
+        let Ok(response) = self.machine.take_step(alloc, p, call.mine, &mut call.stage) else {
             return Err(StepFault::Memory);
         };
-        local.advance(call.mine, after.stage());
-        Ok(after.progress())
+        local.advance(response.is_some());
+        Ok(match response {
+            None => Progress::Going,
+            Some(response) => Progress::Done(response),
+        })
     }
 }
