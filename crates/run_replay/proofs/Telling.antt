@@ -100,14 +100,11 @@ module _ {S I R : Type 0} where
         ∙ ap (λ o. alone (field_name (Some (record { process = p; nth = w.begun p })) (codes "inv")) (option_map_or (λ j. text_of_words (l.inv_words j)) o (codes "?"))) (sym (asked w.memory (Of p (w.begun p)) i)))
 
     -- the next of the events is taken
-    pub scenes_taken : (is_whole : Bool) (made more : List (Option Scene)) (w v : WorldOf S I R) (e : Event I) (rest : List (Event I)) (scene : Scene)
-        → more ≡ made ++ Some scene ∷ [] → Some scene.frame ≡ frame_of object l text w e → v ≡ world_after object w e → scene.memory ≡ memory_asked l text is_whole v
-        → more ++ scenes_from object l text is_whole v rest ≡ made ++ scenes_from object l text is_whole w (e ∷ rest)
-    scenes_taken is_whole made more w v e rest scene added framed world memory =
+    pub scene_taken : (is_whole : Bool) (w v : WorldOf S I R) (e : Event I) (rest : List (Event I)) (scene : Scene)
+        → Some scene.frame ≡ frame_of object l text w e → v ≡ world_after object w e → scene.memory ≡ memory_asked l text is_whole v
+        → scenes_from object l text is_whole w (e ∷ rest) ≡ Some scene ∷ scenes_from object l text is_whole v rest
+    scene_taken is_whole w v e rest scene framed world memory =
         let after = world_after object w e in
         let told : Some scene ≡ scene_of object l text is_whole w e =
         scene_is scene.frame scene.memory (memory_asked l text is_whole after) (frame_of object l text w e) framed (memory ∙ ap (memory_asked l text is_whole) world) in
-        ap (λ k. k ++ scenes_from object l text is_whole v rest) added
-        ∙ append_assoc made (Some scene ∷ []) (scenes_from object l text is_whole v rest)
-        ∙ ap (λ (u : WorldOf S I R). made ++ Some scene ∷ scenes_from object l text is_whole u rest) world
-        ∙ ap (λ o. made ++ o ∷ scenes_from object l text is_whole after rest) told
+        sym (ap (λ (u : WorldOf S I R). Some scene ∷ scenes_from object l text is_whole u rest) world ∙ ap (λ o. o ∷ scenes_from object l text is_whole after rest) told)

@@ -1,8 +1,8 @@
 -- What the code's frames are in the definitions: texts in place of vectors.
-use Rattle.std.specs.Prelude.{Some, map, option_map}
+use Rattle.std.specs.Prelude.{map, option_map}
 use Rattle.run_replay.specs.Held.{Field, Held, Change}
 use Rattle.run_replay.specs.Frames.{Begun, Stepped, Ended, Frame, Begins, Steps, Ends}
-use Rattle.run_replay.specs.Scenes.{Scene, Start, Excerpt}
+use Rattle.run_replay.specs.Scenes.{Scene, Start}
 use Rattle.run_replay.specs.declared.frame.Field.{Field as FieldOfCode}
 use Rattle.run_replay.specs.declared.frame.Held.{Held as HeldOfCode}
 use Rattle.run_replay.specs.declared.frame.Change.{Change as ChangeOfCode}
@@ -13,7 +13,6 @@ use Rattle.run_replay.specs.declared.frame.Frame.{Frame as FrameOfCode}
 use Rattle.run_replay.specs.declared.frame.Frame.TheVariants as frame
 use Rattle.run_replay.specs.declared.frame.Scene.{Scene as SceneOfCode}
 use Rattle.run_replay.specs.declared.frame.Start.{Start as StartOfCode}
-use Rattle.run_replay.specs.declared.frame.Excerpt.{Excerpt as ExcerptOfCode}
 
 abbrev pub field_shown : FieldOfCode → Field
 field_shown f = record { name = f.name.items; text = f.text.items }
@@ -54,7 +53,3 @@ scene_shown s = record { frame = frame_shown s.frame; memory = option_map (λ me
 
 abbrev pub start_shown : StartOfCode → Start
 start_shown s = record { events = s.events; processes = s.processes; memory = map held_shown s.memory.items }
-
-abbrev pub excerpt_shown : ExcerptOfCode → Excerpt
-excerpt_shown p =
-    record { start = option_map start_shown p.start; scenes = map (λ scene. Some (scene_shown scene)) p.scenes.items }

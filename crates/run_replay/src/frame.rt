@@ -117,15 +117,6 @@ pub struct Start {
     pub memory: Vec<Held>,
 }
 
-/// What some events of a run did that come one after the other.
-#[derive(Drop)]
-pub struct Excerpt {
-    /// Where they begin; `None` where the first of them is the run's.
-    pub start: Option<Start>,
-    /// A scene for each.
-    pub scenes: Vec<Scene>,
-}
-
 /// A copy of a field.
 ///
 /// An `Err` says that memory was refused.

@@ -18,12 +18,10 @@ mod scene_laws;
 mod scenes;
 mod whole;
 
-pub use frame::{
-    Begun, Change, EndedEra, Excerpt, Field, Frame, Held, Scene, Start, Step, changes_of,
-};
+pub use frame::{Begun, Change, EndedEra, Field, Frame, Held, Scene, Start, Step, changes_of};
 pub use mark_laws::{bars_have_the_replies, dots_are_the_log, dots_lie_in_bars};
 pub use marking::marks_of;
 pub use marks::{Bar, BarEnd, CellBox, Dot, Era, EraEnd, EraLine, Marks, StepMark};
 pub use places::{cell_text, field_name};
 pub use scene_laws::{ends_leave_one_anchor, scenes_tell_each_event, steps_change_one_place};
-pub use scenes::{begun_of, excerpt_of, step_of};
+pub use scenes::{Scenes, begun_of, excerpt_of, step_of};

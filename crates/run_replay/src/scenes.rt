@@ -1,7 +1,7 @@
 //! The scenes of a run, by the replay of its events.
 
-ghost use Rattle.std.specs.Prelude.{◌≡◌, ◌<◌, ◌≤◌, ℕ, None, Some, IfOk, IfSome, IsSome, OnOk, drop, length, map, take};
-ghost use Rattle.std.specs.Prelude.{option_and_then, option_map};
+ghost use Rattle.std.specs.Prelude.{◌≡◌, ◌∷◌, ◌<◌, ◌≤◌, [], ℕ, None, Some, IfOk, IfNone, IfSome, IsSome, OnOk, drop};
+ghost use Rattle.std.specs.Prelude.{length, option_and_then, option_map, take};
 ghost use Rattle.cell_arena.specs.Arena.{cell_of};
 ghost use Rattle.uni_model.specs.Transition.{place_of};
 ghost use Rattle.uni_model.specs.Worlds.{opened_world, world_after, world_after_all};
@@ -12,11 +12,11 @@ ghost use Rattle.uni_core.specs.Ends.{last_number};
 ghost use Rattle.uni_record.specs.Event.{event_lent, event_shown, events_shown};
 ghost use Rattle.run_replay.specs.Frames.{answered, begun, ended, frame_of, stepped};
 ghost use Rattle.run_replay.specs.Proposal.{proposal_told};
-ghost use Rattle.run_replay.specs.Scenes.{excerpt_of, scenes_from, start_of};
-ghost use Rattle.run_replay.specs.ScenesShown.{begun_shown, end_shown, excerpt_shown, frame_shown, held_shown};
+ghost use Rattle.run_replay.specs.Scenes.{excerpt_of, start_of};
+ghost use Rattle.run_replay.specs.ScenesShown.{begun_shown, end_shown, frame_shown, held_shown};
 ghost use Rattle.run_replay.specs.ScenesShown.{scene_shown, start_shown, step_shown};
 
-use crate::frame::{Begun, EndedEra, Excerpt, Frame, Held, Scene, Start, Step, held_copy};
+use crate::frame::{Begun, EndedEra, Frame, Held, Scene, Start, Step, held_copy};
 use crate::opening::reopened;
 use crate::places::{alone, asked_field, cell_text, read_place, settled_fields};
 use crate::whole::{memory_asked, whole_memory};
@@ -24,15 +24,59 @@ use cell_arena::{CellId, Cells};
 use ready_objects::Spoken;
 use seq_object::CallId;
 use std::alloc::{AllocError, Global};
+use std::marker::Model;
 use uni_core::{Place, Progress, StepKind, World, reshape, trim};
 use uni_record::{Event, Events, Recorded};
 
+/// The scenes of events of a run that are still to come, found one by one by a replay of these events. A contract sees
+/// them as their list.
+#[derive(Drop)]
+pub struct Scenes<'a, O: Spoken> {
+    replay: World<O>,
+    events: Events<'a, O::Inv>,
+    left: u64,
+    is_whole: bool,
+}
+
+impl<'a, O: Spoken> Model for Scenes<'a, O> {
+    ghost use Rattle.std.specs.Prelude.{List, Option, take};
+    ghost use Rattle.uni_core.specs.World.{world_of};
+    ghost use Rattle.uni_record.specs.Event.{events_shown};
+    ghost use Rattle.run_replay.specs.Scenes.{Scene, scenes_from};
+
+    ghost Value = { List (Option Scene) };
+
+    ghost view = { λ s. scenes_from (O.sequential s.replay.object) O.language O.state_text s.is_whole
+        (world_of s.replay) (take s.left (events_shown s.events)) };
+}
+
+impl<'a, O: Spoken> Scenes<'a, O> {
+    /// Takes the next event; the answer is its scene, or `None` where there is no further one.
+    ///
+    /// An `Err` says that memory was refused, or the event.
+    pub fn next_scene(&mut self, alloc: Global) -> Result<Option<Scene>, AllocError>
+        ensures next { IfOk result (λ next. IfSome next (λ scene. self.old ≡ Some (scene_shown scene) ∷ self.new)) }
+        ensures end { IfOk result (λ next. IfNone next (self.old ≡ [])) }
+    {
+        if self.left == 0 {
+            return Ok(None);
+        }
+        let Some(event) = self.events.next() else {
+            return Ok(None);
+        };
+        self.left -= 1;
+        let frame = frame_of(alloc, event, &mut self.replay)?;
+        let memory = memory_asked(alloc, self.is_whole, &self.replay)?;
+        Ok(Some(Scene { frame, memory }))
+    }
+}
+
 /// What some events of the run did that a record has stored: of those from number `from` on, which counts from 0, at
-/// most so many; `object` is a further value of the record's object. Each has a scene, and the scenes tell the whole
-/// memory only where that is asked for. They are found by a replay of the events.
+/// most so many; `object` is a further value of the record's object. The answer is where they begin, and the scenes of
+/// these events, which tell the whole memory only where that is asked for.
 ///
-/// An `Err` says that memory was refused. It would come too where the replay refused an event, as it never does with
-/// the object of the record; that isn't proved.
+/// An `Err` says that memory was refused. It would come too where the replay refused an event, here or at a scene, as
+/// it never does with the object of the record; that isn't proved.
 pub fn excerpt_of<O: Spoken>(
     alloc: Global,
     object: O,
@@ -40,17 +84,23 @@ pub fn excerpt_of<O: Spoken>(
     from: u64,
     most: u64,
     is_whole: bool,
-) -> Result<Excerpt, AllocError>
-    ensures { IfOk result (λ part. excerpt_shown part ≡
+) -> Result<(Option<Start>, Scenes<'_, O>), AllocError>
+    ensures { IfOk result (λ part.
         excerpt_of (O.sequential object) O.language O.state_text is_whole from most
-        (opened_world run.now.processes (O.sequential object).initial run.now.first) (events_shown run.now.events)) }
+        (opened_world run.now.processes (O.sequential object).initial run.now.first) (events_shown run.now.events)
+        ≡ record { start = option_map start_shown part.0; scenes = part.1 }) }
 {
     let mut replay = reopened(alloc, object, run)?;
     let mut events = run.events();
     let passed = pass(alloc, from, &mut events, &mut replay)?;
     let start = start_of(alloc, passed, &replay)?;
-    let scenes = scenes_of(alloc, most, is_whole, events, &mut replay)?;
-    Ok(Excerpt { start, scenes })
+    let scenes = Scenes {
+        replay,
+        events,
+        left: most,
+        is_whole,
+    };
+    Ok((start, scenes))
 }
 
 /// Takes so many of the events that come in a replay, or all where there are fewer; the answer is how many.
@@ -130,34 +180,6 @@ fn start_of<O: Spoken>(
         processes: replay.processes(),
         memory,
     }))
-}
-
-/// The scenes of the events that come in a replay, of at most so many.
-///
-/// An `Err` says that memory was refused, or an event.
-fn scenes_of<O: Spoken>(
-    alloc: Global,
-    most: u64,
-    is_whole: bool,
-    events: Events<'_, O::Inv>,
-    replay: &mut World<O>,
-) -> Result<Vec<Scene>, AllocError>
-    ensures { IfOk result (λ scenes. map (λ scene. Some (scene_shown scene)) scenes.items ≡
-        scenes_from (O.sequential replay.old.object) O.language O.state_text is_whole (world_of replay.old)
-        (take most (events_shown events.entry))) }
-{
-    let mut scenes = Vec::new(alloc);
-    let mut left = most;
-    for event in events {
-        if left == 0 {
-            break;
-        }
-        left -= 1;
-        let frame = frame_of(alloc, event, replay)?;
-        let memory = memory_asked(alloc, is_whole, replay)?;
-        scenes.push(Scene { frame, memory })?;
-    }
-    Ok(scenes)
 }
 
 /// Takes an event in a replay; the answer is its frame.
