@@ -54,14 +54,14 @@ abbrev strips : Picture → List ℕ
 strips p = flat_map figure_text p.strip ++ (codes "</g>\n</defs>\n" ++ (flat_map figure_text p.figures ++ codes "</svg>\n"))
 
 abbrev opened : Picture → List ℕ → List ℕ
-opened p rest = codes "<svg xmlns=\"http://www.w3.org/2000/svg\"" ++ attributes_onto (size_attributes p.width p.height)
+opened p rest = codes "<svg xmlns=\"http://www.w3.org/2000/svg\"" ++ attributes_onto (size_attributes 0 p.width p.height)
     (codes " role=\"img\" aria-labelledby=\"title description\" font-family=\"monospace\" font-size=\"13\">\n" ++ rest)
 
 abbrev upto : Picture → List ℕ → List ℕ
 upto p rest = opened p (codes "<title id=\"title\">" ++ (escaped p.title ++ (codes "</title>\n<desc id=\"description\">" ++ (escaped p.description
     ++ (codes "</desc>\n" ++ node_onto (paper_node p.width p.height) (codes "\n" ++ rest))))))
 
-pub picture_text : (p : Picture) → svg_text p ≡ codes "<svg xmlns=\"http://www.w3.org/2000/svg\"" ++ (size_text p.width p.height
+pub picture_text : (p : Picture) → svg_text p ≡ codes "<svg xmlns=\"http://www.w3.org/2000/svg\"" ++ (size_text 0 p.width p.height
     ++ (codes " role=\"img\" aria-labelledby=\"title description\" font-family=\"monospace\" font-size=\"13\">\n" ++ (codes "<title id=\"title\">"
     ++ (escaped p.title ++ (codes "</title>\n<desc id=\"description\">" ++ (escaped p.description ++ (codes "</desc>\n" ++ (paper_text p.width p.height
     ++ (codes "<defs>\n<g id=\"strip\">\n" ++ (flat_map figure_text p.strip ++ (codes "</g>\n</defs>\n" ++ (flat_map figure_text p.figures ++ codes "</svg>\n"))))))))))))
@@ -71,7 +71,7 @@ picture_text p =
     ∙ ap (λ l. upto p (codes "<defs>\n<g id=\"strip\">\n" ++ l)) (lines_onto p.strip (codes "</g>\n</defs>\n" ++ (flat_map figure_text p.figures ++ codes "</svg>\n")))
     ∙ ap (λ l. opened p (codes "<title id=\"title\">" ++ (escaped p.title ++ (codes "</title>\n<desc id=\"description\">" ++ (escaped p.description ++ (codes "</desc>\n" ++ l))))))
     (node_more (paper_node p.width p.height) (codes "\n") (codes "<defs>\n<g id=\"strip\">\n" ++ strips p))
-    ∙ ap (λ l. codes "<svg xmlns=\"http://www.w3.org/2000/svg\"" ++ l) (attributes_more (size_attributes p.width p.height) [] (codes " role=\"img\" aria-labelledby=\"title description\" font-family=\"monospace\" font-size=\"13\">\n" ++ (codes "<title id=\"title\">"
+    ∙ ap (λ l. codes "<svg xmlns=\"http://www.w3.org/2000/svg\"" ++ l) (attributes_more (size_attributes 0 p.width p.height) [] (codes " role=\"img\" aria-labelledby=\"title description\" font-family=\"monospace\" font-size=\"13\">\n" ++ (codes "<title id=\"title\">"
     ++ (escaped p.title ++ (codes "</title>\n<desc id=\"description\">" ++ (escaped p.description ++ (codes "</desc>\n" ++ (node_onto (paper_node p.width p.height) (codes "\n") ++ (codes "<defs>\n<g id=\"strip\">\n" ++ strips p)))))))))
 
 -- pieces that are added one after the other

@@ -126,18 +126,17 @@ strip_node strip =
 unfoldable pub paper_text : (width height : ℕ) → List ℕ
 paper_text width height = node_onto (paper_node width height) (codes "\n")
 
-abbrev pub size_attributes : (width height : ℕ) → List Attribute
-size_attributes width height =
-    attribute (codes "viewBox") (codes "0 0 " ++ decimal width ++ codes " " ++ decimal height) ∷ number (codes "width") width
-    ∷ number (codes "height") height ∷ []
+-- the size, and the part of the plane that is shown
+abbrev pub size_attributes : (left width height : ℕ) → List Attribute
+size_attributes left width height =
+    attribute (codes "viewBox") (view_box left width height) ∷ number (codes "width") width ∷ number (codes "height") height ∷ []
 
--- the attributes of the size as they stand in a tag
-unfoldable pub size_text : (width height : ℕ) → List ℕ
-size_text width height = attributes_onto (size_attributes width height) []
+unfoldable pub size_text : (left width height : ℕ) → List ℕ
+size_text left width height = attributes_onto (size_attributes left width height) []
 
 abbrev pub svg_attributes : (width height : ℕ) → List Attribute
 svg_attributes width height =
-    (attribute (codes "xmlns") (codes "http://www.w3.org/2000/svg") ∷ size_attributes width height)
+    (attribute (codes "xmlns") (codes "http://www.w3.org/2000/svg") ∷ size_attributes 0 width height)
     ++ (attribute (codes "role") (codes "img") ∷ attribute (codes "aria-labelledby") (codes "title description")
     ∷ attribute (codes "font-family") (codes "monospace") ∷ attribute (codes "font-size") (codes "13") ∷ [])
 

@@ -157,13 +157,13 @@ fn push_shapes(svg: &mut Vec<u8>, shapes: &[Shape]) -> Result<(), AllocError>
     Ok(())
 }
 
-/// Adds the attributes of the size of a picture, of which all is shown.
-fn push_size(svg: &mut Vec<u8>, width: u64, height: u64) -> Result<(), AllocError>
-    ensures { OnOk result (svg.new.items ≡ svg.old.items ++ size_text width height) }
+/// Adds the attributes of the size of a picture, and of the part of the plane that is shown.
+fn push_size(svg: &mut Vec<u8>, left: u64, width: u64, height: u64) -> Result<(), AllocError>
+    ensures { OnOk result (svg.new.items ≡ svg.old.items ++ size_text left width height) }
 {
     write!(
         svg,
-        " viewBox=\"0 0 {width} {height}\" width=\"{width}\" height=\"{height}\""
+        " viewBox=\"{left} 0 {width} {height}\" width=\"{width}\" height=\"{height}\""
     )
     .map_err(|_| AllocError)
 }
@@ -184,7 +184,7 @@ fn push_svg(svg: &mut Vec<u8>, drawing: &Drawing) -> Result<(), AllocError>
     ensures { OnOk result (svg.new.items ≡ svg.old.items ++ svg_text (picture drawing.now)) }
 {
     push_words(svg, "<svg xmlns=\"http://www.w3.org/2000/svg\"")?;
-    push_size(svg, drawing.width, drawing.height)?;
+    push_size(svg, 0, drawing.width, drawing.height)?;
     push_words(
         svg,
         " role=\"img\" aria-labelledby=\"title description\" font-family=\"monospace\" font-size=\"13\">\n",
