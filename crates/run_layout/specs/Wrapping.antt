@@ -1,6 +1,5 @@
 -- The lines of a text.
-use Rattle.std.specs.Prelude.{◌≡◌, ℕ, zero, suc, ◌==◌, if◌then◌else◌, nat_le, List, [], ◌∷◌, length, take, drop}
-use Rattle.std.specs.Prelude.{slice_index, codes, refl}
+use Rattle.std.specs.Prelude.{◌≡◌, ℕ, zero, suc, ◌==◌, if◌then◌else◌, nat_le, List, [], ◌∷◌, length, take, drop, slice_index, codes, refl}
 
 -- the last place below n, but for the first one, at which a text has a space; 0 where there is none
 abbrev pub last_space : List ℕ → (n : ℕ) → ℕ

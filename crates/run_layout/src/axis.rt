@@ -1,4 +1,5 @@
 //! Where each event and each refusal stands from left to right.
+//! Where no more is said, an `Err` says that memory was refused.
 
 ghost use Rattle.std.specs.Prelude.{◌≤◌, ◌<◌, ◌^◌};
 
@@ -199,8 +200,6 @@ impl Axis {
     }
 
     /// Adds what is told before an event, from a place among it on; the answer is the place of what comes next.
-    ///
-    /// An `Err` says that memory was refused.
     fn push_told(
         &mut self,
         told: &[Told],
@@ -244,8 +243,6 @@ fn told_room(told: &Told, scale: Scale) -> u32 {
 }
 
 /// How wide the column of a call is: its bar takes its label, and each further event of it has the room of a step.
-///
-/// An `Err` says that memory was refused.
 fn bar_room(alloc: Global, bar: &Bar, events: u64, scale: Scale) -> Result<u32, AllocError> {
     let label = label_room(&label_of(alloc, bar)?, scale);
     let last = match &bar.end {
@@ -258,8 +255,6 @@ fn bar_room(alloc: Global, bar: &Bar, events: u64, scale: Scale) -> Result<u32, 
 
 /// How wide the column of an event is: that of a step, but so wide that it takes the label of each bar that
 /// begins with it, or of the end of an era.
-///
-/// An `Err` says that memory was refused.
 fn width_of(alloc: Global, marks: &Marks, event: u64, scale: Scale) -> Result<u32, AllocError> {
     let mut width = scale.step;
     for line in &marks.lines {

@@ -1,4 +1,5 @@
 //! Some events of a run, and what is drawn of it where these are chosen.
+//! Where no more is said, an `Err` says that memory was refused.
 
 ghost use Rattle.std.specs.Prelude.{◌≡◌, ◌≤◌, ◌&&◌, ◌-◌, ◌==◌, not, IfOk, List, length, map};
 ghost use Rattle.std.specs.Prelude.{option_map, option_and_then};
@@ -88,8 +89,6 @@ impl Range {
 }
 
 /// The steps that are chosen.
-///
-/// An `Err` says that memory was refused.
 fn steps_in(alloc: Global, range: Range, steps: &[StepMark]) -> Result<Vec<StepMark>, AllocError>
     ensures { IfOk result (λ part. part.items
         ≡ map (step_in range) (filter (λ step. is_in range step.event) steps.now)) }
@@ -106,8 +105,6 @@ fn steps_in(alloc: Global, range: Range, steps: &[StepMark]) -> Result<Vec<StepM
 }
 
 /// The dots that are chosen.
-///
-/// An `Err` says that memory was refused.
 fn dots_in(alloc: Global, range: Range, dots: &[Dot]) -> Result<Vec<Dot>, AllocError>
     ensures { IfOk result (λ part. part.items
         ≡ map (dot_in range) (filter (λ dot. is_in range dot.event) dots.now)) }
@@ -123,8 +120,6 @@ fn dots_in(alloc: Global, range: Range, dots: &[Dot]) -> Result<Vec<Dot>, AllocE
 }
 
 /// The ends of eras that are chosen.
-///
-/// An `Err` says that memory was refused.
 fn lines_in(alloc: Global, range: Range, lines: &[EraLine]) -> Result<Vec<EraLine>, AllocError>
     ensures { IfOk result (λ part. part.items
         ≡ map (line_in range) (filter (λ line. is_in range line.event) lines.now)) }
@@ -166,8 +161,6 @@ fn bar_in(range: Range, bar: Bar) -> Bar
 }
 
 /// The bars that go over an event which is chosen, in a run of so many.
-///
-/// An `Err` says that memory was refused.
 fn bars_in(alloc: Global, range: Range, events: u64, bars: Vec<Bar>) -> Result<Vec<Bar>, AllocError>
     ensures { IfOk result (λ part. map bar_shown part.items
         ≡ map (bar_in range) (filter (is_bar_in range events) (map bar_shown bars.items))) }
@@ -193,8 +186,6 @@ fn is_linked_outside(range: Range, dots: &[Dot], cell: &CellBox) -> bool
 }
 
 /// The cells of a run with these dots that weren't linked outside.
-///
-/// An `Err` says that memory was refused.
 fn cells_in(
     alloc: Global,
     range: Range,
@@ -214,8 +205,6 @@ fn cells_in(
 }
 
 /// An era of a run with these dots, without the cells that were linked outside.
-///
-/// An `Err` says that memory was refused.
 fn era_in(alloc: Global, range: Range, dots: &[Dot], era: Era) -> Result<Era, AllocError>
     ensures { IfOk result (λ part. era_shown part ≡ era_in range dots.now (era_shown era)) }
 {
@@ -233,8 +222,6 @@ fn era_in(alloc: Global, range: Range, dots: &[Dot], era: Era) -> Result<Era, Al
 }
 
 /// The eras of a run with these dots that have an event which is chosen.
-///
-/// An `Err` says that memory was refused.
 fn eras_in(
     alloc: Global,
     range: Range,
@@ -254,8 +241,6 @@ fn eras_in(
 }
 
 /// The marks of a run, where these events are chosen.
-///
-/// An `Err` says that memory was refused.
 pub(crate) fn chosen(alloc: Global, range: Range, marks: Marks) -> Result<Marks, AllocError>
     ensures fewer { IfOk result (λ part. part.events ≤ marks.events) }
     ensures chosen { IfOk result (λ part. marks_shown part ≡ chosen range (marks_shown marks)) }
@@ -281,8 +266,6 @@ pub(crate) fn chosen(alloc: Global, range: Range, marks: Marks) -> Result<Marks,
 }
 
 /// What is told beside a run, where these events are chosen.
-///
-/// An `Err` says that memory was refused.
 pub(crate) fn chosen_remarks(
     alloc: Global,
     range: Range,

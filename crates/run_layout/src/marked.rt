@@ -1,4 +1,5 @@
 //! What a drawing has to show of a run, mark by mark, whatever it is drawn with.
+//! Where no more is said, an `Err` says that memory was refused.
 
 ghost use Rattle.std.specs.Prelude.{◌≡◌, ◌-◌, ◌++◌, ◌∷◌, [], IfOk, OnOk, Some, map};
 ghost use Rattle.std.specs.List.{flat_map};
@@ -63,8 +64,6 @@ pub struct Sign {
 type Signs = Vec<Sign>;
 
 /// Adds a mark in the column of an event and the lane of a process.
-///
-/// An `Err` says that memory was refused.
 fn push_at(
     signs: &mut Signs,
     mark: Mark,
@@ -85,8 +84,6 @@ fn push_at(
 }
 
 /// Adds the names of the processes from one on and before another.
-///
-/// An `Err` says that memory was refused.
 fn push_names(
     alloc: Global,
     event: u64,
@@ -104,8 +101,6 @@ fn push_names(
 }
 
 /// Adds the names of the lanes that an era has and the one before it hasn't.
-///
-/// An `Err` says that memory was refused.
 fn push_new_names(alloc: Global, eras: &[Era], signs: &mut Signs) -> Result<(), AllocError>
     ensures { OnOk result (map sign_shown signs.new.items
         ≡ map sign_shown signs.old.items ++ new_names 64 (map era_shown eras.now)) }
@@ -125,8 +120,6 @@ fn push_new_names(alloc: Global, eras: &[Era], signs: &mut Signs) -> Result<(), 
 }
 
 /// The end of an era.
-///
-/// An `Err` says that memory was refused.
 fn line_sign(alloc: Global, line: &EraLine) -> Result<Sign, AllocError>
     ensures { IfOk result (λ sign. sign_shown sign ≡ line_sign line.now) }
 {
@@ -173,8 +166,6 @@ fn arrow_in(alloc: Global, event: u64, by: u64, process: u64) -> Sign
 }
 
 /// Adds the arrow of help, where another process linked the cell of a call.
-///
-/// An `Err` says that memory was refused.
 fn push_arrow(alloc: Global, dot: Dot, signs: &mut Signs) -> Result<(), AllocError>
     ensures { OnOk result (map sign_shown signs.new.items
         ≡ map sign_shown signs.old.items ++ arrow_signs dot) }
@@ -187,8 +178,6 @@ fn push_arrow(alloc: Global, dot: Dot, signs: &mut Signs) -> Result<(), AllocErr
 }
 
 /// Adds a step.
-///
-/// An `Err` says that memory was refused.
 fn push_step(alloc: Global, step: StepMark, signs: &mut Signs) -> Result<(), AllocError>
     ensures { OnOk result (map sign_shown signs.new.items
         ≡ map sign_shown signs.old.items ++ step_sign step ∷ []) }
@@ -204,8 +193,6 @@ fn push_step(alloc: Global, step: StepMark, signs: &mut Signs) -> Result<(), All
 }
 
 /// Adds the label of a call, and where it has returned its counts.
-///
-/// An `Err` says that memory was refused.
 fn push_texts(alloc: Global, bar: &Bar, signs: &mut Signs) -> Result<(), AllocError>
     ensures { OnOk result (map sign_shown signs.new.items
         ≡ map sign_shown signs.old.items ++ text_signs (bar_shown bar.now)) }
@@ -274,8 +261,6 @@ pub fn after_events(count: u64) -> Edge
 }
 
 /// Adds what is told, where it has a label.
-///
-/// An `Err` says that memory was refused.
 fn push_refusal(alloc: Global, told: &Told, signs: &mut Signs) -> Result<(), AllocError>
     ensures { OnOk result (map sign_shown signs.new.items
         ≡ map sign_shown signs.old.items ++ refusal_signs (told_shown told.now)) }

@@ -1,10 +1,9 @@
 //! Refusals as they are drawn: equal ones side by side have one mark.
+//! Where no more is said, an `Err` says that memory was refused.
 
-ghost use Rattle.std.specs.Prelude.{◌≡◌, ◌++◌, ◌+◌, ◌≤◌, ◌<◌, ◌^◌, ◌∷◌, []};
-ghost use Rattle.std.specs.Prelude.{IfOk, OnOk, length, map, option_map};
-ghost use Rattle.run_layout.specs.Refusals.{reason_text, refused_text, times_text};
-ghost use Rattle.run_layout.specs.Refusals.{told_shown, told_text, have_same_text, comes_again};
-ghost use Rattle.run_layout.specs.Refusals.{label_after, times_after, labels_of};
+ghost use Rattle.std.specs.Prelude.{◌≡◌, ◌++◌, ◌+◌, ◌≤◌, ◌<◌, ◌^◌, ◌∷◌, [], IfOk, OnOk, length, map, option_map};
+ghost use Rattle.run_layout.specs.Refusals.{reason_text, refused_text, have_same_text, comes_again, label_after};
+ghost use Rattle.run_layout.specs.Refusals.{times_text, told_shown, told_text, times_after, labels_of};
 
 use crate::shortening::push_shortened;
 use std::alloc::{AllocError, Global};
@@ -21,8 +20,6 @@ pub struct Told {
 }
 
 /// Adds why a command was refused.
-///
-/// An `Err` says that memory was refused.
 fn push_reason(text: &mut Vec<u8>, refusal: Refusal) -> Result<(), AllocError>
     ensures { OnOk result (text.new.items ≡ text.old.items ++ reason_text refusal) }
 {
@@ -54,8 +51,6 @@ pub fn refused_text(alloc: Global, command: &[u8], refusal: Refusal) -> Result<V
 }
 
 /// Adds how often a refusal was told in a row, where that is more than once.
-///
-/// An `Err` says that memory was refused.
 fn push_times(text: &mut Vec<u8>, times: u64) -> Result<(), AllocError>
     ensures { OnOk result (text.new.items ≡ text.old.items ++ times_text times) }
 {
@@ -66,8 +61,6 @@ fn push_times(text: &mut Vec<u8>, times: u64) -> Result<(), AllocError>
 }
 
 /// The label of a remark that was told so often in a row; a note has none.
-///
-/// An `Err` says that memory was refused.
 fn told_text(alloc: Global, times: u64, remark: &Remark) -> Result<Option<Vec<u8>>, AllocError>
     ensures { IfOk result (λ label. option_map (λ text. text.items) label ≡ told_text times remark.now) }
 {
@@ -82,8 +75,6 @@ fn told_text(alloc: Global, times: u64, remark: &Remark) -> Result<Option<Vec<u8
 }
 
 /// Whether both are refusals with the same text.
-///
-/// An `Err` says that memory was refused.
 fn have_same_text(alloc: Global, one: &Remark, other: &Remark) -> Result<bool, AllocError>
     ensures { IfOk result (λ same. same ≡ have_same_text one.now other.now) }
 {
@@ -104,8 +95,6 @@ fn have_same_text(alloc: Global, one: &Remark, other: &Remark) -> Result<bool, A
 }
 
 /// Whether a refusal comes again at once, after as many events.
-///
-/// An `Err` says that memory was refused.
 fn comes_again(alloc: Global, one: &PlacedRemark, rest: &[PlacedRemark]) -> Result<bool, AllocError>
     ensures { IfOk result (λ again. again ≡ comes_again one.now rest.now) }
 {
@@ -119,8 +108,6 @@ fn comes_again(alloc: Global, one: &PlacedRemark, rest: &[PlacedRemark]) -> Resu
 
 /// Adds what is drawn of a remark that was told so many times before, and that these follow; the answer is how often
 /// the next one was told before.
-///
-/// An `Err` says that memory was refused.
 fn push_told(
     alloc: Global,
     times: u64,

@@ -1,4 +1,4 @@
-//! Texts in a place that has room for 24 letters.
+//! Texts in a place that has room for 24 letters. Where no more is said, an `Err` says that memory was refused.
 
 ghost use Rattle.std.specs.Prelude.{◌≡◌, ◌++◌, OnOk};
 ghost use Rattle.run_layout.specs.Shortening.{shortened};
@@ -9,8 +9,6 @@ use std::alloc::AllocError;
 const MOST_SHORT: usize = 24;
 
 /// Adds a text of at most 24 letters; of a longer one the first 22, with two dots for the rest.
-///
-/// An `Err` says that memory was refused.
 pub fn push_shortened(text: &[u8], line: &mut Vec<u8>) -> Result<(), AllocError>
     ensures { OnOk result (line.new.items ≡ line.old.items ++ shortened text.now) }
 {

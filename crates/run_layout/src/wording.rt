@@ -1,13 +1,12 @@
-//! The texts of a picture.
+//! The texts of a picture. Where no more is said, an `Err` says that memory was refused.
 
 ghost use Rattle.std.specs.Prelude.{◌≡◌, ◌++◌, [], IfOk, OnOk, option_map};
 ghost use Rattle.std.specs.List.{find};
 ghost use Rattle.std.specs.Option.{option_map_or};
 ghost use Rattle.run_replay.specs.MarksShown.{end_shown, bar_shown, cell_shown, marks_shown};
-ghost use Rattle.run_layout.specs.Wording.{linker_text, is_help};
-ghost use Rattle.run_layout.specs.Wording.{letter_of, meaning_of, label_text, counted_text, counts_text, line_text};
-ghost use Rattle.run_layout.specs.Wording.{refusal_words, lane_of, cell_words, cell_state, cell_name, title_text};
-ghost use Rattle.run_layout.specs.Wording.{name_text};
+ghost use Rattle.run_layout.specs.Wording.{linker_text, is_help, meaning_of, counted_text, counts_text, refusal_words};
+ghost use Rattle.run_layout.specs.Wording.{letter_of, label_text, line_text, cell_words, cell_state, title_text};
+ghost use Rattle.run_layout.specs.Wording.{lane_of, cell_name, name_text};
 
 use crate::shortening::push_shortened;
 use run_replay::{Bar, BarEnd, CellBox, Dot, EraEnd, EraLine, Marks, StepMark};
@@ -238,8 +237,6 @@ fn is_help(cell: &CellBox, dot: &Dot) -> bool
 }
 
 /// Adds the process that linked a cell by this dot.
-///
-/// An `Err` says that memory was refused.
 fn push_linker(dot: &Dot, text: &mut Vec<u8>) -> Result<(), AllocError>
     ensures { OnOk result (text.new.items ≡ text.old.items ++ linker_text dot.now) }
 {
@@ -247,8 +244,6 @@ fn push_linker(dot: &Dot, text: &mut Vec<u8>) -> Result<(), AllocError>
 }
 
 /// Adds the process that linked a cell, where that is another than the call's.
-///
-/// An `Err` says that memory was refused.
 fn push_helper(dots: &[Dot], cell: &CellBox, text: &mut Vec<u8>) -> Result<(), AllocError>
     ensures { OnOk result (text.new.items ≡ text.old.items
         ++ option_map_or linker_text (find (is_help (cell_shown cell.now)) dots.now) []) }

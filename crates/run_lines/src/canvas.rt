@@ -1,4 +1,5 @@
 //! Rows of letters, upon which strokes are put one after the other.
+//! Where no more is said, an `Err` says that memory was refused.
 
 ghost use Rattle.std.specs.Prelude.{◌≡◌, ◌<◌, ℕ, IfOk, IfSome, length, map, slice_index};
 ghost use Rattle.run_lines.specs.Canvas.{ink_shown, is_in_row, letter_in, letter_over, letter_seen, outline_of, row_of};
@@ -144,8 +145,6 @@ impl Seen for Stroke {
 }
 
 /// A row of so many letters, painted by strokes one after the other.
-///
-/// An `Err` says that memory was refused.
 fn row_of(alloc: Global, strokes: &[Stroke], width: usize, row: u64) -> Result<Vec<u8>, AllocError>
     ensures { IfOk result (λ letters. letters.items ≡ row_of (map stroke_shown strokes.now) width row) }
 {
@@ -159,8 +158,6 @@ fn row_of(alloc: Global, strokes: &[Stroke], width: usize, row: u64) -> Result<V
 }
 
 /// So many rows of so many letters, painted by strokes one after the other.
-///
-/// An `Err` says that memory was refused.
 pub fn rows_of(
     alloc: Global,
     strokes: &[Stroke],

@@ -1,4 +1,5 @@
 //! The strokes that signs are to have, from the lowest on.
+//! Where no more is said, an `Err` says that memory was refused.
 
 ghost use Rattle.std.specs.Prelude.{◌≡◌, ◌≤◌, ◌++◌, ◌∷◌, IfOk, OnOk, length, map};
 ghost use Rattle.std.specs.List.{flat_map};
@@ -6,9 +7,8 @@ ghost use Rattle.signs.specs.Signs.{meaning};
 ghost use Rattle.run_replay.specs.MarksShown.{marks_shown};
 ghost use Rattle.run_layout.specs.Marked.{sign_shown};
 ghost use Rattle.run_lines.specs.Numbers.{no_notes};
-ghost use Rattle.run_lines.specs.Parts.{is_arrow, layered, number_parts, numbers_from};
-ghost use Rattle.run_lines.specs.Parts.{parts_for, parts_of, parts_of_run};
-ghost use Rattle.run_lines.specs.Parts.{step_letter};
+ghost use Rattle.run_lines.specs.Parts.{is_arrow, number_parts, numbers_from, parts_for, parts_of_run, step_letter};
+ghost use Rattle.run_lines.specs.Parts.{layered, parts_of};
 
 use crate::numbering::Numbering;
 use run_layout::{Mark, Sign, after_events, letter_of, push_part, signs_of};
@@ -32,8 +32,6 @@ pub fn step_letter(kind: StepKind, changed: bool) -> u8
 }
 
 /// What a refusal says: an `x` and its label.
-///
-/// An `Err` says that memory was refused.
 pub fn refusal_text(alloc: Global, label: &[u8]) -> Result<Vec<u8>, AllocError>
     ensures { IfOk result (λ text. text.items ≡ 120 ∷ 32 ∷ label.now) }
 {
@@ -53,8 +51,6 @@ fn is_arrow(mark: Mark) -> bool
 }
 
 /// Signs as they are painted: arrows are behind all else, and come last.
-///
-/// An `Err` says that memory was refused.
 pub fn layered(alloc: Global, signs: Vec<Sign>) -> Result<Vec<Sign>, AllocError>
     ensures { IfOk result (λ all. map sign_shown all.items ≡ layered (map sign_shown signs.items)) }
 {
@@ -72,8 +68,6 @@ pub fn layered(alloc: Global, signs: Vec<Sign>) -> Result<Vec<Sign>, AllocError>
 }
 
 /// Adds the strokes that a sign is to have.
-///
-/// An `Err` says that memory was refused.
 fn push_parts(alloc: Global, sign: &Sign, parts: &mut Vec<Part>) -> Result<(), AllocError>
     ensures { OnOk result (map meaning parts.new.items
         ≡ map meaning parts.old.items ++ parts_of (sign_shown sign.now)) }
@@ -106,8 +100,6 @@ fn push_parts(alloc: Global, sign: &Sign, parts: &mut Vec<Part>) -> Result<(), A
 }
 
 /// Adds the strokes that signs are to have.
-///
-/// An `Err` says that memory was refused.
 fn push_all_parts(alloc: Global, signs: &[Sign], parts: &mut Vec<Part>) -> Result<(), AllocError>
     ensures { OnOk result (map meaning parts.new.items
         ≡ map meaning parts.old.items ++ flat_map parts_of (map sign_shown signs.now)) }
@@ -119,8 +111,6 @@ fn push_all_parts(alloc: Global, signs: &[Sign], parts: &mut Vec<Part>) -> Resul
 }
 
 /// Adds the number of a note, where the events before it are over.
-///
-/// An `Err` says that memory was refused.
 fn push_number(
     alloc: Global,
     number: u64,
@@ -144,8 +134,6 @@ fn push_number(
 }
 
 /// Adds the numbers of notes.
-///
-/// An `Err` says that memory was refused.
 fn push_numbers(
     alloc: Global,
     remarks: &[PlacedRemark],
@@ -164,8 +152,6 @@ fn push_numbers(
 }
 
 /// The strokes that the marks of a run are to have, with what is told beside its events.
-///
-/// An `Err` says that memory was refused.
 pub fn parts_of_run(
     alloc: Global,
     marks: &Marks,

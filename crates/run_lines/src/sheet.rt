@@ -1,4 +1,4 @@
-//! The whole text.
+//! The whole text. Where no more is said, an `Err` says that memory was refused.
 
 ghost use Rattle.std.specs.Prelude.{◌≡◌, ◌++◌, ◌∷◌, [], ◌+◌, ◌<◌, ◌≤◌, ◌^◌};
 ghost use Rattle.std.specs.Prelude.{IfOk, IsErrOf, IsTrue, OnOk, length, map, take};
@@ -65,8 +65,6 @@ pub struct Sketch {
 }
 
 /// What stands before a row: the name of its process, before the row of its bars, where so many lanes have names there.
-///
-/// An `Err` says that memory was refused.
 fn row_name(alloc: Global, named: u64, row: u64) -> Result<Vec<u8>, AllocError>
     ensures { IfOk result (λ name. name.items ≡ row_name named row) }
 {
@@ -88,8 +86,6 @@ fn trimmed(text: &[u8]) -> &[u8]
 }
 
 /// A row behind the name of its lane, where it has one.
-///
-/// An `Err` says that memory was refused.
 fn named_row(alloc: Global, named: u64, row: u64, letters: &[u8]) -> Result<Vec<u8>, AllocError>
     ensures { IfOk result (λ line. line.items ≡ named_row named row letters.now) }
 {
@@ -100,8 +96,6 @@ fn named_row(alloc: Global, named: u64, row: u64, letters: &[u8]) -> Result<Vec<
 }
 
 /// Adds the line of a row; one above the lanes is left out where it is empty.
-///
-/// An `Err` says that memory was refused.
 fn push_shown(row: u64, line: &[u8], text: &mut Vec<u8>) -> Result<(), AllocError>
     ensures { OnOk result (text.new.items ≡ text.old.items ++ shown_line row line.now) }
 {
@@ -113,8 +107,6 @@ fn push_shown(row: u64, line: &[u8], text: &mut Vec<u8>) -> Result<(), AllocErro
 
 /// Adds a row behind the name of its lane, without the blanks at its end; above the lanes a blank one is
 /// left out.
-///
-/// An `Err` says that memory was refused.
 fn push_row(
     alloc: Global,
     named: u64,
@@ -129,8 +121,6 @@ fn push_row(
 }
 
 /// Of the left edges of so many columns, which a text goes across.
-///
-/// An `Err` says that memory was refused.
 fn edges_crossed(alloc: Global, strokes: &[Stroke], count: usize) -> Result<Vec<bool>, AllocError> {
     let mut crossed = vec![in alloc; false; count]?;
     for stroke in strokes {
@@ -140,17 +130,13 @@ fn edges_crossed(alloc: Global, strokes: &[Stroke], count: usize) -> Result<Vec<
 }
 
 /// How wide a block is that begins at a column: as wide as it can be behind the names, so that its end cuts no label.
-fn block_width(columns: u64, crossed: &[bool], from: usize) -> usize
-    requires { from ≤ 2 ^ 33 }
-    ensures some { 0 < result }
-    ensures most { result ≤ 1000 }
-{
+fn block_width(columns: u64, crossed: &[bool], from: usize) -> usize {
     let most = (columns.min(MOST_COLUMNS) as usize)
         .saturating_sub(NAMES)
         .max(1);
     for left_out in 0..most {
         let width = most - left_out;
-        if crossed.get(from + width) != Some(&true) {
+        if crossed.get(from.saturating_add(width)) != Some(&true) {
             return width;
         }
     }
@@ -158,8 +144,6 @@ fn block_width(columns: u64, crossed: &[bool], from: usize) -> usize
 }
 
 /// The blocks of the rows.
-///
-/// An `Err` says that memory was refused.
 fn blocks_of(
     alloc: Global,
     columns: u64,
@@ -171,10 +155,13 @@ fn blocks_of(
     let crossed = edges_crossed(alloc, strokes, width + MOST_COLUMNS as usize)?;
     let mut blocks = Vec::new(alloc);
     let mut from = 0;
-    while from < width {
-        let to = from + block_width(columns, &crossed, from);
+    for _ in 0..width {
+        if from >= width {
+            return Ok(blocks);
+        }
+        let to = from.saturating_add(block_width(columns, &crossed, from));
         let start = from as u64;
-        let named = lanes_between(stretches, start, start + 1);
+        let named = lanes_between(stretches, start, start.saturating_add(1));
         let lanes = lanes_between(stretches, start, to as u64) as u8;
         blocks.push(Block {
             from,
@@ -259,8 +246,6 @@ fn rows_drawn(rows: &[Vec<u8>], lanes: u8) -> &[Vec<u8>]
 }
 
 /// Adds the rows of a block, with a blank line before them.
-///
-/// An `Err` says that memory was refused.
 fn push_block(
     alloc: Global,
     rows: &[Vec<u8>],
@@ -284,8 +269,6 @@ fn push_block(
 }
 
 /// Adds the rows of blocks.
-///
-/// An `Err` says that memory was refused.
 fn push_blocks(
     alloc: Global,
     rows: &[Vec<u8>],
@@ -302,8 +285,6 @@ fn push_blocks(
 }
 
 /// Adds what stands above the rows: the title and the headings.
-///
-/// An `Err` says that memory was refused.
 fn push_above(
     alloc: Global,
     columns: u64,
@@ -319,8 +300,6 @@ fn push_above(
 }
 
 /// Adds the rows of a sketch, and a blank line.
-///
-/// An `Err` says that memory was refused.
 fn push_sketch(alloc: Global, sketch: &Sketch, text: &mut Vec<u8>) -> Result<(), AllocError>
     ensures { OnOk result (text.new.items ≡ text.old.items ++ rows_text_of (places_shown sketch.now.layout)
         (map stroke_shown sketch.now.strokes.items) sketch.now.blocks.items) }
@@ -333,8 +312,6 @@ fn push_sketch(alloc: Global, sketch: &Sketch, text: &mut Vec<u8>) -> Result<(),
 }
 
 /// Adds what stands below the rows: the notes and the eras.
-///
-/// An `Err` says that memory was refused.
 fn push_below(
     alloc: Global,
     columns: u64,
@@ -351,8 +328,6 @@ fn push_below(
 }
 
 /// The text of a sketch, with what stands above and below its rows.
-///
-/// An `Err` says that memory was refused.
 #[tactic(auto, using(crate::proofs::Pieces::has_text))]
 fn text_of(
     alloc: Global,

@@ -1,6 +1,6 @@
-//! The strokes of signs, from the lowest on.
+//! The strokes of signs, from the lowest on. Where no more is said, an `Err` says that memory was refused.
 
-ghost use Rattle.std.specs.Prelude.{◌≤◌, ◌<◌, ◌^◌, length};
+ghost use Rattle.std.specs.Prelude.{◌≤◌, length};
 
 use crate::canvas::{Ink, Stroke};
 use crate::numbering::Numbering;
@@ -17,41 +17,39 @@ pub const ABOVE: u64 = 2;
 /// How many rows a lane has: labels, bars with the letters of steps, dots, and counts.
 pub const LANE: u64 = 4;
 
-/// Adds a stroke in one row.
-///
-/// An `Err` says that memory was refused.
-fn push_ink(strokes: &mut Vec<Stroke>, row: u64, column: u64, ink: Ink) -> Result<(), AllocError>
-    requires { row < 2 ^ 41 }
-{
-    strokes.push(Stroke {
-        top: row,
-        bottom: row + 1,
+/// Adds a stroke, in the rows from one to before another.
+fn push_stroke(
+    strokes: &mut Vec<Stroke>,
+    rows: (u64, u64),
+    column: u64,
+    ink: Ink,
+) -> Result<(), AllocError> {
+    let (top, bottom) = rows;
+    Ok(strokes.push(Stroke {
+        top,
+        bottom,
         column,
         ink,
-    })?;
-    Ok(())
+    })?)
+}
+
+/// Adds a stroke in one row.
+fn push_ink(strokes: &mut Vec<Stroke>, row: u64, column: u64, ink: Ink) -> Result<(), AllocError> {
+    push_stroke(strokes, (row, row.saturating_add(1)), column, ink)
 }
 
 /// Adds a letter.
-///
-/// An `Err` says that memory was refused.
 fn push_letter(
     alloc: Global,
     strokes: &mut Vec<Stroke>,
     row: u64,
     column: u64,
     letter: u8,
-) -> Result<(), AllocError>
-    requires { row < 2 ^ 41 }
-{
-    let mut text = Vec::new(alloc);
-    text.push(letter)?;
-    push_ink(strokes, row, column, Ink::Text(text))
+) -> Result<(), AllocError> {
+    push_ink(strokes, row, column, Ink::Text([letter].to_vec(alloc)?))
 }
 
 /// Adds a sign, with a refusal no further left than `free`, which is moved on.
-///
-/// An `Err` says that memory was refused.
 fn push_sign(
     alloc: Global,
     layout: &Layout,
@@ -69,19 +67,14 @@ fn push_sign(
     match sign.mark {
         Mark::Name => push_ink(strokes, row + 1, left + 1, Ink::Text(text)),
         Mark::End => {
-            strokes.push(Stroke {
-                top: ABOVE,
-                bottom: end,
-                column: left,
-                ink: Ink::Line,
-            })?;
+            push_stroke(strokes, (ABOVE, end), left, Ink::Line)?;
             push_ink(strokes, ABOVE - 1, left, Ink::Text(text))
         }
         Mark::Bar | Mark::Open => {
             push_ink(strokes, row + 1, left, Ink::Bar(right.saturating_sub(left)))
         }
-        Mark::Down => push_arrow(strokes, row + 2, lower + 2, left),
-        Mark::Up => push_arrow(strokes, row + 3, lower + 1, left),
+        Mark::Down => push_stroke(strokes, (row + 2, lower + 2), left, Ink::Arrow),
+        Mark::Up => push_stroke(strokes, (row + 3, lower + 1), left, Ink::Arrow),
         Mark::Step(kind, changed) => {
             push_letter(alloc, strokes, row + 1, left, step_letter(kind, changed))
         }
@@ -104,27 +97,7 @@ fn push_sign(
     }
 }
 
-/// Adds the line of an arrow, in the rows from one to before another.
-///
-/// An `Err` says that memory was refused.
-fn push_arrow(
-    strokes: &mut Vec<Stroke>,
-    top: u64,
-    bottom: u64,
-    column: u64,
-) -> Result<(), AllocError> {
-    strokes.push(Stroke {
-        top,
-        bottom,
-        column,
-        ink: Ink::Arrow,
-    })?;
-    Ok(())
-}
-
 /// Adds signs.
-///
-/// An `Err` says that memory was refused.
 pub fn push_signs(
     alloc: Global,
     layout: &Layout,
@@ -139,8 +112,6 @@ pub fn push_signs(
 }
 
 /// Adds the numbers of the notes among what is told.
-///
-/// An `Err` says that memory was refused.
 pub fn push_numbers(
     alloc: Global,
     remarks: &[PlacedRemark],

@@ -1,7 +1,7 @@
 //! What stands above and below the rows: headings, notes, eras and the legend.
+//! Where no more is said, an `Err` says that memory was refused.
 
-ghost use Rattle.std.specs.Prelude.{◌≡◌, ◌++◌, ◌+◌, ◌<◌, ◌≤◌, ◌^◌, IfOk, OnOk};
-ghost use Rattle.std.specs.Prelude.{length, map, option_map};
+ghost use Rattle.std.specs.Prelude.{◌≡◌, ◌++◌, ◌+◌, ◌<◌, ◌≤◌, ◌^◌, IfOk, OnOk, length, map, option_map};
 ghost use Rattle.run_replay.specs.MarksShown.{cell_shown, era_shown};
 ghost use Rattle.run_lines.specs.Numbers.{no_notes};
 ghost use Rattle.run_lines.specs.Sheet.{ended, wrapped, padded, headings_text, numbered_note, notes_from, state_text};
@@ -25,8 +25,6 @@ const ENTRY: usize = 30;
 const SIGNS: &str = "[ a call begins; * it takes effect; | another process links it; x refused";
 
 /// Adds a line and its end.
-///
-/// An `Err` says that memory was refused.
 pub fn push_line(line: &[u8], text: &mut Vec<u8>) -> Result<(), AllocError>
     ensures { OnOk result (text.new.items ≡ text.old.items ++ ended line.now) }
 {
@@ -36,8 +34,6 @@ pub fn push_line(line: &[u8], text: &mut Vec<u8>) -> Result<(), AllocError>
 }
 
 /// Adds a text in lines of at most so many columns.
-///
-/// An `Err` says that memory was refused.
 pub fn push_wrapped(
     alloc: Global,
     columns: u64,
@@ -55,8 +51,6 @@ pub fn push_wrapped(
 }
 
 /// Adds a part, and blanks after it up to a width.
-///
-/// An `Err` says that memory was refused.
 pub fn push_padded(
     alloc: Global,
     part: &[u8],
@@ -71,8 +65,6 @@ pub fn push_padded(
 }
 
 /// Adds the notes that come before the header.
-///
-/// An `Err` says that memory was refused.
 pub fn push_headings(
     alloc: Global,
     columns: u64,
@@ -90,8 +82,6 @@ pub fn push_headings(
 }
 
 /// Adds a note with its number, in lines; nothing of one that is empty.
-///
-/// An `Err` says that memory was refused.
 fn push_note(
     alloc: Global,
     columns: u64,
@@ -111,8 +101,6 @@ fn push_note(
 }
 
 /// Adds the notes that come after the header, with the numbers that they have above the lanes.
-///
-/// An `Err` says that memory was refused.
 pub fn push_notes(
     alloc: Global,
     columns: u64,
@@ -133,8 +121,6 @@ pub fn push_notes(
 }
 
 /// Adds the state after a cell, if it is told.
-///
-/// An `Err` says that memory was refused.
 fn push_state(state: Option<Vec<u8>>, text: &mut Vec<u8>) -> Result<(), AllocError>
     ensures { OnOk result (text.new.items
         ≡ text.old.items ++ state_text (option_map (λ told. told.items) state)) }
@@ -149,8 +135,6 @@ fn push_state(state: Option<Vec<u8>>, text: &mut Vec<u8>) -> Result<(), AllocErr
 }
 
 /// A cell, with the state after it where it is short.
-///
-/// An `Err` says that memory was refused.
 fn cell_line(alloc: Global, dots: &[Dot], cell: &CellBox) -> Result<Vec<u8>, AllocError>
     ensures { IfOk result (λ line. line.items ≡ cell_line dots.now (cell_shown cell.now)) }
 {
@@ -164,8 +148,6 @@ fn cell_line(alloc: Global, dots: &[Dot], cell: &CellBox) -> Result<Vec<u8>, All
 }
 
 /// Adds a cell, in lines.
-///
-/// An `Err` says that memory was refused.
 fn push_cell(
     alloc: Global,
     columns: u64,
@@ -179,8 +161,6 @@ fn push_cell(
 }
 
 /// Adds an era, with its place among the eras from 0: its anchor, and its cells in the order of the list.
-///
-/// An `Err` says that memory was refused.
 fn push_era(
     alloc: Global,
     columns: u64,
@@ -202,8 +182,6 @@ fn push_era(
 }
 
 /// Adds all eras of a run with these dots.
-///
-/// An `Err` says that memory was refused.
 pub fn push_eras(
     alloc: Global,
     columns: u64,
@@ -221,8 +199,6 @@ pub fn push_eras(
 
 /// The legend of some kinds of step, as many in a line as fit, but three at most, with what a small letter means
 /// where a step changed nothing.
-///
-/// An `Err` says that memory was refused.
 pub fn legend_of(
     alloc: Global,
     columns: u64,

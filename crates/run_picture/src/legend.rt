@@ -1,10 +1,6 @@
-//! The legend.
+//! The legend. Each `Err` says that memory was refused.
 
-ghost use Rattle.std.specs.Prelude.{◌≤◌, ◌<◌, ◌^◌};
-
-use crate::figures::{
-    Toward, push_anchored, push_cross, push_line, push_open, push_rect, push_text, push_tip,
-};
+use crate::figures::{Sheet, Spot, Toward};
 use crate::lanes::MARGIN;
 use crate::paint::{letter_paint, mark_paint};
 use run_layout::{letter_of, meaning_of};
@@ -61,35 +57,30 @@ impl Entry {
     }
 
     /// Adds what it shows, with this left and top.
-    ///
-    /// An `Err` says that memory was refused.
-    fn push(self, alloc: Global, x: u64, y: u64, shapes: &mut Vec<Shape>) -> Result<(), AllocError>
-        requires left { x < 2 ^ 38 }
-        requires top { y < 2 ^ 38 }
-    {
+    fn push(self, sheet: &mut Sheet, at: Spot) -> Result<(), AllocError> {
         match self {
             Entry::Kind(kind) => {
-                push_rect(shapes, (x, y), MARK, mark_paint(kind, true))?;
-                let mut letter = Vec::new(alloc);
-                letter.push(letter_of(kind))?;
+                sheet.push_rect(at, MARK, mark_paint(kind, true))?;
+                let letter = [letter_of(kind)].to_vec(sheet.alloc)?;
                 let paint = letter_paint(kind, true);
-                push_anchored(shapes, (x + 7, y + 15), Anchor::Middle, paint, letter)
+                sheet.push_anchored(at.by(7, 15), Anchor::Middle, paint, letter)
             }
-            Entry::Dot => Ok(shapes.push(Shape::Dot { x: x + 7, y: y + 9 })?),
+            Entry::Dot => {
+                let Spot { x, y } = at.by(7, 9);
+                Ok(sheet.shapes.push(Shape::Dot { x, y })?)
+            }
             Entry::Arrow => {
-                push_line(shapes, (x + 7, y), (x + 7, y + 16), Paint::Thick)?;
-                push_tip(shapes, x + 7, y + 18, Toward::Down)
+                sheet.push_line(at.by(7, 0), at.by(7, 16), Paint::Thick)?;
+                sheet.push_tip(at.by(7, 18), Toward::Down)
             }
-            Entry::Refusal => push_cross(shapes, (x + 2, y + 4), (x + 12, y + 14)),
-            Entry::Open => push_open(shapes, (x, y + 2), (x + 16, y + 16)),
-            Entry::Pale => push_rect(shapes, (x, y), MARK, Paint::Pale(Colour::Blue)),
+            Entry::Refusal => sheet.push_cross(at.by(2, 4), at.by(12, 14)),
+            Entry::Open => sheet.push_open(at.by(0, 2), at.by(16, 16)),
+            Entry::Pale => sheet.push_rect(at, MARK, Paint::Pale(Colour::Blue)),
         }
     }
 }
 
 /// The entries of the legend: some kinds of step, the signs, and a pale mark where a step changed nothing.
-///
-/// An `Err` says that memory was refused.
 pub fn entries_of(
     alloc: Global,
     kinds: &[StepKind],
@@ -106,40 +97,22 @@ pub fn entries_of(
     Ok(entries)
 }
 
-/// How high the legend of some entries is, with the room below it.
-pub fn legend_height(entries: &[Entry]) -> u64
-    ensures small { result ≤ 1000 }
-{
-    let lines = ((entries.len() as u64).min(MOST) + IN_A_LINE - 1) / IN_A_LINE;
-    3 * MARGIN + lines * ENTRY_HEIGHT
-}
-
-/// Adds the legend of some entries below a place, with a line above it.
-///
-/// An `Err` says that memory was refused.
-pub fn push_legend(
-    alloc: Global,
-    entries: &[Entry],
-    width: u64,
-    bottom: u64,
-    shapes: &mut Vec<Shape>,
-) -> Result<(), AllocError>
-    requires wide { 12 ≤ width }
-    requires low { bottom < 2 ^ 36 }
-{
-    let line = bottom + MARGIN;
-    push_line(shapes, (MARGIN, line), (width - MARGIN, line), Paint::Faint)?;
+/// Adds the legend of some entries, with a line above it and room below it.
+pub fn push_legend(sheet: &mut Sheet, entries: &[Entry]) -> Result<(), AllocError> {
+    let line = sheet.below(MARGIN, MARGIN);
+    let width = sheet.width.saturating_sub(2 * MARGIN);
+    sheet.push_line(line, line.by(width, 0), Paint::Faint)?;
     for (place, entry) in entries.iter().enumerate() {
         let place = (place as u64).min(MOST);
-        let x = MARGIN + place % IN_A_LINE * ENTRY;
-        let y = line + MARGIN + place / IN_A_LINE * ENTRY_HEIGHT;
-        entry.push(alloc, x, y, shapes)?;
-        push_text(
-            shapes,
-            x + 22,
-            y + 14,
-            entry.text().as_bytes().to_vec(alloc)?,
-        )?;
+        let at = line.by(
+            place % IN_A_LINE * ENTRY,
+            MARGIN + place / IN_A_LINE * ENTRY_HEIGHT,
+        );
+        entry.push(sheet, at)?;
+        let text = entry.text().as_bytes().to_vec(sheet.alloc)?;
+        sheet.push_text(at.by(22, 14), text)?;
     }
+    let lines = ((entries.len() as u64).min(MOST) + IN_A_LINE - 1) / IN_A_LINE;
+    sheet.move_down(3 * MARGIN + lines * ENTRY_HEIGHT);
     Ok(())
 }

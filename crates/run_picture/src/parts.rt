@@ -1,13 +1,13 @@
 //! The shapes that a drawing is to have, from the lowest on.
+//! Where no more is said, an `Err` says that memory was refused.
 
 ghost use Rattle.std.specs.Prelude.{◌≡◌, ◌++◌, ◌∷◌, [], ◌+◌, ◌<◌, ◌^◌, IfOk, OnOk, map};
 ghost use Rattle.std.specs.List.{flat_map};
 ghost use Rattle.signs.specs.Signs.{meaning};
 ghost use Rattle.run_replay.specs.MarksShown.{cell_shown, era_shown};
 ghost use Rattle.run_layout.specs.Marked.{sign_shown};
-ghost use Rattle.run_picture.specs.Parts.{anchor_lines, anywhere, box_parts, cell_lines};
-ghost use Rattle.run_picture.specs.Parts.{cell_parts, era_name, era_parts, is_next};
-ghost use Rattle.run_picture.specs.Parts.{eras_from, parts_of, step_look};
+ghost use Rattle.run_picture.specs.Parts.{anchor_lines, box_parts, cell_lines, cell_parts, era_parts, eras_from};
+ghost use Rattle.run_picture.specs.Parts.{anywhere, era_name, is_next, parts_of, step_look};
 
 use run_layout::{
     Mark, Sign, cell_name, cell_state, cell_words, letter_of, push_part, push_part_in,
@@ -25,8 +25,6 @@ fn step_look(changed: bool) -> Look
 }
 
 /// Adds the shapes that a sign is to have.
-///
-/// An `Err` says that memory was refused.
 fn push_parts(alloc: Global, sign: &Sign, parts: &mut Vec<Part>) -> Result<(), AllocError>
     ensures { OnOk result (map meaning parts.new.items
         ≡ map meaning parts.old.items ++ parts_of (sign_shown sign.now)) }
@@ -69,8 +67,6 @@ fn push_parts(alloc: Global, sign: &Sign, parts: &mut Vec<Part>) -> Result<(), A
 }
 
 /// The shapes that signs are to have.
-///
-/// An `Err` says that memory was refused.
 pub fn parts_of(alloc: Global, signs: &[Sign]) -> Result<Vec<Part>, AllocError>
     ensures { IfOk result (λ parts. map meaning parts.items ≡ flat_map parts_of (map sign_shown signs.now)) }
 {
@@ -82,8 +78,6 @@ pub fn parts_of(alloc: Global, signs: &[Sign]) -> Result<Vec<Part>, AllocError>
 }
 
 /// Adds a shape that stands in no column.
-///
-/// An `Err` says that memory was refused.
 fn push_anywhere(look: Look, text: Vec<u8>, parts: &mut Vec<Part>) -> Result<(), AllocError>
     ensures { OnOk result (map meaning parts.new.items
         ≡ map meaning parts.old.items ++ anywhere look text.items ∷ []) }
@@ -98,8 +92,6 @@ fn push_anywhere(look: Look, text: Vec<u8>, parts: &mut Vec<Part>) -> Result<(),
 }
 
 /// Adds a box with lines of text.
-///
-/// An `Err` says that memory was refused.
 fn push_box(alloc: Global, lines: Vec<Vec<u8>>, parts: &mut Vec<Part>) -> Result<(), AllocError>
     ensures { OnOk result (map meaning parts.new.items
         ≡ map meaning parts.old.items ++ box_parts (map (λ line. line.items) lines.items)) }
@@ -112,8 +104,6 @@ fn push_box(alloc: Global, lines: Vec<Vec<u8>>, parts: &mut Vec<Part>) -> Result
 }
 
 /// The lines in the box of a cell, by the dots of the run.
-///
-/// An `Err` says that memory was refused.
 pub fn cell_lines(alloc: Global, dots: &[Dot], cell: &CellBox) -> Result<Vec<Vec<u8>>, AllocError>
     ensures { IfOk result (λ lines. map (λ line. line.items) lines.items
         ≡ cell_lines dots.now (cell_shown cell.now)) }
@@ -128,8 +118,6 @@ pub fn cell_lines(alloc: Global, dots: &[Dot], cell: &CellBox) -> Result<Vec<Vec
 }
 
 /// The lines in the box of an anchor.
-///
-/// An `Err` says that memory was refused.
 pub fn anchor_lines(alloc: Global, anchor: u64) -> Result<Vec<Vec<u8>>, AllocError>
     ensures { IfOk result (λ lines. map (λ line. line.items) lines.items ≡ anchor_lines anchor) }
 {
@@ -142,8 +130,6 @@ pub fn anchor_lines(alloc: Global, anchor: u64) -> Result<Vec<Vec<u8>>, AllocErr
 }
 
 /// The name of an era, by its place from 0.
-///
-/// An `Err` says that memory was refused.
 pub fn era_name(alloc: Global, place: u64) -> Result<Vec<u8>, AllocError>
     requires { place + 1 < 2 ^ 64 }
     ensures { IfOk result (λ name. name.items ≡ era_name place) }
@@ -162,8 +148,6 @@ pub fn is_next(before: u64, number: u64) -> bool
 }
 
 /// Adds a cell, after the box of this number.
-///
-/// An `Err` says that memory was refused.
 fn push_cell(
     alloc: Global,
     dots: &[Dot],
@@ -183,8 +167,6 @@ fn push_cell(
 }
 
 /// Adds an era, by its place from 0.
-///
-/// An `Err` says that memory was refused.
 fn push_era(
     alloc: Global,
     dots: &[Dot],
@@ -207,8 +189,6 @@ fn push_era(
 }
 
 /// The shapes that the boxes of cells are to have.
-///
-/// An `Err` says that memory was refused.
 pub fn boxes_of(alloc: Global, dots: &[Dot], eras: &[Era]) -> Result<Vec<Part>, AllocError>
     ensures { IfOk result (λ parts. map meaning parts.items ≡ eras_from dots.now 0 (map era_shown eras.now)) }
 {

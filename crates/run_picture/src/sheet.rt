@@ -1,19 +1,21 @@
-//! The whole picture, drawn and not yet tried.
+//! The whole picture, drawn and not yet tried. Where no more is said, an `Err` says that memory was refused.
 
-ghost use Rattle.std.specs.Prelude.{◌≤◌, ◌<◌, ◌^◌, IfOk, length};
+ghost use Rattle.std.specs.Prelude.{◌≤◌, length};
 
 use crate::cells::push_cells;
-use crate::figures::push_anchored;
-use crate::lanes::{LANE, Lanes, MARGIN, START, TOP, push_eras, strip_end};
-use crate::legend::{entries_of, legend_height, push_legend};
-use crate::notes::{description_of, line_letters, push_headings, push_rooms};
+use crate::figures::{Sheet, Spot};
+use crate::lanes::{LANE, MARGIN, START, TOP, push_eras, strip_end};
+use crate::legend::{entries_of, push_legend};
+use crate::notes::{description_of, push_headings, push_rooms};
 use crate::rows::{push_rows, rows_of};
 use crate::strip::{label_span, push_signs};
-use run_layout::{Axis, Scale, Side, Sign, any_unchanged, axis_of, kinds_of, signs_of, title_of};
+use run_layout::{
+    Axis, MOST_LANES, Scale, Side, Sign, any_unchanged, axis_of, kinds_of, signs_of, title_of,
+};
 use run_replay::Marks;
 use signs::{Layout, Span};
 use std::alloc::{AllocError, Global};
-use svg_text::{Anchor, Drawing, Paint, Shape};
+use svg_text::{Anchor, Drawing, Paint};
 use uni_script::PlacedRemark;
 
 /// How wide a picture is at least.
@@ -44,18 +46,13 @@ pub struct Drawn {
 }
 
 /// How wide a picture is: as wide as its strip.
-fn width_of(axis: &Axis) -> u64
-    ensures least { 960 ≤ result }
-    ensures most { result ≤ 1400 }
-{
+fn width_of(axis: &Axis) -> u64 {
     (u64::from(axis.end) + 2 * MARGIN)
         .min(MOST_WIDTH)
         .max(LEAST_WIDTH)
 }
 
 /// Where no row is to end: within a label, or the room of a note.
-///
-/// An `Err` says that memory was refused.
 fn labels_of(
     alloc: Global,
     layout: &Layout,
@@ -73,24 +70,6 @@ fn labels_of(
     Ok(labels)
 }
 
-/// Adds the title and the headings; the answer is where they end.
-///
-/// An `Err` says that memory was refused.
-fn push_heads(
-    alloc: Global,
-    marks: &Marks,
-    remarks: &[PlacedRemark],
-    width: u64,
-    shapes: &mut Vec<Shape>,
-) -> Result<u64, AllocError>
-    requires { length remarks.now ≤ 100000 }
-    ensures low { IfOk result (λ end. end < 2 ^ 35) }
-{
-    let title = title_of(alloc, marks)?;
-    push_anchored(shapes, (MARGIN, 28), Anchor::Start, Paint::Title, title)?;
-    push_headings(alloc, remarks, line_letters(width), 32, shapes)
-}
-
 /// Draws the marks of a run, with what was told beside its events.
 ///
 /// An `Err` says that memory was refused.
@@ -99,42 +78,39 @@ pub fn draw(alloc: Global, marks: &Marks, remarks: &[PlacedRemark]) -> Result<Dr
     requires remarks { length remarks.now ≤ 100000 }
 {
     let axis = axis_of(alloc, marks, remarks, SCALE)?;
-    let lanes = Lanes::of_run(marks);
     let end = strip_end(&axis);
-    let layout = axis.layout(alloc, end, TOP, LANE, u64::from(lanes.count))?;
+    let layout = axis.layout(alloc, end, TOP, LANE, marks.lanes().min(MOST_LANES))?;
     let stretches = axis.stretches(alloc, &marks.eras, START, end, Side::Middle)?;
     let signs = signs_of(alloc, marks, remarks)?;
     let labels = labels_of(alloc, &layout, &signs, remarks, &axis)?;
     let rows = rows_of(alloc, &labels, &axis)?;
-    let mut strip = Vec::new(alloc);
-    push_eras(alloc, &stretches, lanes, &mut strip)?;
-    push_signs(alloc, &layout, signs, u64::from(SCALE.start), &mut strip)?;
-    let width = width_of(&axis);
-    let mut shapes = Vec::new(alloc);
-    let top = push_heads(alloc, marks, remarks, width, &mut shapes)?;
-    let above = push_rows(
-        alloc,
-        &stretches,
-        remarks,
-        &axis,
-        &rows,
-        width,
-        top,
-        &mut shapes,
+    let mut strip = Sheet::of_width(alloc, end);
+    push_eras(&mut strip, &stretches)?;
+    push_signs(&mut strip, &layout, signs, u64::from(SCALE.start))?;
+    let mut sheet = Sheet::of_width(alloc, width_of(&axis));
+    let title = title_of(alloc, marks)?;
+    sheet.push_anchored(
+        Spot { x: MARGIN, y: 28 },
+        Anchor::Start,
+        Paint::Title,
+        title,
     )?;
-    let first = shapes.len();
-    let below = push_cells(alloc, &marks.dots, &marks.eras, width, above, &mut shapes)?;
-    let boxes = (first, shapes.len());
+    sheet.move_down(32);
+    push_headings(&mut sheet, remarks)?;
+    push_rows(&mut sheet, &stretches, remarks, &axis, &rows)?;
+    let first = sheet.shapes.len();
+    push_cells(&mut sheet, &marks.dots, &marks.eras)?;
+    let boxes = (first, sheet.shapes.len());
     let unchanged = any_unchanged(&marks.steps);
     let entries = entries_of(alloc, &kinds_of(alloc, &marks.steps)?, unchanged)?;
-    push_legend(alloc, &entries, width, below, &mut shapes)?;
+    push_legend(&mut sheet, &entries)?;
     let drawing = Drawing {
-        width,
-        height: below + legend_height(&entries),
+        width: sheet.width,
+        height: sheet.bottom,
         title: title_of(alloc, marks)?,
         description: description_of(alloc, remarks)?,
-        strip,
-        shapes,
+        strip: strip.shapes,
+        shapes: sheet.shapes,
     };
     Ok(Drawn {
         drawing,

@@ -1,5 +1,7 @@
 -- What `escaped` makes.
-use Rattle.svg_text.proofs.Vocabulary.{AllByRecursion, IsNoMarkup, List, None, [], ap, arith, cases_eq, decimal, digit_glyph, digits, digits_onto, eqb-false, escaped, escaped_byte, false, if◌then◌else◌, inl, inr, lt-ltb, ne_eqb, read_on, refl, subst, suc, sym, true, unescaped, zero, ℕ, ◌%◌, ◌+◌, ◌/◌, ◌<◌, ◌==◌, ◌∙◌, ◌∷◌, ◌≢◌}
+use Rattle.svg_text.proofs.Vocabulary.{AllByRecursion, Anchor, Colour, IsNoMarkup, List, None, [], anchor_name, ap, arith, cases_eq, code_of, decimal, digit_glyph, digits, digits_onto, eqb-false, escaped, escaped_byte, false, flat_map-append, if◌then◌else◌, inl, inr, lt-ltb, ne_eqb, read_on, refl, subst, suc, sym, true, unescaped, zero, ℕ, ◌%◌, ◌+◌, ◌/◌, ◌<◌, ◌==◌, ◌∙◌, ◌∷◌, ◌≢◌}
+use Rattle.svg_text.specs.declared.paint.Colour.TheVariants.{Orange, SkyBlue, Green, Yellow, Blue, Vermilion, Purple}
+use Rattle.svg_text.specs.declared.shape.Anchor.TheVariants as anchors
 use Rattle.std.specs.Prelude.{◌≡◌, ◌++◌}
 
 -- what holds of each byte that has a name, and of each that has none
@@ -88,3 +90,20 @@ digits_plain (suc k) n after plain =
 pub escaped_decimal : (n : ℕ) → escaped (decimal n) ≡ decimal n
 unfolding digits
 escaped_decimal n = digits_plain 64 n [] refl
+
+pub colour_text : (c : Colour) → escaped (code_of c) ≡ code_of c
+colour_text Orange = refl
+colour_text SkyBlue = refl
+colour_text Green = refl
+colour_text Yellow = refl
+colour_text Blue = refl
+colour_text Vermilion = refl
+colour_text Purple = refl
+
+pub anchor_text : (a : Anchor) → escaped (anchor_name a) ≡ anchor_name a
+anchor_text anchors.Start = refl
+anchor_text anchors.Middle = refl
+anchor_text anchors.End = refl
+
+pub escaped_append : (a b : List ℕ) → escaped (a ++ b) ≡ escaped a ++ escaped b
+escaped_append = flat_map-append escaped_byte

@@ -1,5 +1,5 @@
 pub mod Vocabulary
 pub mod Escapes
+pub mod Names
 pub mod Outcomes
-pub mod Pieces
 pub mod Trees

@@ -1,3 +1,3 @@
 pub mod Figures
-pub mod Svg
 pub mod Xml
+pub mod Svg

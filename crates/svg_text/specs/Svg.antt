@@ -1,32 +1,16 @@
--- The text of shapes.
-use Rattle.std.specs.Prelude.{◌≡◌, ℕ, ◌==◌, if◌then◌else◌, List, [], ◌∷◌, ◌++◌, codes, refl}
+-- The text of a picture is that of its tree.
+use Rattle.std.specs.Prelude.{ℕ, List, [], ◌∷◌, ◌++◌, codes}
 use Rattle.std.specs.Fmt.{decimal}
-use Rattle.std.specs.List.{flat_map}
 use Rattle.svg_text.specs.declared.paint.Colour.{Colour}
 use Rattle.svg_text.specs.declared.paint.Colour.TheVariants.{Orange, SkyBlue, Green, Yellow, Blue, Vermilion, Purple}
 use Rattle.svg_text.specs.declared.paint.Paint.{Paint}
 use Rattle.svg_text.specs.declared.paint.Paint.TheVariants.{Paper, Frame, Ink, Title, DarkLetter, LightLetter, Faint, Edge, Broken, Thick}
 use Rattle.svg_text.specs.declared.paint.Paint.TheVariants.{Cross, Mark, Pale}
 use Rattle.svg_text.specs.declared.shape.Anchor.{Anchor}
-use Rattle.svg_text.specs.declared.shape.Anchor.TheVariants.{Start, Middle, End}
+use Rattle.svg_text.specs.declared.shape.Anchor.TheVariants as anchors
 use Rattle.svg_text.specs.Figures.{Figure, Rect, Titled, Line, Dot, Tip, Text, View, Picture}
-
--- a byte of a text as XML has it: each `<`, `>`, `&` and quote has a name
-abbrev pub escaped_byte : ℕ → List ℕ
-escaped_byte b =
-    if b == 60 then codes "&lt;"
-    else if b == 62 then codes "&gt;"
-    else if b == 38 then codes "&amp;"
-    else if b == 34 then codes "&quot;"
-    else if b == 39 then codes "&apos;"
-    else b ∷ []
-
-abbrev pub escaped : List ℕ → List ℕ
-escaped text = flat_map escaped_byte text
-
--- an attribute as it stands in a tag
-unfoldable pub attribute_text : (name value : List ℕ) → List ℕ
-attribute_text name value = codes " " ++ name ++ codes "=\"" ++ value ++ codes "\""
+use Rattle.svg_text.specs.Xml.{Attribute, Node, Nodes, Element, Words, End, Then, attributes_onto, node_onto, nodes}
+pub use Rattle.svg_text.specs.Xml.{escaped}
 
 -- the code of a colour
 abbrev pub code_of : Colour → List ℕ
@@ -38,125 +22,132 @@ code_of Blue = codes "#0072b2"
 code_of Vermilion = codes "#d55e00"
 code_of Purple = codes "#cc79a7"
 
--- the attributes of what is painted so
-abbrev pub attributes_of : Paint → List ℕ
-attributes_of Paper = codes " fill=\"#ffffff\""
-attributes_of Frame = codes " fill=\"#ffffff\" stroke=\"#333333\""
-attributes_of Ink = codes " fill=\"#000000\""
-attributes_of Title = codes " fill=\"#000000\" font-size=\"16\" font-weight=\"bold\""
-attributes_of DarkLetter = codes " fill=\"#000000\" font-size=\"16\" font-weight=\"bold\" pointer-events=\"none\""
-attributes_of LightLetter = codes " fill=\"#ffffff\" font-size=\"16\" font-weight=\"bold\" pointer-events=\"none\""
-attributes_of Faint = codes " stroke=\"#bbbbbb\""
-attributes_of Edge = codes " stroke=\"#333333\""
-attributes_of Broken = codes " stroke=\"#333333\" stroke-dasharray=\"6 4\""
-attributes_of Thick = codes " stroke=\"#000000\" stroke-width=\"2\""
-attributes_of Cross = codes " stroke=\"#d55e00\" stroke-width=\"3\""
-attributes_of (Mark c) = codes " fill=\"" ++ code_of c ++ codes "\" stroke=\"#333333\""
-attributes_of (Pale c) = codes " fill=\"" ++ code_of c ++ codes "\" stroke=\"#333333\" fill-opacity=\"0.25\""
-
 abbrev pub anchor_name : Anchor → List ℕ
-anchor_name Start = codes "start"
-anchor_name Middle = codes "middle"
-anchor_name End = codes "end"
+anchor_name anchors.Start = codes "start"
+anchor_name anchors.Middle = codes "middle"
+anchor_name anchors.End = codes "end"
 
--- what stands in a text's element after its attributes
-abbrev pub content_text : List ℕ → List ℕ
-content_text text = codes ">" ++ escaped text ++ codes "</text>\n"
-
--- the tag of a rectangle, without its end
-abbrev pub open_rect_text : (x y width height : ℕ) → Paint → List ℕ
-open_rect_text x y width height paint =
-    codes "<rect" ++ attribute_text (codes "x") (decimal x) ++ attribute_text (codes "y") (decimal y)
-    ++ attribute_text (codes "width") (decimal width) ++ attribute_text (codes "height") (decimal height) ++ attributes_of paint
-
-abbrev pub rect_text : (x y width height : ℕ) → Paint → List ℕ
-rect_text x y width height paint = open_rect_text x y width height paint ++ codes "/>\n"
-
--- what stands in the element of a titled rectangle after its attributes
-unfoldable pub titled_content : (title : List ℕ) → List ℕ
-titled_content title = codes "><title>" ++ escaped title ++ codes "</title></rect>\n"
-
-abbrev pub titled_text : (x y width height : ℕ) → Paint → (title : List ℕ) → List ℕ
-titled_text x y width height paint title = open_rect_text x y width height paint ++ titled_content title
-
-abbrev pub line_text : (x1 y1 x2 y2 : ℕ) → Paint → List ℕ
-line_text x1 y1 x2 y2 paint =
-    codes "<line" ++ attribute_text (codes "x1") (decimal x1) ++ attribute_text (codes "y1") (decimal y1)
-    ++ attribute_text (codes "x2") (decimal x2) ++ attribute_text (codes "y2") (decimal y2) ++ attributes_of paint ++ codes "/>\n"
-
-abbrev pub dot_text : (x y : ℕ) → List ℕ
-dot_text x y =
-    codes "<circle" ++ attribute_text (codes "cx") (decimal x) ++ attribute_text (codes "cy") (decimal y)
-    ++ codes " r=\"6\" fill=\"#000000\" stroke=\"#ffffff\"/>\n"
-
-unfoldable pub point : (x y : ℕ) → List ℕ
+-- a point, and the part of the plane that is shown: from its top, and from a place on
+abbrev pub point : (x y : ℕ) → List ℕ
 point x y = decimal x ++ codes "," ++ decimal y
 
-abbrev pub tip_text : (x y x1 y1 x2 y2 : ℕ) → List ℕ
-tip_text x y x1 y1 x2 y2 =
-    codes "<polygon points=\"" ++ point x y ++ codes " " ++ point x1 y1 ++ codes " " ++ point x2 y2 ++ codes "\" fill=\"#000000\"/>\n"
-
-abbrev pub label_text : (x y : ℕ) → Anchor → Paint → List ℕ → List ℕ
-label_text x y anchor paint text =
-    codes "<text" ++ attribute_text (codes "x") (decimal x) ++ attribute_text (codes "y") (decimal y)
-    ++ attribute_text (codes "text-anchor") (anchor_name anchor) ++ attributes_of paint ++ content_text text
-
--- the part of the plane that is shown: from its top, and from a place on
-unfoldable pub view_box : (left width height : ℕ) → List ℕ
+abbrev pub view_box : (left width height : ℕ) → List ℕ
 view_box left width height = decimal left ++ codes " 0 " ++ decimal width ++ codes " " ++ decimal height
 
-abbrev pub view_text : (x y width height left : ℕ) → List ℕ
-view_text x y width height left =
-    codes "<svg" ++ attribute_text (codes "x") (decimal x) ++ attribute_text (codes "y") (decimal y)
-    ++ attribute_text (codes "width") (decimal width) ++ attribute_text (codes "height") (decimal height)
-    ++ attribute_text (codes "viewBox") (view_box left width height) ++ codes "><use href=\"#strip\"/></svg>\n"
+abbrev pub attribute : (name value : List ℕ) → Attribute
+attribute name value = record { name = name; value = value }
+
+abbrev pub number : List ℕ → ℕ → Attribute
+number name n = attribute name (decimal n)
+
+abbrev pub fill : List ℕ → Attribute
+fill colour = attribute (codes "fill") colour
+
+abbrev pub stroke : List ℕ → Attribute
+stroke colour = attribute (codes "stroke") colour
+
+abbrev pub large : List Attribute
+large = attribute (codes "font-size") (codes "16") ∷ attribute (codes "font-weight") (codes "bold") ∷ []
+
+-- the pointer passes through
+abbrev pub unseen : Attribute
+unseen = attribute (codes "pointer-events") (codes "none")
+
+-- how a shape is painted
+abbrev pub paint_attributes : Paint → List Attribute
+paint_attributes Paper = fill (codes "#ffffff") ∷ []
+paint_attributes Frame = fill (codes "#ffffff") ∷ stroke (codes "#333333") ∷ []
+paint_attributes Ink = fill (codes "#000000") ∷ []
+paint_attributes Title = fill (codes "#000000") ∷ large
+paint_attributes DarkLetter = fill (codes "#000000") ∷ large ++ unseen ∷ []
+paint_attributes LightLetter = fill (codes "#ffffff") ∷ large ++ unseen ∷ []
+paint_attributes Faint = stroke (codes "#bbbbbb") ∷ []
+paint_attributes Edge = stroke (codes "#333333") ∷ []
+paint_attributes Broken = stroke (codes "#333333") ∷ attribute (codes "stroke-dasharray") (codes "6 4") ∷ []
+paint_attributes Thick = stroke (codes "#000000") ∷ attribute (codes "stroke-width") (codes "2") ∷ []
+paint_attributes Cross = stroke (codes "#d55e00") ∷ attribute (codes "stroke-width") (codes "3") ∷ []
+paint_attributes (Mark c) = fill (code_of c) ∷ stroke (codes "#333333") ∷ []
+paint_attributes (Pale c) = fill (code_of c) ∷ stroke (codes "#333333") ∷ attribute (codes "fill-opacity") (codes "0.25") ∷ []
+
+-- the attributes as they stand in a tag
+unfoldable pub paint_text : Paint → List ℕ
+paint_text paint = attributes_onto (paint_attributes paint) []
+
+abbrev pub figure_node : Figure → Node
+figure_node (Rect x y width height paint) =
+    Element (codes "rect") (number (codes "x") x ∷ number (codes "y") y ∷ number (codes "width") width
+    ∷ number (codes "height") height ∷ paint_attributes paint) End
+figure_node (Titled x y width height paint title) =
+    Element (codes "rect") (number (codes "x") x ∷ number (codes "y") y ∷ number (codes "width") width
+    ∷ number (codes "height") height ∷ paint_attributes paint)
+    (nodes (Element (codes "title") [] (nodes (Words title ∷ [])) ∷ []))
+figure_node (Line x1 y1 x2 y2 paint) =
+    Element (codes "line") (number (codes "x1") x1 ∷ number (codes "y1") y1 ∷ number (codes "x2") x2 ∷ number (codes "y2") y2
+    ∷ paint_attributes paint) End
+figure_node (Dot x y) =
+    Element (codes "circle") (number (codes "cx") x ∷ number (codes "cy") y ∷ attribute (codes "r") (codes "6")
+    ∷ fill (codes "#000000") ∷ stroke (codes "#ffffff") ∷ []) End
+figure_node (Tip x y x1 y1 x2 y2) =
+    Element (codes "polygon") (attribute (codes "points") (point x y ++ codes " " ++ point x1 y1 ++ codes " " ++ point x2 y2)
+    ∷ fill (codes "#000000") ∷ []) End
+figure_node (Text x y anchor paint text) =
+    Element (codes "text") (number (codes "x") x ∷ number (codes "y") y ∷ attribute (codes "text-anchor") (anchor_name anchor)
+    ∷ paint_attributes paint) (nodes (Words text ∷ []))
+figure_node (View x y width height left) =
+    Element (codes "svg") (number (codes "x") x ∷ number (codes "y") y ∷ number (codes "width") width
+    ∷ number (codes "height") height ∷ attribute (codes "viewBox") (view_box left width height) ∷ [])
+    (nodes (Element (codes "use") (attribute (codes "href") (codes "#strip") ∷ []) End ∷ []))
 
 -- the text of a shape, with the end of its line
-abbrev pub figure_text : Figure → List ℕ
-figure_text (Rect x y width height paint) = rect_text x y width height paint
-figure_text (Titled x y width height paint title) = titled_text x y width height paint title
-figure_text (Line x1 y1 x2 y2 paint) = line_text x1 y1 x2 y2 paint
-figure_text (Dot x y) = dot_text x y
-figure_text (Tip x y x1 y1 x2 y2) = tip_text x y x1 y1 x2 y2
-figure_text (Text x y anchor paint text) = label_text x y anchor paint text
-figure_text (View x y width height left) = view_text x y width height left
+unfoldable pub figure_text : Figure → List ℕ
+figure_text figure = node_onto (figure_node figure) (codes "\n")
 
-abbrev pub figures_text : List Figure → List ℕ
-figures_text figures = flat_map figure_text figures
+abbrev pub line_end : Node
+line_end = Words (codes "\n")
 
--- what a picture is, and what its texts are
-abbrev pub manner_text : List ℕ
-manner_text = codes " role=\"img\" aria-labelledby=\"title description\" font-family=\"monospace\" font-size=\"13\">\n"
+-- shapes, each on a line of its own
+abbrev pub lines : List Figure → Nodes
+lines [] = End
+lines (figure ∷ figures) = Then (figure_node figure) (Then line_end (lines figures))
 
--- the size of a picture, of which all is shown, and its manner
-abbrev pub size_text : (width height : ℕ) → List ℕ
-size_text width height =
-    codes "<svg xmlns=\"http://www.w3.org/2000/svg\"" ++ attribute_text (codes "viewBox") (view_box 0 width height)
-    ++ attribute_text (codes "width") (decimal width) ++ attribute_text (codes "height") (decimal height) ++ manner_text
+abbrev pub titled : (name id text : List ℕ) → Node
+titled name id text = Element name (attribute (codes "id") id ∷ []) (nodes (Words text ∷ []))
 
--- the title and the description, for who can't see the picture
-abbrev pub title_text : (title description : List ℕ) → List ℕ
-title_text title description =
-    codes "<title id=\"title\">" ++ escaped title ++ codes "</title>\n<desc id=\"description\">" ++ escaped description ++ codes "</desc>\n"
+abbrev pub paper_node : (width height : ℕ) → Node
+paper_node width height =
+    Element (codes "rect") (number (codes "width") width ∷ number (codes "height") height ∷ fill (codes "#ffffff") ∷ []) End
 
--- the white paper
-abbrev pub paper_text : (width height : ℕ) → List ℕ
-paper_text width height =
-    codes "<rect" ++ attribute_text (codes "width") (decimal width) ++ attribute_text (codes "height") (decimal height)
-    ++ codes " fill=\"#ffffff\"/>\n"
+abbrev pub strip_node : List Figure → Node
+strip_node strip =
+    Element (codes "defs") []
+    (nodes (line_end ∷ Element (codes "g") (attribute (codes "id") (codes "strip") ∷ []) (Then line_end (lines strip)) ∷ line_end ∷ []))
 
--- what stands before the strip
-abbrev pub opening_text : Picture → List ℕ
-opening_text p = size_text p.width p.height ++ title_text p.title p.description ++ paper_text p.width p.height
+-- the paper, with the end of its line
+unfoldable pub paper_text : (width height : ℕ) → List ℕ
+paper_text width height = node_onto (paper_node width height) (codes "\n")
 
--- the strip, which only views show
-abbrev pub strip_text : List Figure → List ℕ
-strip_text strip = codes "<defs>\n<g id=\"strip\">\n" ++ figures_text strip ++ codes "</g>\n</defs>\n"
+-- the size, and the part of the plane that is shown
+abbrev pub size_attributes : (left width height : ℕ) → List Attribute
+size_attributes left width height =
+    attribute (codes "viewBox") (view_box left width height) ∷ number (codes "width") width ∷ number (codes "height") height ∷ []
 
--- the text of a picture
+unfoldable pub size_text : (left width height : ℕ) → List ℕ
+size_text left width height = attributes_onto (size_attributes left width height) []
+
+abbrev pub svg_attributes : (width height : ℕ) → List Attribute
+svg_attributes width height =
+    (attribute (codes "xmlns") (codes "http://www.w3.org/2000/svg") ∷ size_attributes 0 width height)
+    ++ (attribute (codes "role") (codes "img") ∷ attribute (codes "aria-labelledby") (codes "title description")
+    ∷ attribute (codes "font-family") (codes "monospace") ∷ attribute (codes "font-size") (codes "13") ∷ [])
+
+-- the tree of a picture: its title, its description, its paper, its strip and its shapes, each on a line of its own
+abbrev pub svg_node : Picture → Node
+svg_node p =
+    Element (codes "svg") (svg_attributes p.width p.height)
+    (Then line_end (Then (titled (codes "title") (codes "title") p.title) (Then line_end
+    (Then (titled (codes "desc") (codes "description") p.description) (Then line_end
+    (Then (paper_node p.width p.height) (Then line_end (Then (strip_node p.strip) (Then line_end (lines p.figures))))))))))
+
+-- the text of a picture, with a line's end after it
 abbrev pub svg_text : Picture → List ℕ
-svg_text p = opening_text p ++ strip_text p.strip ++ figures_text p.figures ++ codes "</svg>\n"
-
--- a label that would end its element
-escaped_label : escaped (codes "<a & \"b\">") ≡ codes "&lt;a &amp; &quot;b&quot;&gt;"
-escaped_label = refl
+svg_text p = node_onto (svg_node p) (codes "\n")

@@ -3,8 +3,8 @@
 ghost use Rattle.std.specs.Prelude.{◌≡◌, ◌++◌, ℕ, List, codes, true};
 ghost use Rattle.std.specs.List.{AllByRecursion};
 ghost use Rattle.svg_text.specs.Figures.{Picture};
-ghost use Rattle.svg_text.specs.Svg.{escaped, svg_text};
-ghost use Rattle.svg_text.specs.Xml.{node_text, is_well_named, svg_node, unescaped, IsNoMarkup};
+ghost use Rattle.svg_text.specs.Svg.{svg_node, svg_text};
+ghost use Rattle.svg_text.specs.Xml.{escaped, node_text, is_well_named, unescaped, IsNoMarkup};
 
 /// The text of a picture is that of a tree of XML, with a line's end after it. In the text of a
 /// tree each label and each attribute's value is escaped. Each element and each attribute of the

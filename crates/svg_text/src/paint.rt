@@ -1,5 +1,7 @@
 //! How shapes are painted.
 
+use std::fmt;
+
 /// A colour of Okabe and Ito, which the colour-blind tell apart.
 #[derive(Clone, Copy)]
 pub enum Colour {
@@ -17,6 +19,25 @@ pub enum Colour {
     Vermilion,
     /// `#cc79a7`.
     Purple,
+}
+
+impl fmt::Display for Colour {
+    ghost use Rattle.std.specs.Prelude.{Some};
+    ghost use Rattle.svg_text.specs.Svg.{code_of};
+
+    ghost output = { λ colour. Some (code_of colour) };
+
+    fn fmt<W: fmt::Write>(&self, f: &mut fmt::Formatter<W>) -> fmt::Result {
+        match self {
+            Colour::Orange => write!(f, "#e69f00"),
+            Colour::SkyBlue => write!(f, "#56b4e9"),
+            Colour::Green => write!(f, "#009e73"),
+            Colour::Yellow => write!(f, "#f0e442"),
+            Colour::Blue => write!(f, "#0072b2"),
+            Colour::Vermilion => write!(f, "#d55e00"),
+            Colour::Purple => write!(f, "#cc79a7"),
+        }
+    }
 }
 
 /// How a shape is painted.
@@ -48,4 +69,45 @@ pub enum Paint {
     Mark(Colour),
     /// The same, of which most of the colour is left out.
     Pale(Colour),
+}
+
+impl fmt::Display for Paint {
+    ghost use Rattle.std.specs.Prelude.{Some};
+    ghost use Rattle.svg_text.specs.Svg.{paint_text};
+
+    ghost output = { λ paint. Some (paint_text paint) };
+
+    #[tactic(auto, using(crate::proofs::Escapes::colour_text), unfolding(crate::specs::Svg::paint_text))]
+    fn fmt<W: fmt::Write>(&self, f: &mut fmt::Formatter<W>) -> fmt::Result {
+        match self {
+            Paint::Paper => write!(f, " fill=\"#ffffff\""),
+            Paint::Frame => write!(f, " fill=\"#ffffff\" stroke=\"#333333\""),
+            Paint::Ink => write!(f, " fill=\"#000000\""),
+            Paint::Title => write!(f, " fill=\"#000000\" font-size=\"16\" font-weight=\"bold\""),
+            Paint::DarkLetter => {
+                write!(
+                    f,
+                    " fill=\"#000000\" font-size=\"16\" font-weight=\"bold\" pointer-events=\"none\""
+                )
+            }
+            Paint::LightLetter => {
+                write!(
+                    f,
+                    " fill=\"#ffffff\" font-size=\"16\" font-weight=\"bold\" pointer-events=\"none\""
+                )
+            }
+            Paint::Faint => write!(f, " stroke=\"#bbbbbb\""),
+            Paint::Edge => write!(f, " stroke=\"#333333\""),
+            Paint::Broken => write!(f, " stroke=\"#333333\" stroke-dasharray=\"6 4\""),
+            Paint::Thick => write!(f, " stroke=\"#000000\" stroke-width=\"2\""),
+            Paint::Cross => write!(f, " stroke=\"#d55e00\" stroke-width=\"3\""),
+            Paint::Mark(colour) => write!(f, " fill=\"{colour}\" stroke=\"#333333\""),
+            Paint::Pale(colour) => {
+                write!(
+                    f,
+                    " fill=\"{colour}\" stroke=\"#333333\" fill-opacity=\"0.25\""
+                )
+            }
+        }
+    }
 }

@@ -1,6 +1,7 @@
 //! Shapes, with places in whole numbers.
 
 use crate::paint::Paint;
+use std::fmt;
 
 /// Which part of a text stands at its place.
 #[derive(Clone, Copy)]
@@ -11,6 +12,21 @@ pub enum Anchor {
     Middle,
     /// Its end.
     End,
+}
+
+impl fmt::Display for Anchor {
+    ghost use Rattle.std.specs.Prelude.{Some};
+    ghost use Rattle.svg_text.specs.Svg.{anchor_name};
+
+    ghost output = { λ anchor. Some (anchor_name anchor) };
+
+    fn fmt<W: fmt::Write>(&self, f: &mut fmt::Formatter<W>) -> fmt::Result {
+        match self {
+            Anchor::Start => write!(f, "start"),
+            Anchor::Middle => write!(f, "middle"),
+            Anchor::End => write!(f, "end"),
+        }
+    }
 }
 
 /// A shape.

@@ -1,5 +1,0 @@
-use Rattle.svg_text.proofs.Vocabulary.{append_assoc, on_ok_weaker, ◌∙◌}
-use Rattle.svg_text.proofs.svg.push_strip.Goals as goal
-
-pub returns : goal.returns
-returns c = on_ok_weaker c.push_words-2.result (λ h. h ∙ rw (c.in_ok-push_shapes.ensures, c.in_ok-push_words.ensures) (simp append_assoc)) c.push_words-2.ensures
