@@ -116,7 +116,8 @@ pub(crate) fn tell_run<T: Telling, W: TextOut>(
         (text_of_session T.wording range (session_of_record version run.now.record) run.now.lines.items
         run.now.remarks.items) }
     ensures linearizable { (version : Version) → IsLinearizableSession (session_of_record version run.now.record) }
-    ensures many { IsErrOf result PictureFault.TooManyEvents ↔ (2000 < count_in range (events_of_record run.now.record)) }
+    ensures many { IsErrOf result PictureFault.TooManyEvents
+        ↔ (2000 < count_in range (events_of_record run.now.record)) }
     ensures unwritten { IsErrOf result PictureFault.TooManyEvents → out.new ≡ out.old }
     ensures fault { IfErr result (λ e. (e ≡ PictureFault.TooManyEvents)
         ⊎ (e ≡ PictureFault.Script Fault.Memory) ⊎ (e ≡ PictureFault.Script Fault.Write)) }
