@@ -167,7 +167,8 @@ fn draw_form<I: TextIn, O: TextOut>(
     requires output { O.has_failed output.old ≡ false }
     ensures drawn { WritesSuch result (IsPictureIn form (I.remaining input.old))
         (O.contents output.old) (O.contents output.new) }
-    ensures unwritten { (e : PictureFault) → IsErrOf result e → may_write_before form e ≡ false → output.new ≡ output.old }
+    ensures unwritten { (e : PictureFault) → IsErrOf result e → may_write_before form e ≡ false
+        → output.new ≡ output.old }
     ensures many { IsErrOf result PictureFault.TooManyEvents
         → HasTooManyEvents (range_of form) (I.remaining input.old) }
     ensures fault { (e : Fault) → IsErrOf result (PictureFault.Script e) → IsFaultOfScript e
