@@ -1,6 +1,6 @@
 pub mod Vocabulary
 pub mod JsonPieces
-pub mod TellingPieces
+pub mod Writing
 pub mod ToldOn
 pub mod TraceIs
 pub mod Tellings

@@ -1,21 +1,18 @@
 -- One more event is told.
-use Rattle.run_tell.proofs.Vocabulary.{List, Option, PlacedRemark, Scene, ap, append_assoc, arith, drop, event_text, flat_map, refl, remark_told, slice_get, sym, take, told_before, told_from, ℕ, ◌++◌, ◌+◌, ◌∙◌, ◌∷◌, ◌≡◌}
+use Rattle.run_tell.proofs.Vocabulary.{List, Option, PlacedRemark, Scene, ap, append_assoc, drop, event_text, flat_map, refl, remark_told, slice_get, sym, take, told_before, told_from, ℕ, ◌++◌, ◌+◌, ◌∙◌, ◌∷◌, ◌≡◌}
 use Rattle.run_layout.specs.declared.choice.Range.{Range}
 use Rattle.run_tell.specs.Order.{Wording}
 
-pub told_on : (words : Wording) (range : Range) (lines : List ℕ) (from place : ℕ) (scenes rest : List (Option Scene)) (scene : Option Scene) (remarks : List PlacedRemark) (before : ℕ) (text beside told : List ℕ)
-    → before ≡ told_before (from + place) remarks → scenes ≡ scene ∷ rest → beside ≡ text ++ flat_map (remark_told words range) (take before remarks)
-    → told ≡ beside ++ event_text words (from + place) (slice_get lines (from + place)) scene
-    → told ++ told_from words range lines (from + (place + 1)) rest (drop before remarks) ≡ text ++ told_from words range lines (from + place) scenes remarks
-told_on words range lines from place scenes rest scene remarks before text beside told is_before is_scenes is_beside is_told =
-    let k = from + place in
-    let next : from + (place + 1) ≡ k + 1 = omega arith in
+pub told_on : (words : Wording) (range : Range) (lines : List ℕ) (k : ℕ) (scenes rest : List (Option Scene)) (scene : Option Scene) (remarks : List PlacedRemark) (before : ℕ) (text beside told : List ℕ)
+    → before ≡ told_before k remarks → scenes ≡ scene ∷ rest → beside ≡ text ++ flat_map (remark_told words range) (take before remarks)
+    → told ≡ beside ++ event_text words k (slice_get lines k) scene
+    → text ++ told_from words range lines k scenes remarks ≡ told ++ told_from words range lines (k + 1) rest (drop before remarks)
+told_on words range lines k scenes rest scene remarks before text beside told is_before is_scenes is_beside is_told =
     let noted = λ (n : ℕ). flat_map (remark_told words range) (take n remarks) in
     let event = event_text words k (slice_get lines k) scene in
     let later = λ (n : ℕ). told_from words range lines (k + 1) rest (drop n remarks) in
     let folded : text ++ ((noted (told_before k remarks) ++ event) ++ later (told_before k remarks)) ≡ text ++ told_from words range lines k (scene ∷ rest) remarks = refl in
-    ap (λ j. told ++ told_from words range lines j rest (drop before remarks)) next
-    ∙ ap (λ l. l ++ later before) (is_told ∙ ap (λ l. l ++ event) is_beside)
+    sym (ap (λ l. l ++ later before) (is_told ∙ ap (λ l. l ++ event) is_beside)
     ∙ ap (λ l. l ++ later before) (append_assoc text (noted before) event) ∙ append_assoc text (noted before ++ event) (later before)
     ∙ ap (λ n. text ++ ((noted n ++ event) ++ later n)) is_before ∙ folded
-    ∙ ap (λ l. text ++ told_from words range lines k l remarks) (sym is_scenes)
+    ∙ ap (λ l. text ++ told_from words range lines k l remarks) (sym is_scenes))

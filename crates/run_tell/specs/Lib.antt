@@ -4,6 +4,7 @@ pub mod Access
 pub mod Opened
 pub mod Order
 pub mod Told
+pub mod Written
 pub mod TraceMembers
 pub mod TraceLines
 pub mod Sentences

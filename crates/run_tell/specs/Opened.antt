@@ -1,10 +1,9 @@
 -- How runs open, and their traces.
-use Rattle.std.specs.Prelude.{ℕ, List, map, Option, Some, option_map}
+use Rattle.std.specs.Prelude.{ℕ, List, Option, option_map}
 use Rattle.run_layout.specs.declared.choice.Range.{Range}
 use Rattle.run_replay.specs.Scenes.{Scene, Start}
-use Rattle.run_replay.specs.ScenesShown.{scene_shown, start_shown}
+use Rattle.run_replay.specs.ScenesShown.{start_shown}
 use Rattle.run_tell.specs.declared.opened.Opened.{Opened}
-use Rattle.run_tell.specs.declared.opened.Trace.{Trace as TraceOfCode}
 
 -- a run: the word of its object, how many processes there were first, how many calls a process can make in an era, and the number
 -- and the state of the first anchor; and where the events begin that are told, if not with the run's first
@@ -26,14 +25,9 @@ pub record Trace : Type 0 where
   pub opening : Opening
   pub scenes : List (Option Scene)
 
--- what the code's opening and trace are in the definitions
+-- what the code's opening is in the definitions, and the trace of some events of a run that opened so
 abbrev pub opening_shown : Opened → Opening
 opening_shown o = opening o.object.now o.processes o.row o.number o.state.items (option_map start_shown o.start)
 
-abbrev pub trace_shown : TraceOfCode → Trace
-trace_shown t =
-    record {
-      range = t.range;
-      opening = opening_shown t.opened;
-      scenes = map (λ scene. Some (scene_shown scene)) t.scenes.items;
-    }
+abbrev pub trace_with : Range → Opened → (scenes : List (Option Scene)) → Trace
+trace_with range opened scenes = record { range = range; opening = opening_shown opened; scenes = scenes }

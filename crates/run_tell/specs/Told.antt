@@ -3,6 +3,8 @@ use Rattle.std.specs.Prelude.{◌≡◌, ◌≤◌, ℕ, Bool, List, length, map
 use Rattle.seq_object.specs.Sequential.{Sequential}
 use Rattle.uni_model.specs.Linearizable.{IsLinearizableHistory, observed_in}
 use Rattle.uni_model.specs.Worlds.{AreAccepted, Event, opened_world}
+use Rattle.uni_record.specs.Event.{events_shown}
+use Rattle.uni_record.specs.Recorded.{Recording}
 use Rattle.uni_script.specs.declared.remarks.PlacedRemark.{PlacedRemark}
 use Rattle.uni_script.specs.Objects.{SpokenObject, spoken_of}
 use Rattle.uni_script.specs.Outcome.{outcome_of_script}
@@ -28,6 +30,13 @@ trace_of_events range is_whole o text name n row first events =
       opening = opening name n row first (text o.object.initial) part.start;
       scenes = part.scenes;
     }
+
+-- those of the events that a record has stored, told; `lines` has the script's lines that stored its events
+abbrev pub text_of_record : {O S I R : Type 0} → Wording → Range → SpokenObject S I R → (S → List ℕ) → (name : List ℕ)
+    → Recording O S I R → (lines : List ℕ) → List PlacedRemark → List ℕ
+text_of_record words range o text name r =
+    told_text words
+    (trace_of_events range words.is_whole o text name r.processes r.world.row r.first (events_shown r.events))
 
 -- that of the session which a script leaves
 abbrev pub trace_of_session : Range → (is_whole : Bool) → ScriptSession → Trace

@@ -1,21 +1,22 @@
 //! From the bytes of a script to the history of its run.
 
-ghost use Rattle.std.specs.Prelude.{◌≡◌, IfOk, IsErrOf, false};
+ghost use Rattle.std.specs.Prelude.{◌≡◌, ◌≢◌, IsErrOf, false, true};
 ghost use Rattle.uni_script.specs.Replay.{HasFault, IsFaultOfScript};
 ghost use Rattle.uni_script.specs.Scripts.{scripts_of};
 ghost use Rattle.uni_script.specs.declared.fault.BenchFault.{BenchFault as Fault};
 ghost use Rattle.run_layout.specs.Choice.{all_events};
 ghost use Rattle.run_layout.specs.Subject.{HasTooManyEvents};
 ghost use Rattle.run_tell.specs.History.{IsHistory};
+ghost use Rattle.run_tell.specs.Written.{WritesSuch};
 
 use crate::history_lines::{push_observed, push_opening_line};
 use crate::opened::Opened;
 use crate::order::Telling;
-use crate::told::told_of;
+use crate::told::tell_script;
 use run_layout::{PictureFault, Range};
 use run_replay::Scene;
 use std::alloc::{AllocError, Global};
-use uni_script::{PlacedRemark, TextIn};
+use uni_script::{PlacedRemark, TextIn, TextOut};
 
 /// Tells the calls and the replies of a run alone, in lines of JSON.
 pub struct InHistory;
@@ -48,16 +49,25 @@ impl Telling for InHistory {
     }
 }
 
-/// The history of the run of the script that a reader has: lines of JSON. It is linearizable.
+/// Writes the history of the run of the script that a reader has: lines of JSON. It is linearizable.
 ///
-/// An `Err` is the first fault of the script; `Read` where the reader failed; `Memory` where memory was
-/// refused; or `TooManyEvents` of a good script that has more than 2,000 events.
-pub fn history_of<I: TextIn>(alloc: Global, reader: &mut I) -> Result<Vec<u8>, PictureFault>
-    requires { I.has_failed reader.old ≡ false }
-    ensures history { IfOk result (λ text. IsHistory (I.remaining reader.old) text.items) }
+/// An `Err` is the first fault of the script; `Read` where the reader failed; `Memory` where memory was refused;
+/// `TooManyEvents` of a good script that has more than 2,000 events; or `Write` where the output failed. With `Memory`
+/// and `Write` a prefix may be written, else nothing is.
+pub fn tell_history<I: TextIn, W: TextOut>(
+    alloc: Global,
+    reader: &mut I,
+    out: &mut W,
+) -> Result<(), PictureFault>
+    requires reader { I.has_failed reader.old ≡ false }
+    requires out { W.has_failed out.old ≡ false }
+    ensures told { WritesSuch result (IsHistory (I.remaining reader.old)) (W.contents out.old) (W.contents out.new) }
+    ensures unwritten { (e : PictureFault) → IsErrOf result e → e ≢ PictureFault.Script Fault.Memory
+        → e ≢ PictureFault.Script Fault.Write → out.new ≡ out.old }
     ensures many { IsErrOf result PictureFault.TooManyEvents → HasTooManyEvents all_events (I.remaining reader.old) }
     ensures fault { (e : Fault) → IsErrOf result (PictureFault.Script e) → IsFaultOfScript e
         → HasFault (scripts_of 1048576) (I.remaining reader.old) e }
+    ensures out { W.has_failed out.new ≡ true → IsErrOf result (PictureFault.Script Fault.Write) }
 {
-    told_of::<InHistory, I>(alloc, Range::all(), reader)
+    tell_script::<InHistory, I, W>(alloc, Range::all(), reader, out)
 }

@@ -28,9 +28,9 @@ mod value;
 mod viewer;
 
 pub use access::access_of;
-pub use history::{InHistory, history_of};
+pub use history::{InHistory, tell_history};
 pub use json::{push_list, push_members, push_more_members, push_object, push_text_or_null};
-pub use opened::{Opened, Trace};
+pub use opened::Opened;
 pub use order::Telling;
 pub use page::{page_of, page_text};
 pub use page_laws::trace_ends_no_element;
@@ -40,7 +40,7 @@ pub use sentences::{
 };
 pub use step_lines::push_change_words;
 pub use steps::InWords;
-pub use told::{told_of, trace_of_record, trace_of_script};
+pub use told::{tell_record, tell_script};
 pub use trace::{InJson, InWholeJson};
 pub use trace_lines::push_line;
 pub use value::{Member, Value};

@@ -1,7 +1,6 @@
-//! How runs open, and their traces.
+//! How runs open.
 
-use run_layout::Range;
-use run_replay::{Scene, Start};
+use run_replay::Start;
 
 /// How a run opened.
 #[derive(Drop)]
@@ -18,15 +17,4 @@ pub struct Opened<'a> {
     pub state: Vec<u8>,
     /// Where the events begin that are told; `None` where the first of them is the run's.
     pub start: Option<Start>,
-}
-
-/// The trace of some events of a run.
-#[derive(Drop)]
-pub struct Trace<'a> {
-    /// The events that are told.
-    pub range: Range,
-    /// How the run opened.
-    pub opened: Opened<'a>,
-    /// What each of these events did, in order.
-    pub scenes: Vec<Scene>,
 }

@@ -1,16 +1,23 @@
-//! The pieces of a run, in order.
+//! The pieces of a run, told in order.
 
-ghost use Rattle.std.specs.Prelude.{◌≡◌, ◌+◌, ◌++◌, ◌<◌, ◌≤◌, ◌^◌, IfOk, OnOk, Some, length, map, slice_get};
+ghost use Rattle.std.specs.Prelude.{◌≡◌, ◌⊎◌, ◌↔◌, ◌+◌, ◌++◌, ◌<◌, ◌≤◌, ◌^◌, [], IfErr, IsErrOf, OnErr, OnOk, false};
+ghost use Rattle.std.specs.Prelude.{length, slice_get, true};
 ghost use Rattle.std.specs.List.{flat_map};
+ghost use Rattle.uni_script.specs.Ends.{AppendsPrefix, Moves};
 ghost use Rattle.run_replay.specs.ScenesShown.{scene_shown};
-ghost use Rattle.run_tell.specs.Opened.{opening_shown, trace_shown};
-ghost use Rattle.run_tell.specs.Order.{Wording, remark_told, told_before, told_from, told_text};
+ghost use Rattle.run_tell.specs.Opened.{opening_shown, trace_with};
+ghost use Rattle.run_tell.specs.Order.{Wording, remark_told, told_before, told_text};
+ghost use Rattle.run_tell.specs.Written.{WritesText};
 
-use crate::opened::{Opened, Trace};
+use crate::opened::Opened;
+use ready_objects::Spoken;
 use run_layout::Range;
-use run_replay::Scene;
+use run_replay::{Scene, Scenes};
 use std::alloc::{AllocError, Global};
-use uni_script::PlacedRemark;
+use uni_script::{BenchFault, PlacedRemark, TextOut, write_all};
+
+/// How many bytes are gathered before they are written.
+const MOST_TEXT: usize = 65_536;
 
 /// How a run is told: the text of each piece.
 pub trait Telling {
@@ -90,51 +97,62 @@ fn line_of(event: u64, lines: &[u64]) -> Option<u64>
     lines.get(event as usize).copied()
 }
 
-/// Adds the events that are chosen, each with its line and behind what is told before it, and what is told after the
-/// last.
+/// Writes what was gathered, where it has so many bytes; none of it is left then.
 ///
-/// An `Err` says that memory was refused.
-fn push_events<T: Telling>(
-    alloc: Global,
-    range: Range,
-    lines: &[u64],
-    scenes: &[Scene],
-    remarks: &[PlacedRemark],
-    text: &mut Vec<u8>,
-) -> Result<(), AllocError>
-    requires { range.from + length scenes.now < 2 ^ 64 }
-    ensures { OnOk result (text.new.items ≡ text.old.items ++ told_from T.wording range lines.now range.from
-        (map (λ scene. Some (scene_shown scene)) scenes.now) remarks.now) }
+/// An `Err` is `Write`: the output failed.
+fn write_from<W: TextOut>(least: usize, text: &mut Vec<u8>, out: &mut W) -> Result<(), BenchFault>
+    requires { W.has_failed out.old ≡ false }
+    ensures moved { OnOk result (Moves (W.contents out.old) (W.contents out.new) text.old.items text.new.items) }
+    ensures all { OnOk result (least ≤ length text.old.items → text.new.items ≡ []) }
+    ensures prefix { OnErr result (AppendsPrefix (W.contents out.old) (W.contents out.new) text.old.items) }
+    ensures fault { IfErr result (λ e. e ≡ BenchFault.Write) }
+    ensures out { IsErrOf result BenchFault.Write ↔ (W.has_failed out.new ≡ true) }
 {
-    let mut rest = remarks;
-    for (place, scene) in scenes.iter().enumerate() {
-        let event = range.from + place as u64;
-        let (told, later) = rest.split_at(told_before(event, rest));
-        push_remarks::<T>(alloc, range, told, text)?;
-        rest = later;
-        T::push_scene(alloc, event, line_of(event, lines), scene, text)?;
+    if text.len() < least {
+        return Ok(());
     }
-    push_remarks::<T>(alloc, range, rest, text)
+    match write_all(out, text.as_slice()) {
+        Ok(()) => {
+            text.clear();
+            Ok(())
+        }
+        Err(_) => Err(BenchFault::Write),
+    }
 }
 
-impl<'a> Trace<'a> {
-    /// The events, told. `lines` has the number of the script's line that stored each event of the run, where there was
-    /// a script; `remarks` is what is told beside the run, of which that is told which belongs to these events.
-    ///
-    /// An `Err` says that memory was refused.
-    pub fn told<T: Telling>(
-        &self,
-        alloc: Global,
-        lines: &[u64],
-        remarks: &[PlacedRemark],
-    ) -> Result<Vec<u8>, AllocError>
-        requires { self.now.range.from + length self.now.scenes.items < 2 ^ 64 }
-        ensures { IfOk result (λ text. text.items
-            ≡ told_text T.wording (trace_shown self.now) lines.now remarks.now) }
-    {
-        let mut text = Vec::new(alloc);
-        T::push_opening(alloc, &self.opened, &mut text)?;
-        push_events::<T>(alloc, self.range, lines, &self.scenes, remarks, &mut text)?;
-        Ok(text)
+/// Writes the events of some scenes, told: how the run opened, each event with its line and behind what is told before
+/// it, and what is told after the last. A scene is told and let go before the next is made.
+///
+/// An `Err` is `Memory` where memory was refused, or `Write` where the output failed; a prefix is written then.
+pub(crate) fn tell_events<T: Telling, O: Spoken, W: TextOut>(
+    alloc: Global,
+    range: Range,
+    opened: &Opened<'_>,
+    lines: &[u64],
+    remarks: &[PlacedRemark],
+    scenes: Scenes<'_, O>,
+    out: &mut W,
+) -> Result<(), BenchFault>
+    requires numbers { range.from + length scenes < 2 ^ 64 }
+    requires out { W.has_failed out.old ≡ false }
+    ensures told { WritesText result (W.contents out.old) (W.contents out.new)
+        (told_text T.wording (trace_with range opened.now scenes.entry) lines.now remarks.now) }
+    ensures fault { IfErr result (λ e. (e ≡ BenchFault.Memory) ⊎ (e ≡ BenchFault.Write)) }
+    ensures out { IsErrOf result BenchFault.Write ↔ (W.has_failed out.new ≡ true) }
+{
+    let mut scenes = scenes;
+    let mut text = Vec::new(alloc);
+    T::push_opening(alloc, opened, &mut text)?;
+    let mut rest = remarks;
+    let mut event = range.from;
+    while let Some(scene) = scenes.next_scene(alloc)? {
+        let (told, later) = rest.split_at(told_before(event, rest));
+        push_remarks::<T>(alloc, range, told, &mut text)?;
+        T::push_scene(alloc, event, line_of(event, lines), &scene, &mut text)?;
+        write_from(MOST_TEXT, &mut text, out)?;
+        rest = later;
+        event += 1;
     }
+    push_remarks::<T>(alloc, range, rest, &mut text)?;
+    write_from(0, &mut text, out)
 }

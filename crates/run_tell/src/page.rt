@@ -8,16 +8,17 @@ ghost use Rattle.uni_script.specs.declared.grammar.Version.{Version};
 ghost use Rattle.uni_script.specs.ScriptRun.{session_of_record};
 ghost use Rattle.run_layout.specs.Choice.{count_in};
 ghost use Rattle.run_layout.specs.Subject.{HasTooManyEvents, events_of_record};
-ghost use Rattle.run_tell.specs.Told.{IsLinearizableSession};
+ghost use Rattle.run_tell.specs.Told.{IsLinearizableSession, text_of_session};
 ghost use Rattle.run_tell.specs.Page.{IsPage, escaped, escaped_byte, page_between, page_text};
 
+use crate::order::Telling;
 use crate::rows::InRows;
-use crate::told::trace_of_script;
+use crate::told::tell_run;
 use crate::trace::InJson;
 use crate::viewer::{END, MIDDLE, START};
 use run_layout::{PictureFault, Range};
 use std::alloc::{AllocError, Global};
-use uni_script::{Options, ScriptRecord, ScriptRun, TextIn, run_of_script};
+use uni_script::{BenchFault, Checked, Options, ScriptRecord, ScriptRun, TextIn, run_of_script};
 
 /// Adds a byte of JSON, escaped.
 ///
@@ -70,6 +71,30 @@ pub fn page_text(
     Ok(text)
 }
 
+/// These events of the run of a script, told.
+///
+/// Errors: `TooManyEvents` where more than 2,000 are chosen; else `Memory`.
+fn text_of_run<T: Telling>(
+    alloc: Global,
+    range: Range,
+    run: &ScriptRun<ScriptRecord>,
+) -> Result<Checked<Vec<u8>>, PictureFault>
+    ensures few { OnOk result (count_in range (events_of_record run.now.record) ≤ 2000) }
+    ensures text { IfOk result (λ text. (version : Version) → text.end.items
+        ≡ text_of_session T.wording range (session_of_record version run.now.record)
+        run.now.lines.items run.now.remarks.items) }
+    ensures linearizable { (version : Version) → IsLinearizableSession (session_of_record version run.now.record) }
+    ensures many { IsErrOf result PictureFault.TooManyEvents → 2000 < count_in range (events_of_record run.now.record) }
+    ensures memory { (e : Fault) → IsErrOf result (PictureFault.Script e) → e ≡ Fault.Memory }
+{
+    let mut text = Checked::new(Vec::new(alloc));
+    match tell_run::<T, _>(alloc, range, run, &mut text) {
+        Ok(()) => Ok(text),
+        Err(PictureFault::TooManyEvents) => Err(PictureFault::TooManyEvents),
+        Err(_) => Err(PictureFault::Script(BenchFault::Memory)),
+    }
+}
+
 /// The page of these events of the run of a script.
 ///
 /// Errors: `TooManyEvents` where more than 2,000 are chosen; else `Memory`.
@@ -86,10 +111,9 @@ fn page_of_run(
     ensures many { IsErrOf result PictureFault.TooManyEvents → 2000 < count_in range (events_of_record run.now.record) }
     ensures memory { (e : Fault) → IsErrOf result (PictureFault.Script e) → e ≡ Fault.Memory }
 {
-    let trace = trace_of_script(alloc, range, &run.record, false)?;
-    let rows = trace.told::<InRows>(alloc, &run.lines, &run.remarks)?;
-    let lines = trace.told::<InJson>(alloc, &run.lines, &run.remarks)?;
-    Ok(page_text(alloc, START, &rows, MIDDLE, &lines, END)?)
+    let rows = text_of_run::<InRows>(alloc, range, run)?;
+    let lines = text_of_run::<InJson>(alloc, range, run)?;
+    Ok(page_text(alloc, START, rows.end(), MIDDLE, lines.end(), END)?)
 }
 
 /// The page that shows these events of the run of the script that a reader has.

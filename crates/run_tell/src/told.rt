@@ -1,6 +1,6 @@
 //! From the bytes of a script to its run, told.
 
-ghost use Rattle.std.specs.Prelude.{◌≡◌, ◌+◌, ◌<◌, ◌≤◌, ◌^◌, IfOk, OnOk, IsErrOf, false, length};
+ghost use Rattle.std.specs.Prelude.{◌≡◌, ◌≢◌, ◌⊎◌, ◌↔◌, ◌<◌, IfErr, IfOk, IsErrOf, false, length, option_map, true};
 ghost use Rattle.uni_record.specs.Event.{events_shown};
 ghost use Rattle.uni_script.specs.Objects.{spoken};
 ghost use Rattle.uni_script.specs.Replay.{HasFault, IsFaultOfScript};
@@ -10,64 +10,22 @@ ghost use Rattle.uni_script.specs.declared.fault.BenchFault.{BenchFault as Fault
 ghost use Rattle.uni_script.specs.declared.grammar.Version.{Version};
 ghost use Rattle.run_layout.specs.Choice.{count_in};
 ghost use Rattle.run_layout.specs.Subject.{HasTooManyEvents, events_of_record};
-ghost use Rattle.run_tell.specs.Opened.{trace_shown};
-ghost use Rattle.run_tell.specs.Told.{IsLinearizableRun, IsLinearizableSession, IsTold, trace_of_events};
-ghost use Rattle.run_tell.specs.Told.{text_of_session, trace_of_session};
+ghost use Rattle.run_replay.specs.ScenesShown.{start_shown};
+ghost use Rattle.run_tell.specs.Opened.{opening, opening_shown};
+ghost use Rattle.run_tell.specs.Told.{IsLinearizableRun, IsLinearizableSession, IsTold, text_of_record};
+ghost use Rattle.run_tell.specs.Told.{text_of_session};
+ghost use Rattle.run_tell.specs.Written.{WritesSuch, WritesText};
 
-use crate::opened::{Opened, Trace};
-use crate::order::Telling;
+use crate::opened::Opened;
+use crate::order::{Telling, tell_events};
 use ready_objects::Spoken;
 use run_layout::{MOST_EVENTS, PictureFault, Range};
-use run_replay::excerpt_of;
+use run_replay::{Start, excerpt_of};
 use std::alloc::{AllocError, Global};
 use uni_record::Recorded;
-use uni_script::{ObjectName, Options, ScriptRecord, ScriptRun, TextIn, run_of_script};
-
-/// The trace of these events of the run that a record has stored, on an object of this name: of a linearizable run. It
-/// has the whole memory after each event only where that is asked for.
-///
-/// Errors: `TooManyEvents` where more than 2,000 are chosen; else `Memory`.
-pub fn trace_of_record<'a, O: Spoken + Copy>(
-    alloc: Global,
-    range: Range,
-    name: &'a str,
-    recorded: &Recorded<O>,
-    is_whole: bool,
-) -> Result<Trace<'a>, PictureFault>
-    ensures few { OnOk result (count_in range (length (events_shown recorded.now.events)) ≤ 2000) }
-    ensures trace { IfOk result (λ trace. trace_shown trace
-        ≡ trace_of_events range is_whole (spoken O.sequential O.language recorded.now.world.object) O.state_text
-        name.now recorded.now.processes recorded.now.world.row recorded.now.first
-        (events_shown recorded.now.events)) }
-    ensures numbers { IfOk result (λ trace. trace.range.from + length trace.scenes.items < 2 ^ 64) }
-    ensures linearizable { IsLinearizableRun (O.sequential recorded.now.world.object) recorded.now.processes
-        recorded.now.first (events_shown recorded.now.events) }
-    ensures many { IsErrOf result PictureFault.TooManyEvents
-        → 2000 < count_in range (length (events_shown recorded.now.events)) }
-    ensures memory { (e : Fault) → IsErrOf result (PictureFault.Script e) → e ≡ Fault.Memory }
-{
-    recorded.promise();
-    let count = range.count(recorded.events().len() as u64);
-    if count > MOST_EVENTS {
-        return Err(PictureFault::TooManyEvents);
-    }
-    let object = *recorded.world().object();
-    let state = first_state(alloc, &object)?;
-    let part = excerpt_of(alloc, object, recorded, range.from, count, is_whole)?;
-    let opened = Opened {
-        object: name,
-        processes: recorded.processes(),
-        row: recorded.world().row(),
-        number: recorded.first(),
-        state,
-        start: part.start,
-    };
-    Ok(Trace {
-        range,
-        opened,
-        scenes: part.scenes,
-    })
-}
+use uni_script::{
+    ObjectName, Options, PlacedRemark, ScriptRecord, ScriptRun, TextIn, TextOut, run_of_script,
+};
 
 /// The text of an object's first state.
 ///
@@ -80,81 +38,136 @@ fn first_state<O: Spoken>(alloc: Global, object: &O) -> Result<Vec<u8>, AllocErr
     Ok(text)
 }
 
-/// The trace of these events of the run of a script, by its object.
+/// How the run opened that a record has stored, on an object of this name, where its events are told from `start` on.
 ///
-/// Errors: `TooManyEvents` where more than 2,000 are chosen; else `Memory`.
-pub fn trace_of_script(
+/// An `Err` says that memory was refused.
+fn opened_of<'a, O: Spoken>(
+    alloc: Global,
+    name: &'a str,
+    recorded: &Recorded<O>,
+    start: Option<Start>,
+) -> Result<Opened<'a>, AllocError>
+    ensures { IfOk result (λ opened. opening_shown opened ≡ opening name.now recorded.now.processes
+        recorded.now.world.row recorded.now.first
+        (O.state_text (O.sequential recorded.now.world.object).initial) (option_map start_shown start)) }
+{
+    let state = first_state(alloc, recorded.world().object())?;
+    Ok(Opened {
+        object: name,
+        processes: recorded.processes(),
+        row: recorded.world().row(),
+        number: recorded.first(),
+        state,
+        start,
+    })
+}
+
+/// Writes these events of the run that a record has stored, told, on an object of this name: of a linearizable run.
+/// `lines` has the number of the script's line that stored each event of the run, where there was a script; `remarks`
+/// is what is told beside the run, of which that is told which belongs to these events.
+///
+/// Errors: `TooManyEvents` where more than 2,000 are chosen, and nothing is written; else `Memory`, or `Write` where
+/// the output failed, and a prefix is written.
+pub fn tell_record<T: Telling, O: Spoken + Copy, W: TextOut>(
     alloc: Global,
     range: Range,
-    stored: &ScriptRecord,
-    is_whole: bool,
-) -> Result<Trace<'static>, PictureFault>
-    ensures few { OnOk result (count_in range (events_of_record stored.now) ≤ 2000) }
-    ensures trace { IfOk result (λ trace. (version : Version) → trace_shown trace
-        ≡ trace_of_session range is_whole (session_of_record version stored.now)) }
-    ensures numbers { IfOk result (λ trace. trace.range.from + length trace.scenes.items < 2 ^ 64) }
-    ensures linearizable { (version : Version) → IsLinearizableSession (session_of_record version stored.now) }
-    ensures many { IsErrOf result PictureFault.TooManyEvents → 2000 < count_in range (events_of_record stored.now) }
-    ensures memory { (e : Fault) → IsErrOf result (PictureFault.Script e) → e ≡ Fault.Memory }
+    name: &str,
+    recorded: &Recorded<O>,
+    lines: &[u64],
+    remarks: &[PlacedRemark],
+    out: &mut W,
+) -> Result<(), PictureFault>
+    requires { W.has_failed out.old ≡ false }
+    ensures told { WritesText result (W.contents out.old) (W.contents out.new)
+        (text_of_record T.wording range (spoken O.sequential O.language recorded.now.world.object) O.state_text name.now
+        recorded.now lines.now remarks.now) }
+    ensures linearizable { IsLinearizableRun (O.sequential recorded.now.world.object) recorded.now.processes
+        recorded.now.first (events_shown recorded.now.events) }
+    ensures many { IsErrOf result PictureFault.TooManyEvents
+        ↔ (2000 < count_in range (length (events_shown recorded.now.events))) }
+    ensures unwritten { IsErrOf result PictureFault.TooManyEvents → out.new ≡ out.old }
+    ensures fault { IfErr result (λ e. (e ≡ PictureFault.TooManyEvents)
+        ⊎ (e ≡ PictureFault.Script Fault.Memory) ⊎ (e ≡ PictureFault.Script Fault.Write)) }
+    ensures out { IsErrOf result (PictureFault.Script Fault.Write) ↔ (W.has_failed out.new ≡ true) }
 {
-    match stored {
+    recorded.promise();
+    let count = range.count(recorded.events().len() as u64);
+    if count > MOST_EVENTS {
+        return Err(PictureFault::TooManyEvents);
+    }
+    let object = *recorded.world().object();
+    let (start, scenes) = excerpt_of(alloc, object, recorded, range.from, count, T::is_whole())?;
+    let opened = opened_of(alloc, name, recorded, start)?;
+    tell_events::<T, O, W>(alloc, range, &opened, lines, remarks, scenes, out)?;
+    Ok(())
+}
+
+/// Writes these events of the run of a script, told, by its object.
+///
+/// Errors: as `tell_record` says.
+pub(crate) fn tell_run<T: Telling, W: TextOut>(
+    alloc: Global,
+    range: Range,
+    run: &ScriptRun<ScriptRecord>,
+    out: &mut W,
+) -> Result<(), PictureFault>
+    requires { W.has_failed out.old ≡ false }
+    ensures told { (version : Version) → WritesText result (W.contents out.old) (W.contents out.new)
+        (text_of_session T.wording range (session_of_record version run.now.record) run.now.lines.items
+        run.now.remarks.items) }
+    ensures linearizable { (version : Version) → IsLinearizableSession (session_of_record version run.now.record) }
+    ensures many { IsErrOf result PictureFault.TooManyEvents
+        ↔ (2000 < count_in range (events_of_record run.now.record)) }
+    ensures unwritten { IsErrOf result PictureFault.TooManyEvents → out.new ≡ out.old }
+    ensures fault { IfErr result (λ e. (e ≡ PictureFault.TooManyEvents)
+        ⊎ (e ≡ PictureFault.Script Fault.Memory) ⊎ (e ≡ PictureFault.Script Fault.Write)) }
+    ensures out { IsErrOf result (PictureFault.Script Fault.Write) ↔ (W.has_failed out.new ≡ true) }
+{
+    let lines = run.lines.as_slice();
+    let remarks = run.remarks.as_slice();
+    match &run.record {
         ScriptRecord::Queue(recorded) => {
-            trace_of_record(alloc, range, ObjectName::Queue.word(), recorded, is_whole)
+            let name = ObjectName::Queue.word();
+            tell_record::<T, _, W>(alloc, range, name, recorded, lines, remarks, out)
         }
         ScriptRecord::Directory(recorded) => {
-            trace_of_record(
-                alloc,
-                range,
-                ObjectName::Directory.word(),
-                recorded,
-                is_whole,
-            )
+            let name = ObjectName::Directory.word();
+            tell_record::<T, _, W>(alloc, range, name, recorded, lines, remarks, out)
         }
         ScriptRecord::Book(recorded) => {
-            trace_of_record(alloc, range, ObjectName::Book.word(), recorded, is_whole)
+            let name = ObjectName::Book.word();
+            tell_record::<T, _, W>(alloc, range, name, recorded, lines, remarks, out)
         }
         ScriptRecord::Sticky(recorded) => {
-            trace_of_record(alloc, range, ObjectName::Sticky.word(), recorded, is_whole)
+            let name = ObjectName::Sticky.word();
+            tell_record::<T, _, W>(alloc, range, name, recorded, lines, remarks, out)
         }
     }
 }
 
-/// These events of the run of a script, told.
+/// Writes these events of the run of the script that a reader has, told: of a linearizable run. `T` is how: `InWords`
+/// in a sentence for each, `InJson` and `InWholeJson` in lines of JSON, without or with the whole memory after each.
 ///
-/// Errors: `TooManyEvents` where more than 2,000 are chosen; else `Memory`.
-fn told_of_run<T: Telling>(
-    alloc: Global,
-    range: Range,
-    run: &ScriptRun<ScriptRecord>,
-) -> Result<Vec<u8>, PictureFault>
-    ensures few { OnOk result (count_in range (events_of_record run.now.record) ≤ 2000) }
-    ensures text { IfOk result (λ text. (version : Version) → text.items
-        ≡ text_of_session T.wording range (session_of_record version run.now.record)
-        run.now.lines.items run.now.remarks.items) }
-    ensures linearizable { (version : Version) → IsLinearizableSession (session_of_record version run.now.record) }
-    ensures many { IsErrOf result PictureFault.TooManyEvents → 2000 < count_in range (events_of_record run.now.record) }
-    ensures memory { (e : Fault) → IsErrOf result (PictureFault.Script e) → e ≡ Fault.Memory }
-{
-    let trace = trace_of_script(alloc, range, &run.record, T::is_whole())?;
-    Ok(trace.told::<T>(alloc, &run.lines, &run.remarks)?)
-}
-
-/// These events of the run of the script that a reader has, told: of a linearizable run. `T` is how: `InWords` in a
-/// sentence for each, `InJson` and `InWholeJson` in lines of JSON, without or with the whole memory after each.
-///
-/// An `Err` is the first fault of the script; `Read` where the reader failed; `Memory` where memory was
-/// refused; or `TooManyEvents` of a good script of which more than 2,000 events are chosen.
-pub fn told_of<T: Telling, I: TextIn>(
+/// An `Err` is the first fault of the script; `Read` where the reader failed; `Memory` where memory was refused;
+/// `TooManyEvents` of a good script of which more than 2,000 events are chosen; or `Write` where the output failed.
+/// With `Memory` and `Write` a prefix may be written, else nothing is.
+pub fn tell_script<T: Telling, I: TextIn, W: TextOut>(
     alloc: Global,
     range: Range,
     reader: &mut I,
-) -> Result<Vec<u8>, PictureFault>
-    requires { I.has_failed reader.old ≡ false }
-    ensures told { IfOk result (λ text. IsTold T.wording range (I.remaining reader.old) text.items) }
+    out: &mut W,
+) -> Result<(), PictureFault>
+    requires reader { I.has_failed reader.old ≡ false }
+    requires out { W.has_failed out.old ≡ false }
+    ensures told { WritesSuch result (IsTold T.wording range (I.remaining reader.old))
+        (W.contents out.old) (W.contents out.new) }
+    ensures unwritten { (e : PictureFault) → IsErrOf result e → e ≢ PictureFault.Script Fault.Memory
+        → e ≢ PictureFault.Script Fault.Write → out.new ≡ out.old }
     ensures many { IsErrOf result PictureFault.TooManyEvents → HasTooManyEvents range (I.remaining reader.old) }
     ensures fault { (e : Fault) → IsErrOf result (PictureFault.Script e) → IsFaultOfScript e
         → HasFault (scripts_of 1048576) (I.remaining reader.old) e }
+    ensures out { W.has_failed out.new ≡ true → IsErrOf result (PictureFault.Script Fault.Write) }
 {
     let run = run_of_script(alloc, reader, &Options::default())?;
-    told_of_run::<T>(alloc, range, &run)
+    tell_run::<T, W>(alloc, range, &run, out)
 }

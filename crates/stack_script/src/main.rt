@@ -7,7 +7,7 @@ ghost use Rattle.std.specs.Prelude.{◌≡◌, false};
 
 use run_layout::Range;
 use run_lines::{COLUMNS, lines_of_object};
-use run_tell::{InWords, trace_of_record};
+use run_tell::{InWords, tell_record};
 use stack::Stack;
 use std::alloc::Global;
 use std::process::ExitCode;
@@ -48,9 +48,16 @@ fn show<W: TextOut>(alloc: Global, output: &mut W) -> Option<()>
     .ok()?;
     write_all(output, lines.as_slice()).ok()?;
     let run = run_of_object(alloc, Stack, "stack", &mut Checked::new(SCRIPT), &options).ok()?;
-    let trace = trace_of_record(alloc, Range::all(), "stack", &run.record, false).ok()?;
-    let steps = trace.told::<InWords>(alloc, &run.lines, &run.remarks).ok()?;
-    write_all(output, steps.as_slice()).ok()
+    tell_record::<InWords, _, _>(
+        alloc,
+        Range::all(),
+        "stack",
+        &run.record,
+        &run.lines,
+        &run.remarks,
+        output,
+    )
+    .ok()
 }
 
 fn main(rt: HostRuntime) -> ExitCode {

@@ -47,7 +47,7 @@ memory_of_form (kind ∷ kinds) e request asked has is = absurd (let bad : None 
 -- which draws nothing
 pub drawn_of_memory : (form : Form) (left old : Option (List ℕ)) (status : ℕ) → status ≡ 4 → IsDrawn form left old old status
 drawn_of_memory form left old status four =
-    record { drawn = λ e. absurd (omega arith); bad = λ e. absurd (omega arith); prefix = λ e. absurd (omega arith); nothing = λ _. refl }
+    record { drawn = λ e. absurd (omega arith); bad = λ e. absurd (omega arith); part = λ _. inl refl; nothing = λ _ _ _. refl }
 
 -- the line of a fault and more is told by its bytes
 pub told_as : (form : Form) (is_explained : Bool) (fault : PictureFault) (more line : List ℕ) (old new : Option (List ℕ)) (failed : Bool) (status : ℕ) → (is_explained ≡ false → more ≡ [])

@@ -7,7 +7,7 @@ pub use Rattle.run_layout.specs.declared.subject.PictureFault.{PictureFault}
 pub use Rattle.run_layout.specs.declared.subject.PictureFault.TheVariants.{Misdrawn, Script, TooManyEvents}
 pub use Rattle.uni_script.specs.Statuses.{TellsFault, status_of}
 pub use Rattle.unidraw_run.specs.CommandLine.{faults_of_words, faults_with, form_among, form_options, form_with, forms_used, request_in, unidraw, unless_faulty, with_options}
-pub use Rattle.unidraw_run.specs.Drawn.{HasNoPicture, IsDrawn}
+pub use Rattle.unidraw_run.specs.Drawn.{HasNoPicture, IsDrawn, IsPictureIn}
 pub use Rattle.unidraw_run.specs.Shown.{option_shown}
 pub use Rattle.unidraw_run.specs.Statuses.{IsStatusOfPicture, TellsPictureFault, picture_fault_line, status_of_picture}
 pub use Rattle.unidraw_run.specs.declared.program.Form.{Form}

@@ -1,13 +1,14 @@
 //! The program over its ends, and its statuses.
 
 ghost use Rattle.std.specs.Prelude.{◌≡◌, ◌≢◌, ◌⊎◌, ◌↔◌, true, false, None, Some};
-ghost use Rattle.std.specs.Prelude.{IfOk, IsErrOf, is_some, map};
+ghost use Rattle.std.specs.Prelude.{IsErrOf, is_some, map};
 ghost use Rattle.uni_script.specs.Replay.{HasFault, IsFaultOfScript};
 ghost use Rattle.uni_script.specs.Scripts.{scripts_of};
 ghost use Rattle.uni_script.specs.declared.fault.BenchFault.{BenchFault as Fault};
 ghost use Rattle.run_layout.specs.Subject.{HasTooManyEvents};
+ghost use Rattle.run_tell.specs.Written.{WritesSuch};
 ghost use Rattle.unidraw_run.specs.CommandLine.{form_of_words, request_of_words, IsRefused};
-ghost use Rattle.unidraw_run.specs.Drawn.{IsPictureIn, IsDrawn, range_of};
+ghost use Rattle.unidraw_run.specs.Drawn.{IsDrawn, IsPictureIn, IsTextOf, may_write_before, range_of};
 ghost use Rattle.unidraw_run.specs.Statuses.{IsStatusOfPicture, TellsPictureFault, picture_fault_line};
 
 use crate::words::{read_words, tip_for};
@@ -15,7 +16,7 @@ use command_line::answer_words;
 use run_layout::{PictureFault, Range};
 use run_lines::lines_of;
 use run_picture::picture_of;
-use run_tell::{InJson, InWholeJson, InWords, history_of, page_of, told_of};
+use run_tell::{InJson, InWholeJson, InWords, page_of, tell_history, tell_script};
 use script_advice::{KeepsText, report_explained};
 use std::alloc::Global;
 use std::convert::AsStr;
@@ -115,14 +116,8 @@ fn draw<I: KeepsText, O: TextOut, F: TextOut>(
         (F.contents faults.new) (F.has_failed faults.new) result }
 {
     keep_if(alloc, request.is_explained, input);
-    match picture_in(alloc, request.form, input) {
-        Ok(text) => match write_all(output, text.as_slice()) {
-            Ok(()) => 0,
-            Err(Failed) => {
-                let fault = PictureFault::Script(BenchFault::Write);
-                report(alloc, request.form, fault, None, faults)
-            }
-        },
+    match draw_form(alloc, request.form, input, output) {
+        Ok(()) => 0,
         Err(fault) if request.is_explained => report(
             alloc,
             request.form,
@@ -134,27 +129,62 @@ fn draw<I: KeepsText, O: TextOut, F: TextOut>(
     }
 }
 
-/// The picture of the script that a reader has, in a form.
+/// Writes a picture, where there is one.
 ///
-/// An `Err` is the first fault of the script; `Read` where the reader failed; `Memory` where memory was
-/// refused; `TooManyEvents` of a good script of which more than 2,000 events are chosen; or `Misdrawn` where the
-/// drawing of its run does not show it.
-fn picture_in<I: TextIn>(alloc: Global, form: Form, reader: &mut I) -> Result<Vec<u8>, PictureFault>
-    requires { I.has_failed reader.old ≡ false }
-    ensures picture { IfOk result (λ text. IsPictureIn form (I.remaining reader.old) text.items) }
+/// An `Err` is that of the picture, and nothing is written; or `Write` where the output failed, and a prefix is.
+fn write_picture<O: TextOut>(
+    picture: Result<Vec<u8>, PictureFault>,
+    output: &mut O,
+) -> Result<(), PictureFault>
+    requires { O.has_failed output.old ≡ false }
+    ensures drawn { WritesSuch result (IsTextOf picture) (O.contents output.old) (O.contents output.new) }
+    ensures fault { (e : PictureFault) → IsErrOf result e → e ≢ PictureFault.Script Fault.Write
+        → IsErrOf picture e × (output.new ≡ output.old) }
+    ensures written { O.has_failed output.new ≡ true → IsErrOf result (PictureFault.Script Fault.Write) }
+{
+    match picture {
+        Ok(text) => match write_all(output, text.as_slice()) {
+            Ok(()) => Ok(()),
+            Err(Failed) => Err(PictureFault::Script(BenchFault::Write)),
+        },
+        Err(fault) => Err(fault),
+    }
+}
+
+/// Writes the picture of the script that a reader has, in a form.
+///
+/// An `Err` is the first fault of the script; `Read` where the reader failed; `Memory` where memory was refused;
+/// `TooManyEvents` of a good script of which more than 2,000 events are chosen; `Misdrawn` where the drawing of its run
+/// does not show it; or `Write` where the output failed. With `Write` a prefix may be written, with `Memory` too where
+/// the form is written while it is told; else nothing is.
+fn draw_form<I: TextIn, O: TextOut>(
+    alloc: Global,
+    form: Form,
+    input: &mut I,
+    output: &mut O,
+) -> Result<(), PictureFault>
+    requires input { I.has_failed input.old ≡ false }
+    requires output { O.has_failed output.old ≡ false }
+    ensures drawn { WritesSuch result (IsPictureIn form (I.remaining input.old))
+        (O.contents output.old) (O.contents output.new) }
+    ensures unwritten { (e : PictureFault) → IsErrOf result e → may_write_before form e ≡ false
+        → output.new ≡ output.old }
     ensures many { IsErrOf result PictureFault.TooManyEvents
-        → HasTooManyEvents (range_of form) (I.remaining reader.old) }
+        → HasTooManyEvents (range_of form) (I.remaining input.old) }
     ensures fault { (e : Fault) → IsErrOf result (PictureFault.Script e) → IsFaultOfScript e
-        → HasFault (scripts_of 1048576) (I.remaining reader.old) e }
+        → HasFault (scripts_of 1048576) (I.remaining input.old) e }
+    ensures written { O.has_failed output.new ≡ true → IsErrOf result (PictureFault.Script Fault.Write) }
 {
     match form {
-        Form::Svg(range) => picture_of(alloc, range, reader),
-        Form::Lines(range, columns) => lines_of(alloc, range, columns, reader),
-        Form::Steps(range) => told_of::<InWords, I>(alloc, range, reader),
-        Form::Json(range) => told_of::<InJson, I>(alloc, range, reader),
-        Form::Full(range) => told_of::<InWholeJson, I>(alloc, range, reader),
-        Form::Html(range) => page_of(alloc, range, reader),
-        Form::History => history_of(alloc, reader),
+        Form::Svg(range) => write_picture(picture_of(alloc, range, input), output),
+        Form::Lines(range, columns) => {
+            write_picture(lines_of(alloc, range, columns, input), output)
+        }
+        Form::Steps(range) => tell_script::<InWords, I, O>(alloc, range, input, output),
+        Form::Json(range) => tell_script::<InJson, I, O>(alloc, range, input, output),
+        Form::Full(range) => tell_script::<InWholeJson, I, O>(alloc, range, input, output),
+        Form::Html(range) => write_picture(page_of(alloc, range, input), output),
+        Form::History => tell_history(alloc, input, output),
     }
 }
 

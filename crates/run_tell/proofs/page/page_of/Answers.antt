@@ -8,7 +8,8 @@ unfolding IsPage
 returns-clause-page g c =
     let of = c.page_of_run.ensures in
     let run = c.in_ok-run.run' in
-    IfOk-two c.page_of_run.result _ _ _ of.few of.page (λ text few is. IsToldBy-run (page_between START.now MIDDLE.now END.now c.args.range) c.args.range _ run (default_run _ _ run c.default.ensures c.in_ok-run.ensures.run) text.items few is of.linearizable)
+    let given = default_run _ _ run c.default.ensures c.in_ok-run.ensures.run in
+    IfOk-two c.page_of_run.result _ _ _ of.few of.page (λ text few is. IsToldBy-run (page_between START.now MIDDLE.now END.now c.args.range) c.args.range _ run given text.items few (is given.3.2.version) of.linearizable)
 
 pub returns-clause-many : goal.returns-clause-many
 returns-clause-many g c = λ many. HasTooManyEvents-run c.args.range _ c.in_ok-run.run' (default_run _ _ c.in_ok-run.run' c.default.ensures c.in_ok-run.ensures.run) (c.page_of_run.ensures.many many)

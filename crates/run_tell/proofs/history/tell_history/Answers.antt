@@ -1,0 +1,14 @@
+use Rattle.run_tell.proofs.Vocabulary.{IsTold, subst}
+use Rattle.run_layout.specs.Subject.{HasTooManyEvents}
+use Rattle.run_tell.specs.HistoryLines.{history_wording}
+use Rattle.run_tell.proofs.Observed.{IsHistory-told}
+use Rattle.run_tell.proofs.Writing.{WritesSuch-weaker}
+use Rattle.run_tell.proofs.history.tell_history.Goals as goal
+
+pub returns-clause-told : goal.returns-clause-told
+returns-clause-told g c =
+    let left = g.I.TextIn.remaining c.args.reader.now in
+    WritesSuch-weaker c.tell_script.result _ _ _ _ (λ text is. IsHistory-told left text (subst (λ range. IsTold history_wording range left text) c.all.ensures.range is)) c.tell_script.ensures.told
+
+pub returns-clause-many : goal.returns-clause-many
+returns-clause-many g c = λ many. subst (λ range. HasTooManyEvents range (g.I.TextIn.remaining c.args.reader.now)) c.all.ensures.range (c.tell_script.ensures.many many)

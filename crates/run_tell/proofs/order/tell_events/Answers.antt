@@ -1,0 +1,144 @@
+use Rattle.run_tell.proofs.Vocabulary.{Err, Some, [], ap, inr, arith, drop, event_text, flat_map, length, remark_told, scene_shown, slice_get, subst, sym, take, told_from, told_text, ◌++◌, ◌+◌, ◌∙◌, ◌∷◌, ◌≡◌}
+use Rattle.std.proofs.Common.{rules}
+use Rattle.std.proofs.lemmas.Result.{IfErr-weaker, err_from_is_err_and}
+use Rattle.uni_script.specs.Ends.{Moves}
+use Rattle.uni_script.proofs.RunningOn.{stays_false}
+use Rattle.uni_script.proofs.Written.{AppendsPrefix-nil}
+use Rattle.run_tell.specs.Opened.{opening_shown, trace_with}
+use Rattle.run_tell.proofs.ToldOn.{told_on}
+use Rattle.run_tell.proofs.Writing.{Moves-failed, Moves-more, Moves-part, Moves-start, WritesText-err, WritesText-last}
+use Rattle.run_tell.proofs.order.tell_events.Goals as goal
+
+pub loop-text-init : goal.loop-text-init
+loop-text-init g c =
+    let words = g.T.Telling.wording in
+    let whole = told_text words (trace_with c.args.range c.args.opened.now c.args.scenes) c.args.lines.now c.args.remarks.now in
+    let end = g.W.TextOut.contents c.args.out.now in
+    let empty : c.new-text.result.items ≡ [] = search rules in
+    let opened = c.in_ok-push_opening.ensures ∙ ap (λ l. l ++ words.opening (opening_shown c.args.opened.now)) empty in
+    record {
+      moves = subst (λ t. Moves end end whole (t ++ told_from words c.args.range c.args.lines.now c.args.range.from c.args.scenes c.args.remarks.now)) (sym opened) (Moves-start end whole);
+      good = c.requires.out;
+      numbers = c.requires.numbers;
+    }
+
+pub loop-text-smaller : goal.loop-text-smaller
+loop-text-smaller g c =
+    let split : c.loop-text.scenes ≡ Some (scene_shown c.in-Some.scene) ∷ c.next_scene.new.self = rw c.in-Some.is at c.in_ok-scene.ensures.next in
+    omega (arith, ap length split)
+
+pub overflow_add-event : goal.overflow_add-event
+overflow_add-event g c =
+    let split : c.loop-text.scenes ≡ Some (scene_shown c.in-Some.scene) ∷ c.next_scene.new.self = rw c.in-Some.is at c.in_ok-scene.ensures.next in
+    omega (arith, ap length split, c.loop-text.invariant.numbers)
+
+pub loop-text-preserved : goal.loop-text-preserved
+loop-text-preserved g c =
+    let words = g.T.Telling.wording in
+    let range = c.args.range in
+    let lines = c.args.lines.now in
+    let here = c.loop-text in
+    let scene = c.in-Some.scene in
+    let rest = here.rest.now in
+    let left = c.next_scene.new.self in
+    let before = c.told_before.result in
+    let text = here.text.items in
+    let told = c.push_scene.new.text.items in
+    let split : here.scenes ≡ Some (scene_shown scene) ∷ left = rw c.in-Some.is at c.in_ok-scene.ensures.next in
+    let beside : c.push_remarks.new.text.items ≡ text ++ flat_map (remark_told words range) (take before rest) =
+    c.in_ok-push_remarks.ensures ∙ ap (λ some. text ++ flat_map (remark_told words range) some) c.split_at.ensures.front in
+    let scene_told : told ≡ c.push_remarks.new.text.items ++ words.event here.event (slice_get lines here.event) (scene_shown scene) =
+    c.in_ok-push_scene.ensures ∙ ap (λ line. c.push_remarks.new.text.items ++ words.event here.event line (scene_shown scene)) c.line_of.ensures in
+    let on : text ++ told_from words range lines here.event here.scenes rest ≡ told ++ told_from words range lines (here.event + 1) left c.split_at.result.1.now =
+    told_on words range lines here.event here.scenes left (Some (scene_shown scene)) rest before text c.push_remarks.new.text.items told c.told_before.ensures.count split beside scene_told
+    ∙ ap (λ later. told ++ told_from words range lines (here.event + 1) left later) (sym c.split_at.ensures.back) in
+    let whole = told_text words (trace_with range c.args.opened.now c.args.scenes) lines c.args.remarks.now in
+    record {
+      moves = Moves-more _ _ _ whole told _ _ (subst (Moves (g.W.TextOut.contents c.args.out.now) (g.W.TextOut.contents here.out) whole) on here.invariant.moves) c.in_ok-write_from.ensures.moved;
+      good = stays_false _ _ c.in_ok-write_from.ensures.out (λ e. cc);
+      numbers = omega (arith, ap length split, here.invariant.numbers);
+    }
+
+pub loop-text-preserved-in_ok-write_from : goal.loop-text-preserved-in_ok-write_from
+loop-text-preserved-in_ok-write_from g c =
+    let words = g.T.Telling.wording in
+    let range = c.args.range in
+    let lines = c.args.lines.now in
+    let here = c.loop-text in
+    let scene = c.in-Some.scene in
+    let rest = here.rest.now in
+    let left = c.next_scene.new.self in
+    let before = c.told_before.result in
+    let text = here.text.items in
+    let told = c.push_scene.new.text.items in
+    let split : here.scenes ≡ Some (scene_shown scene) ∷ left = rw c.in-Some.is at c.in_ok-scene.ensures.next in
+    let beside : c.push_remarks.new.text.items ≡ text ++ flat_map (remark_told words range) (take before rest) =
+    c.in_ok-push_remarks.ensures ∙ ap (λ some. text ++ flat_map (remark_told words range) some) c.split_at.ensures.front in
+    let scene_told : told ≡ c.push_remarks.new.text.items ++ words.event here.event (slice_get lines here.event) (scene_shown scene) =
+    c.in_ok-push_scene.ensures ∙ ap (λ line. c.push_remarks.new.text.items ++ words.event here.event line (scene_shown scene)) c.line_of.ensures in
+    let on : text ++ told_from words range lines here.event here.scenes rest ≡ told ++ told_from words range lines (here.event + 1) left c.split_at.result.1.now =
+    told_on words range lines here.event here.scenes left (Some (scene_shown scene)) rest before text c.push_remarks.new.text.items told c.told_before.ensures.count split beside scene_told
+    ∙ ap (λ later. told ++ told_from words range lines (here.event + 1) left later) (sym c.split_at.ensures.back) in
+    let whole = told_text words (trace_with range c.args.opened.now c.args.scenes) lines c.args.remarks.now in
+    record {
+      moves = Moves-more _ _ _ whole told _ _ (subst (Moves (g.W.TextOut.contents c.args.out.now) (g.W.TextOut.contents here.out) whole) on here.invariant.moves) c.in_ok-write_from.ensures.moved;
+      good = stays_false _ _ c.in_ok-write_from.ensures.out (λ e. cc);
+      numbers = omega (arith, ap length split, here.invariant.numbers);
+    }
+
+pub returns-in_err-write_from-clause-told : goal.returns-in_err-write_from-clause-told
+returns-in_err-write_from-clause-told g c =
+    let words = g.T.Telling.wording in
+    let range = c.args.range in
+    let lines = c.args.lines.now in
+    let here = c.loop-text in
+    let scene = c.in-Some.scene in
+    let rest = here.rest.now in
+    let left = c.next_scene.new.self in
+    let before = c.told_before.result in
+    let text = here.text.items in
+    let told = c.push_scene.new.text.items in
+    let split : here.scenes ≡ Some (scene_shown scene) ∷ left = rw c.in-Some.is at c.in_ok-scene.ensures.next in
+    let beside : c.push_remarks.new.text.items ≡ text ++ flat_map (remark_told words range) (take before rest) =
+    c.in_ok-push_remarks.ensures ∙ ap (λ some. text ++ flat_map (remark_told words range) some) c.split_at.ensures.front in
+    let scene_told : told ≡ c.push_remarks.new.text.items ++ words.event here.event (slice_get lines here.event) (scene_shown scene) =
+    c.in_ok-push_scene.ensures ∙ ap (λ line. c.push_remarks.new.text.items ++ words.event here.event line (scene_shown scene)) c.line_of.ensures in
+    let on : text ++ told_from words range lines here.event here.scenes rest ≡ told ++ told_from words range lines (here.event + 1) left c.split_at.result.1.now =
+    told_on words range lines here.event here.scenes left (Some (scene_shown scene)) rest before text c.push_remarks.new.text.items told c.told_before.ensures.count split beside scene_told
+    ∙ ap (λ later. told ++ told_from words range lines (here.event + 1) left later) (sym c.split_at.ensures.back) in
+    let whole = told_text words (trace_with range c.args.opened.now c.args.scenes) lines c.args.remarks.now in
+    WritesText-err _ _ _ _ (search rules) (Moves-failed _ _ _ whole told _ (subst (Moves (g.W.TextOut.contents c.args.out.now) (g.W.TextOut.contents here.out) whole) on here.invariant.moves) c.in_err-write_from.ensures.prefix)
+
+pub returns-in_err-write_from-clause-out : goal.returns-in_err-write_from-clause-out
+returns-in_err-write_from-clause-out g c =
+    let p = err_from_is_err_and c.from_residual-in_err-write_from.result c.from_residual-in_err-write_from.ensures.1 in
+    (λ _. c.in_err-write_from.ensures.out.0 (ap Err c.in_err-write_from.ensures.fault), λ _. p.1 ∙ ap Err (p.2 ∙ c.in_err-write_from.ensures.fault))
+
+pub returns-in_err-push_remarks-2-clause-told : goal.returns-in_err-push_remarks-2-clause-told
+returns-in_err-push_remarks-2-clause-told g c = WritesText-err _ _ _ _ (search rules) (Moves-part _ _ _ _ c.loop-text.invariant.moves)
+
+pub returns-clause-fault : goal.returns-clause-fault
+returns-clause-fault g c = IfErr-weaker c.write_from-2.result _ _ (λ e write. inr write) c.write_from-2.ensures.fault
+
+pub returns-in_err-push_opening-clause-told : goal.returns-in_err-push_opening-clause-told
+returns-in_err-push_opening-clause-told g c = WritesText-err _ _ _ _ (search rules) (AppendsPrefix-nil _ _)
+
+pub returns-in_err-scene-clause-told : goal.returns-in_err-scene-clause-told
+returns-in_err-scene-clause-told g c = WritesText-err _ _ _ _ (search rules) (Moves-part _ _ _ _ c.loop-text.invariant.moves)
+
+pub returns-in_err-push_remarks-clause-told : goal.returns-in_err-push_remarks-clause-told
+returns-in_err-push_remarks-clause-told g c = WritesText-err _ _ _ _ (search rules) (Moves-part _ _ _ _ c.loop-text.invariant.moves)
+
+pub returns-in_err-push_scene-clause-told : goal.returns-in_err-push_scene-clause-told
+returns-in_err-push_scene-clause-told g c = WritesText-err _ _ _ _ (search rules) (Moves-part _ _ _ _ c.loop-text.invariant.moves)
+
+pub returns-clause-told : goal.returns-clause-told
+returns-clause-told g c =
+    let words = g.T.Telling.wording in
+    let here = c.loop-text in
+    let none : here.scenes ≡ [] = rw c.in_default.is at c.in_ok-scene.ensures.end in
+    let whole = told_text words (trace_with c.args.range c.args.opened.now c.args.scenes) c.args.lines.now c.args.remarks.now in
+    let all : Moves (g.W.TextOut.contents c.args.out.now) (g.W.TextOut.contents here.out) whole c.push_remarks-2.new.text.items =
+    subst (Moves (g.W.TextOut.contents c.args.out.now) (g.W.TextOut.contents here.out) whole)
+    (ap (λ scenes. here.text.items ++ told_from words c.args.range c.args.lines.now here.event scenes here.rest.now) none ∙ sym c.in_ok-push_remarks-2.ensures) here.invariant.moves in
+    WritesText-last c.write_from-2.result _ _ _ whole _ _ all c.write_from-2.ensures.moved c.write_from-2.ensures.all c.write_from-2.ensures.prefix

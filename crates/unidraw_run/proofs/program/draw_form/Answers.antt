@@ -1,0 +1,98 @@
+use Rattle.unidraw_run.proofs.Vocabulary.{IsPictureIn, TooManyEvents, Script, ap, refl, subst, sym}
+use Rattle.std.proofs.lemmas.Result.{IfOk-at_ok}
+use Rattle.run_layout.specs.Subject.{HasTooManyEvents}
+use Rattle.run_lines.specs.Lines.{IsLines}
+use Rattle.run_picture.specs.Picture.{IsPicture}
+use Rattle.run_tell.specs.Page.{IsPage}
+use Rattle.run_tell.specs.Written.{WritesSuch}
+use Rattle.run_tell.proofs.Writing.{WritesSuch-weaker}
+use Rattle.unidraw_run.specs.Drawn.{is_streamed, range_of}
+use Rattle.unidraw_run.proofs.Drawing.{no_script_write, not_memory, not_write}
+use Rattle.unidraw_run.proofs.program.draw_form.Goals as goal
+
+pub returns-in-Svg-clause-drawn : goal.returns-in-Svg-clause-drawn
+returns-in-Svg-clause-drawn g c =
+    let left = g.I.TextIn.remaining c.args.input.now in
+    subst (λ form. WritesSuch c.write_picture.result (IsPictureIn form left) _ _) (sym c.in-Svg.is)
+    (WritesSuch-weaker c.write_picture.result _ _ _ _ (λ text is. subst (IsPicture c.in-Svg.range left) (sym is.2) (IfOk-at_ok _ is.1 c.picture_of.ensures.picture)) c.write_picture.ensures.drawn)
+
+pub returns-in-Svg-clause-unwritten : goal.returns-in-Svg-clause-unwritten
+returns-in-Svg-clause-unwritten g c = λ e is before. (c.write_picture.ensures.fault e is (not_write c.args.form e before)).1
+
+pub returns-in-Svg-clause-many : goal.returns-in-Svg-clause-many
+returns-in-Svg-clause-many g c = λ many.
+    subst (λ form. HasTooManyEvents (range_of form) (g.I.TextIn.remaining c.args.input.now)) (sym c.in-Svg.is)
+    (c.picture_of.ensures.many (c.write_picture.ensures.fault TooManyEvents many (λ same. cc)).0)
+
+pub returns-in-Svg-clause-fault : goal.returns-in-Svg-clause-fault
+returns-in-Svg-clause-fault g c = λ e is fault. c.picture_of.ensures.fault e (c.write_picture.ensures.fault (Script e) is (no_script_write e fault)).0 fault
+
+pub returns-in-Lines-clause-drawn : goal.returns-in-Lines-clause-drawn
+returns-in-Lines-clause-drawn g c =
+    let left = g.I.TextIn.remaining c.args.input.now in
+    subst (λ form. WritesSuch c.write_picture-in-Lines.result (IsPictureIn form left) _ _) (sym c.in-Lines.is)
+    (WritesSuch-weaker c.write_picture-in-Lines.result _ _ _ _ (λ text is. subst (IsLines c.in-Lines.range c.in-Lines.columns left) (sym is.2) (IfOk-at_ok _ is.1 c.lines_of.ensures.lines)) c.write_picture-in-Lines.ensures.drawn)
+
+pub returns-in-Lines-clause-unwritten : goal.returns-in-Lines-clause-unwritten
+returns-in-Lines-clause-unwritten g c = λ e is before. (c.write_picture-in-Lines.ensures.fault e is (not_write c.args.form e before)).1
+
+pub returns-in-Lines-clause-many : goal.returns-in-Lines-clause-many
+returns-in-Lines-clause-many g c = λ many.
+    subst (λ form. HasTooManyEvents (range_of form) (g.I.TextIn.remaining c.args.input.now)) (sym c.in-Lines.is)
+    (c.lines_of.ensures.many (c.write_picture-in-Lines.ensures.fault TooManyEvents many (λ same. cc)).0)
+
+pub returns-in-Lines-clause-fault : goal.returns-in-Lines-clause-fault
+returns-in-Lines-clause-fault g c = λ e is fault. c.lines_of.ensures.fault e (c.write_picture-in-Lines.ensures.fault (Script e) is (no_script_write e fault)).0 fault
+
+pub returns-in-Html-clause-drawn : goal.returns-in-Html-clause-drawn
+returns-in-Html-clause-drawn g c =
+    let left = g.I.TextIn.remaining c.args.input.now in
+    subst (λ form. WritesSuch c.write_picture-in-Html.result (IsPictureIn form left) _ _) (sym c.in-Html.is)
+    (WritesSuch-weaker c.write_picture-in-Html.result _ _ _ _ (λ text is. subst (IsPage c.in-Html.range left) (sym is.2) (IfOk-at_ok _ is.1 c.page_of.ensures.page)) c.write_picture-in-Html.ensures.drawn)
+
+pub returns-in-Html-clause-unwritten : goal.returns-in-Html-clause-unwritten
+returns-in-Html-clause-unwritten g c = λ e is before. (c.write_picture-in-Html.ensures.fault e is (not_write c.args.form e before)).1
+
+pub returns-in-Html-clause-many : goal.returns-in-Html-clause-many
+returns-in-Html-clause-many g c = λ many.
+    subst (λ form. HasTooManyEvents (range_of form) (g.I.TextIn.remaining c.args.input.now)) (sym c.in-Html.is)
+    (c.page_of.ensures.many (c.write_picture-in-Html.ensures.fault TooManyEvents many (λ same. cc)).0)
+
+pub returns-in-Html-clause-fault : goal.returns-in-Html-clause-fault
+returns-in-Html-clause-fault g c = λ e is fault. c.page_of.ensures.fault e (c.write_picture-in-Html.ensures.fault (Script e) is (no_script_write e fault)).0 fault
+
+pub returns-in-Steps-clause-drawn : goal.returns-in-Steps-clause-drawn
+returns-in-Steps-clause-drawn g c = subst (λ form. WritesSuch c.tell_script.result (IsPictureIn form (g.I.TextIn.remaining c.args.input.now)) _ _) (sym c.in-Steps.is) c.tell_script.ensures.told
+
+pub returns-in-Steps-clause-unwritten : goal.returns-in-Steps-clause-unwritten
+returns-in-Steps-clause-unwritten g c = λ e is before. c.tell_script.ensures.unwritten e is (not_memory c.args.form e (ap is_streamed c.in-Steps.is) before) (not_write c.args.form e before)
+
+pub returns-in-Steps-clause-many : goal.returns-in-Steps-clause-many
+returns-in-Steps-clause-many g c = λ many. subst (λ form. HasTooManyEvents (range_of form) (g.I.TextIn.remaining c.args.input.now)) (sym c.in-Steps.is) (c.tell_script.ensures.many many)
+
+pub returns-in-Json-clause-drawn : goal.returns-in-Json-clause-drawn
+returns-in-Json-clause-drawn g c = subst (λ form. WritesSuch c.tell_script-in-Json.result (IsPictureIn form (g.I.TextIn.remaining c.args.input.now)) _ _) (sym c.in-Json.is) c.tell_script-in-Json.ensures.told
+
+pub returns-in-Json-clause-unwritten : goal.returns-in-Json-clause-unwritten
+returns-in-Json-clause-unwritten g c = λ e is before. c.tell_script-in-Json.ensures.unwritten e is (not_memory c.args.form e (ap is_streamed c.in-Json.is) before) (not_write c.args.form e before)
+
+pub returns-in-Json-clause-many : goal.returns-in-Json-clause-many
+returns-in-Json-clause-many g c = λ many. subst (λ form. HasTooManyEvents (range_of form) (g.I.TextIn.remaining c.args.input.now)) (sym c.in-Json.is) (c.tell_script-in-Json.ensures.many many)
+
+pub returns-in-Full-clause-drawn : goal.returns-in-Full-clause-drawn
+returns-in-Full-clause-drawn g c = subst (λ form. WritesSuch c.tell_script-in-Full.result (IsPictureIn form (g.I.TextIn.remaining c.args.input.now)) _ _) (sym c.in-Full.is) c.tell_script-in-Full.ensures.told
+
+pub returns-in-Full-clause-unwritten : goal.returns-in-Full-clause-unwritten
+returns-in-Full-clause-unwritten g c = λ e is before. c.tell_script-in-Full.ensures.unwritten e is (not_memory c.args.form e (ap is_streamed c.in-Full.is) before) (not_write c.args.form e before)
+
+pub returns-in-Full-clause-many : goal.returns-in-Full-clause-many
+returns-in-Full-clause-many g c = λ many. subst (λ form. HasTooManyEvents (range_of form) (g.I.TextIn.remaining c.args.input.now)) (sym c.in-Full.is) (c.tell_script-in-Full.ensures.many many)
+
+pub returns-in-History-clause-drawn : goal.returns-in-History-clause-drawn
+returns-in-History-clause-drawn g c = subst (λ form. WritesSuch c.tell_history.result (IsPictureIn form (g.I.TextIn.remaining c.args.input.now)) _ _) (sym c.in-History.is) c.tell_history.ensures.told
+
+pub returns-in-History-clause-unwritten : goal.returns-in-History-clause-unwritten
+returns-in-History-clause-unwritten g c = λ e is before. c.tell_history.ensures.unwritten e is (not_memory c.args.form e (ap is_streamed c.in-History.is) before) (not_write c.args.form e before)
+
+pub returns-in-History-clause-many : goal.returns-in-History-clause-many
+returns-in-History-clause-many g c = λ many. subst (λ form. HasTooManyEvents (range_of form) (g.I.TextIn.remaining c.args.input.now)) (sym c.in-History.is) (c.tell_history.ensures.many many)
