@@ -1,4 +1,4 @@
-use Rattle.unidraw_run.proofs.Vocabulary.{IsPictureIn, TooManyEvents, Script, ap, refl, subst, sym}
+use Rattle.unidraw_run.proofs.Vocabulary.{IsPictureIn, TooManyEvents, Script, ap, subst, sym}
 use Rattle.std.proofs.lemmas.Result.{IfOk-at_ok}
 use Rattle.run_layout.specs.Subject.{HasTooManyEvents}
 use Rattle.run_lines.specs.Lines.{IsLines}
@@ -13,7 +13,7 @@ use Rattle.unidraw_run.proofs.program.draw_form.Goals as goal
 pub returns-in-Svg-clause-drawn : goal.returns-in-Svg-clause-drawn
 returns-in-Svg-clause-drawn g c =
     let left = g.I.TextIn.remaining c.args.input.now in
-    subst (λ form. WritesSuch c.write_picture.result (IsPictureIn form left) _ _) (sym c.in-Svg.is)
+    subst (λ form. WritesSuch c.write_picture.result (IsPictureIn form left) (g.O.TextOut.contents c.args.output.now) (g.O.TextOut.contents c.write_picture.new.output)) (sym c.in-Svg.is)
     (WritesSuch-weaker c.write_picture.result _ _ _ _ (λ text is. subst (IsPicture c.in-Svg.range left) (sym is.2) (IfOk-at_ok _ is.1 c.picture_of.ensures.picture)) c.write_picture.ensures.drawn)
 
 pub returns-in-Svg-clause-unwritten : goal.returns-in-Svg-clause-unwritten
@@ -30,7 +30,7 @@ returns-in-Svg-clause-fault g c = λ e is fault. c.picture_of.ensures.fault e (c
 pub returns-in-Lines-clause-drawn : goal.returns-in-Lines-clause-drawn
 returns-in-Lines-clause-drawn g c =
     let left = g.I.TextIn.remaining c.args.input.now in
-    subst (λ form. WritesSuch c.write_picture-in-Lines.result (IsPictureIn form left) _ _) (sym c.in-Lines.is)
+    subst (λ form. WritesSuch c.write_picture-in-Lines.result (IsPictureIn form left) (g.O.TextOut.contents c.args.output.now) (g.O.TextOut.contents c.write_picture-in-Lines.new.output)) (sym c.in-Lines.is)
     (WritesSuch-weaker c.write_picture-in-Lines.result _ _ _ _ (λ text is. subst (IsLines c.in-Lines.range c.in-Lines.columns left) (sym is.2) (IfOk-at_ok _ is.1 c.lines_of.ensures.lines)) c.write_picture-in-Lines.ensures.drawn)
 
 pub returns-in-Lines-clause-unwritten : goal.returns-in-Lines-clause-unwritten
@@ -47,7 +47,7 @@ returns-in-Lines-clause-fault g c = λ e is fault. c.lines_of.ensures.fault e (c
 pub returns-in-Html-clause-drawn : goal.returns-in-Html-clause-drawn
 returns-in-Html-clause-drawn g c =
     let left = g.I.TextIn.remaining c.args.input.now in
-    subst (λ form. WritesSuch c.write_picture-in-Html.result (IsPictureIn form left) _ _) (sym c.in-Html.is)
+    subst (λ form. WritesSuch c.write_picture-in-Html.result (IsPictureIn form left) (g.O.TextOut.contents c.args.output.now) (g.O.TextOut.contents c.write_picture-in-Html.new.output)) (sym c.in-Html.is)
     (WritesSuch-weaker c.write_picture-in-Html.result _ _ _ _ (λ text is. subst (IsPage c.in-Html.range left) (sym is.2) (IfOk-at_ok _ is.1 c.page_of.ensures.page)) c.write_picture-in-Html.ensures.drawn)
 
 pub returns-in-Html-clause-unwritten : goal.returns-in-Html-clause-unwritten
@@ -62,7 +62,7 @@ pub returns-in-Html-clause-fault : goal.returns-in-Html-clause-fault
 returns-in-Html-clause-fault g c = λ e is fault. c.page_of.ensures.fault e (c.write_picture-in-Html.ensures.fault (Script e) is (no_script_write e fault)).0 fault
 
 pub returns-in-Steps-clause-drawn : goal.returns-in-Steps-clause-drawn
-returns-in-Steps-clause-drawn g c = subst (λ form. WritesSuch c.tell_script.result (IsPictureIn form (g.I.TextIn.remaining c.args.input.now)) _ _) (sym c.in-Steps.is) c.tell_script.ensures.told
+returns-in-Steps-clause-drawn g c = subst (λ form. WritesSuch c.tell_script.result (IsPictureIn form (g.I.TextIn.remaining c.args.input.now)) (g.O.TextOut.contents c.args.output.now) (g.O.TextOut.contents c.tell_script.new.out)) (sym c.in-Steps.is) c.tell_script.ensures.told
 
 pub returns-in-Steps-clause-unwritten : goal.returns-in-Steps-clause-unwritten
 returns-in-Steps-clause-unwritten g c = λ e is before. c.tell_script.ensures.unwritten e is (not_memory c.args.form e (ap is_streamed c.in-Steps.is) before) (not_write c.args.form e before)
@@ -71,7 +71,7 @@ pub returns-in-Steps-clause-many : goal.returns-in-Steps-clause-many
 returns-in-Steps-clause-many g c = λ many. subst (λ form. HasTooManyEvents (range_of form) (g.I.TextIn.remaining c.args.input.now)) (sym c.in-Steps.is) (c.tell_script.ensures.many many)
 
 pub returns-in-Json-clause-drawn : goal.returns-in-Json-clause-drawn
-returns-in-Json-clause-drawn g c = subst (λ form. WritesSuch c.tell_script-in-Json.result (IsPictureIn form (g.I.TextIn.remaining c.args.input.now)) _ _) (sym c.in-Json.is) c.tell_script-in-Json.ensures.told
+returns-in-Json-clause-drawn g c = subst (λ form. WritesSuch c.tell_script-in-Json.result (IsPictureIn form (g.I.TextIn.remaining c.args.input.now)) (g.O.TextOut.contents c.args.output.now) (g.O.TextOut.contents c.tell_script-in-Json.new.out)) (sym c.in-Json.is) c.tell_script-in-Json.ensures.told
 
 pub returns-in-Json-clause-unwritten : goal.returns-in-Json-clause-unwritten
 returns-in-Json-clause-unwritten g c = λ e is before. c.tell_script-in-Json.ensures.unwritten e is (not_memory c.args.form e (ap is_streamed c.in-Json.is) before) (not_write c.args.form e before)
@@ -80,7 +80,7 @@ pub returns-in-Json-clause-many : goal.returns-in-Json-clause-many
 returns-in-Json-clause-many g c = λ many. subst (λ form. HasTooManyEvents (range_of form) (g.I.TextIn.remaining c.args.input.now)) (sym c.in-Json.is) (c.tell_script-in-Json.ensures.many many)
 
 pub returns-in-Full-clause-drawn : goal.returns-in-Full-clause-drawn
-returns-in-Full-clause-drawn g c = subst (λ form. WritesSuch c.tell_script-in-Full.result (IsPictureIn form (g.I.TextIn.remaining c.args.input.now)) _ _) (sym c.in-Full.is) c.tell_script-in-Full.ensures.told
+returns-in-Full-clause-drawn g c = subst (λ form. WritesSuch c.tell_script-in-Full.result (IsPictureIn form (g.I.TextIn.remaining c.args.input.now)) (g.O.TextOut.contents c.args.output.now) (g.O.TextOut.contents c.tell_script-in-Full.new.out)) (sym c.in-Full.is) c.tell_script-in-Full.ensures.told
 
 pub returns-in-Full-clause-unwritten : goal.returns-in-Full-clause-unwritten
 returns-in-Full-clause-unwritten g c = λ e is before. c.tell_script-in-Full.ensures.unwritten e is (not_memory c.args.form e (ap is_streamed c.in-Full.is) before) (not_write c.args.form e before)
@@ -89,7 +89,7 @@ pub returns-in-Full-clause-many : goal.returns-in-Full-clause-many
 returns-in-Full-clause-many g c = λ many. subst (λ form. HasTooManyEvents (range_of form) (g.I.TextIn.remaining c.args.input.now)) (sym c.in-Full.is) (c.tell_script-in-Full.ensures.many many)
 
 pub returns-in-History-clause-drawn : goal.returns-in-History-clause-drawn
-returns-in-History-clause-drawn g c = subst (λ form. WritesSuch c.tell_history.result (IsPictureIn form (g.I.TextIn.remaining c.args.input.now)) _ _) (sym c.in-History.is) c.tell_history.ensures.told
+returns-in-History-clause-drawn g c = subst (λ form. WritesSuch c.tell_history.result (IsPictureIn form (g.I.TextIn.remaining c.args.input.now)) (g.O.TextOut.contents c.args.output.now) (g.O.TextOut.contents c.tell_history.new.out)) (sym c.in-History.is) c.tell_history.ensures.told
 
 pub returns-in-History-clause-unwritten : goal.returns-in-History-clause-unwritten
 returns-in-History-clause-unwritten g c = λ e is before. c.tell_history.ensures.unwritten e is (not_memory c.args.form e (ap is_streamed c.in-History.is) before) (not_write c.args.form e before)
