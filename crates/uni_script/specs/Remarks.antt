@@ -48,10 +48,15 @@ abbrev pub remarks_after : (line before : ℕ) → Option RemarkText → List Re
 remarks_after line before None = []
 remarks_after line before (Some text) = record { line = line; before = before; text = text } ∷ []
 
+-- what a note says, of this kind; an empty line says nothing
+abbrev pub said_by_note : (List ℕ → RemarkText) → List ℕ → Option RemarkText
+said_by_note kind [] = None
+said_by_note kind (b ∷ note) = Some (kind (text_of_note (b ∷ note)))
+
 -- what a note tells after so many events, or before the header
 abbrev pub remarks_of_note : (line : ℕ) → Option ℕ → List ℕ → List RemarkAt
-remarks_of_note line None note = remarks_after line 0 (Some (Heading (text_of_note note)))
-remarks_of_note line (Some before) note = remarks_after line before (Some (Note (text_of_note note)))
+remarks_of_note line None note = remarks_after line 0 (said_by_note Heading note)
+remarks_of_note line (Some before) note = remarks_after line before (said_by_note Note note)
 
 -- what is heard of a script: its remarks, and for each event the number of the line that stored it
 pub record Heard : Type 0 where
@@ -81,13 +86,13 @@ HeardGrows (Some old) (Some new) more = new ≡ heard_then old more
 
 -- what a line before the header says, if it is a note
 abbrev pub heading_of_line : List ℕ → Option RemarkText
-heading_of_line line = if is_note line then Some (Heading (text_of_note line)) else None
+heading_of_line line = if is_note line then said_by_note Heading line else None
 
 module _ {B : Type 0} (kind : Kind B) where
   -- what a line after the header says that is no event, if anything
   abbrev pub remark_of_line : B → List ℕ → Option RemarkText
   remark_of_line b line =
-      if is_note line then Some (Note (text_of_note line)) else option_map (Refused line) (kind.refusal b (words_of_text line))
+      if is_note line then said_by_note Note line else option_map (Refused line) (kind.refusal b (words_of_text line))
 
   -- what a line of this number tells on the session before it; there is none before the header
   abbrev pub remarks_of_line : (number : ℕ) → Option B → List ℕ → List RemarkAt
@@ -133,10 +138,10 @@ a_quiet_header : remarks_of_script (scripts_of 100) (codes "universal 1 queue 2 
 unfolding digits number_of_word
 a_quiet_header = refl
 
--- a note before the header, one after it, and an empty line
+-- a note before the header, one after it, and an empty line, which tells nothing
 notes : remarks_of_script (scripts_of 100) (codes "# one\nuniversal 1 queue 2 8\n#two\n\n")
     ≡ record { line = 1; before = 0; text = Heading (codes "one") } ∷ record { line = 3; before = 0; text = Note (codes "two") }
-    ∷ record { line = 4; before = 0; text = Note [] } ∷ []
+    ∷ []
 unfolding digits number_of_word
 notes = refl
 

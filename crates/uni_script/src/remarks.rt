@@ -1,4 +1,4 @@
-//! What a script tells: its notes, why its commands are refused, and which line stored each event.
+//! What a script tells: its notes but for empty lines, why its commands are refused, and which line stored each event.
 
 ghost use Rattle.std.specs.Prelude.{◌≡◌, [], Option, OnOk, None, Some, map};
 ghost use Rattle.uni_script.specs.Remarks.{Heard, HeardGrows, heard_events, heard_remarks, remark_at};
@@ -40,7 +40,8 @@ pub(crate) trait Listener {
     /// What it has heard, where that is kept.
     ghost heard: { Self → Option Heard };
 
-    /// Hears a line of this number that is a note, after so many events, or before the header.
+    /// Hears a line of this number that is a note, after so many events, or before the header. An empty line tells
+    /// nothing.
     ///
     /// An `Err` says that memory was refused.
     fn note(
@@ -141,6 +142,9 @@ impl Listener for Remarks {
         before: Option<u64>,
         line: &[u8],
     ) -> Result<(), AllocError> {
+        if line.is_empty() {
+            return Ok(());
+        }
         let mut text = Vec::new(alloc);
         text.extend_from_slice(without(b' ', without(b'#', line)))?;
         let (before, remark) = match before {
