@@ -471,7 +471,7 @@ def is_met(line, script, lines):
 def judgement(goal, script):
     """`met`, or the first line of a goal that a script doesn't meet."""
     lines, script_lines = answers(script).splitlines(), script.decode().splitlines()
-    for number, line in enumerate(goal.splitlines(), 1):
+    for number, line in enumerate((line.rstrip() for line in goal.splitlines()), 1):
         if not is_note(line) and not is_met(line, script_lines, lines):
             return f"line {number} is not met: {line}\n"
     return "met\n"

@@ -1,15 +1,16 @@
 -- What the lines of a goal ask of a script and of the answers to it.
 use Rattle.std.specs.Prelude.{◌≡◌, ℕ, ◌+◌, ◌-◌, ◌==◌, nat_le, nat_lt, nat_eq, not, ◌&&◌, ◌||◌}
 use Rattle.std.specs.Prelude.{if◌then◌else◌, Bool, true, false, List, [], ◌∷◌, ◌++◌, drop, length, Option, None, Some}
-use Rattle.std.specs.Prelude.{codes, decimal, slice_index_or, refl}
+use Rattle.std.specs.Prelude.{codes, decimal, flat_map, slice_index_or, take, refl}
 use Rattle.std.specs.Option.{option_map_or}
-use Rattle.std.specs.List.{list_any, starts_with, ends_with, slice_split}
+use Rattle.std.specs.List.{list_any, starts_with, ends_with, slice_split, suffix_len}
 use Rattle.std.specs.Str.{bytes_eq}
-use Rattle.std.specs.Char.{is_ascii_digit}
+use Rattle.std.specs.Char.{is_ascii_digit, is_ascii_whitespace}
+use Rattle.std.specs.Char.Escape.{escape_ascii}
 use Rattle.ready_objects.specs.Number.{number_of_word}
 use Rattle.ready_objects.specs.Words.{words_of_text}
 use Rattle.uni_script.specs.Scripts.{scripts_of}
-use Rattle.uni_script.specs.Grammar.{is_note}
+use Rattle.uni_script.specs.Grammar.{is_note, is_plain_byte}
 use Rattle.uni_script.specs.Replay.{text_of_script}
 use Rattle.course_run.specs.declared.judging.Judgement.{Judgement}
 use Rattle.course_run.specs.declared.judging.Judgement.TheVariants.{Met, Missing}
@@ -109,6 +110,10 @@ is_met deed line =
     if starts_with nat_eq line (codes "script ") then has_like (drop 7 line) deed.script
     else is_met_by deed line (words_of_text line)
 
+-- a line of a goal without the blanks at its end: spaces, tabs, and what ends lines elsewhere
+abbrev pub without_end : List ℕ → List ℕ
+without_end line = take (length line - suffix_len is_ascii_whitespace line) line
+
 -- a line of a goal is a note, or met
 abbrev pub is_note_or_met : Deed → (line : List ℕ) → Bool
 is_note_or_met deed line = is_note line || is_met deed line
@@ -117,7 +122,7 @@ is_note_or_met deed line = is_note line || is_met deed line
 abbrev pub first_missing : Deed → (number : ℕ) → (lines : List (List ℕ)) → Option ℕ
 first_missing deed number [] = None
 first_missing deed number (line ∷ lines) =
-    if is_note_or_met deed line then first_missing deed (number + 1) lines else Some number
+    if is_note_or_met deed (without_end line) then first_missing deed (number + 1) lines else Some number
 
 -- what a script did, where its answers make this text
 abbrev pub deed_of : (script text : List ℕ) → Deed
@@ -132,11 +137,19 @@ abbrev pub missing_in : Judgement → Option ℕ
 missing_in Met = None
 missing_in (Missing number) = Some number
 
+-- a line as it is told: a byte that isn't from 32 to 126 by its escape, as `\t` or `\x1b`
+abbrev pub told_byte : ℕ → List ℕ
+told_byte b = if is_plain_byte b then b ∷ [] else escape_ascii b
+
+abbrev pub told_line : (line : List ℕ) → List ℕ
+told_line line = flat_map told_byte line
+
 -- what is told of a goal that is met, and of one whose line of this number isn't
 abbrev pub judgement_text : (goal : List ℕ) → (missing : Option ℕ) → List ℕ
 judgement_text goal None = codes "met\n"
 judgement_text goal (Some number) =
-    codes "line " ++ decimal number ++ codes " is not met: " ++ slice_index_or (lines_in goal) (number - 1) [] ++ codes "\n"
+    codes "line " ++ decimal number ++ codes " is not met: "
+    ++ told_line (without_end (slice_index_or (lines_in goal) (number - 1) [])) ++ codes "\n"
 
 -- the line that tells why a goal can't be had, by the status that the program ends with
 abbrev pub line_of_unread : (status : ℕ) → List ℕ
@@ -166,3 +179,9 @@ second_does_not = refl
 
 notes_say_nothing : said_in (codes "# a note" ∷ codes "" ∷ codes "log" ∷ []) ≡ 1
 notes_say_nothing = refl
+
+a_space_and_a_carriage_return_at_an_end_do_not_count : without_end (codes "trimmed 4 \r") ≡ codes "trimmed 4"
+a_space_and_a_carriage_return_at_an_end_do_not_count = refl
+
+others_are_told_by_escapes : told_line (9 ∷ 97 ∷ 27 ∷ 92 ∷ 200 ∷ []) ≡ codes "\\ta\\x1b\\\\xc8"
+others_are_told_by_escapes = refl

@@ -2,13 +2,14 @@
 
 ghost use Rattle.std.specs.Prelude.{◌≡◌, ◌≤◌, ◌++◌, [], false, None, Some, IfOk, IfErr, IsSome, OnOk};
 ghost use Rattle.std.specs.Prelude.{slice_index_or};
+ghost use Rattle.std.specs.Char.Escape.{escape_ascii};
 ghost use Rattle.std.specs.Io.KnownBytes.{Appends};
 ghost use Rattle.uni_script.specs.Scripts.{scripts_of};
 ghost use Rattle.uni_script.specs.Replay.{IsFaultOfScript, fault_of_script, text_of_script};
 ghost use Rattle.ready_objects.specs.Words.{bytes_of};
-ghost use Rattle.course_run.specs.Goals.{judgement_text, missing_in, missing_of};
+ghost use Rattle.course_run.specs.Goals.{judgement_text, missing_in, missing_of, told_byte, told_line};
 
-use crate::lines::lines_in;
+use crate::lines::{lines_in, without_end};
 use crate::wish::first_missing;
 use ready_objects::push_number;
 use std::alloc::{AllocError, Global};
@@ -98,9 +99,48 @@ fn missing_text(alloc: Global, goal: &[u8], number: u64) -> Result<Vec<u8>, Allo
     text.extend_from_slice(b"line ")?;
     push_number(&mut text, number)?;
     text.extend_from_slice(b" is not met: ")?;
-    text.extend_from_slice(line_at(lines.as_slice(), number.saturating_sub(1)))?;
+    let line = line_at(lines.as_slice(), number.saturating_sub(1));
+    push_told_line(without_end(line), &mut text)?;
     text.extend_from_slice(b"\n")?;
     Ok(text)
+}
+
+/// Adds a line as it is told: each byte that isn't from 32 to 126 by its escape.
+///
+/// An `Err` says that memory was refused.
+fn push_told_line(line: &[u8], text: &mut Vec<u8>) -> Result<(), AllocError>
+    ensures { OnOk result (text.new.items ≡ text.old.items ++ told_line line.now) }
+{
+    for byte in line {
+        push_told_byte(*byte, text)?;
+    }
+    Ok(())
+}
+
+/// Adds a byte, by its escape where it isn't from 32 to 126.
+///
+/// An `Err` says that memory was refused.
+fn push_told_byte(byte: u8, text: &mut Vec<u8>) -> Result<(), AllocError>
+    ensures { OnOk result (text.new.items ≡ text.old.items ++ told_byte byte) }
+{
+    if b' ' <= byte && byte <= b'~' {
+        Ok(text.push(byte)?)
+    } else {
+        push_escape(byte, text)
+    }
+}
+
+/// Adds the escape of a byte.
+///
+/// An `Err` says that memory was refused.
+fn push_escape(byte: u8, text: &mut Vec<u8>) -> Result<(), AllocError>
+    ensures { OnOk result (text.new.items ≡ text.old.items ++ escape_ascii byte) }
+{
+    let mut rest = byte.escape_ascii();
+    'escape: while let Some(escaped) = rest.next() {
+        text.push(escaped)?;
+    }
+    Ok(())
 }
 
 /// The line at a place, from 0; an empty one where there is none.

@@ -6,7 +6,7 @@ ghost use Rattle.ready_objects.specs.Words.{bytes_of};
 ghost use Rattle.course_run.specs.Goals.{asks_at_most, asks_no_refusals, asks_order, first_missing, is_at_most, is_met};
 ghost use Rattle.course_run.specs.Goals.{is_met_by, is_note_or_met};
 
-use crate::lines::{comes_before, said_in};
+use crate::lines::{comes_before, said_in, without_end};
 use crate::pattern::has_like;
 use ready_objects::Amount;
 use std::alloc::{AllocError, Global};
@@ -127,7 +127,7 @@ fn is_note_or_met(
 }
 
 /// The number, from 1, of the first line of a goal that is no note and isn't met by the lines of a script and of its
-/// answers; `None` where each is met.
+/// answers; `None` where each is met. Blanks at a line's end don't count.
 ///
 /// An `Err` says that memory was refused.
 pub(crate) fn first_missing(
@@ -142,7 +142,7 @@ pub(crate) fn first_missing(
 {
     let mut number = 1;
     for line in goal {
-        if !is_note_or_met(alloc, script, answers, line)? {
+        if !is_note_or_met(alloc, script, answers, without_end(line))? {
             return Ok(Some(number));
         }
         number += 1;

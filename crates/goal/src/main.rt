@@ -24,7 +24,8 @@ other line asks for one thing:
   script TEXT          a line of the script is TEXT
   TEXT                 a line of the answers is TEXT
 
-The first `..` in a TEXT stands for any text, or none.
+The first `..` in a TEXT stands for any text, or none. Blanks at a line's end don't
+count.
 
 Status:
   0 where the goal is met, 1 where a line of it isn't, 2 for a bad command line or a

@@ -411,7 +411,8 @@ function isMet(line, script, answers) {
 function wishesOf(graph, run) {
   const { lines, answers } = scriptOf(graph, run);
   const isGood = (line) => isNote(line) || isMet(line, [...lines, ""], [...answers, ""]);
-  return graph.goal.split("\n").map((line) => ({ line, met: isGood(line) }));
+  const wishes = graph.goal.split("\n").map((line) => line.replace(/[ \t\f\r]+$/, ""));
+  return wishes.map((line) => ({ line, met: isGood(line) }));
 }
 
 // whether no click makes what a line of a goal asks for, so that only the program goal can tell it
