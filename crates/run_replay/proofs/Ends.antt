@@ -1,8 +1,7 @@
 -- Bars that end, and those that don't.
-use Rattle.run_replay.proofs.Vocabulary.{Bool, Called, End, List, None, Option, Some, ap, bar_ended, bar_shown, end_shown, false, if◌then◌else◌, is_some, map, option_map, option_map_or, option_or, refl, true, ℕ, ◌==◌, ◌∙◌, ◌≡◌}
+use Rattle.run_replay.proofs.Vocabulary.{Bool, Called, End, List, None, Option, Some, ap, bar_ended, bar_shown, end_shown, false, if◌then◌else◌, is_some, map, map-map, option_map, option_map_or, option_or, refl, true, ℕ, ◌==◌, ◌∙◌, ◌≡◌}
 use Rattle.run_replay.specs.declared.marks.Bar.{Bar}
 use Rattle.run_replay.specs.declared.marks.BarEnd.{BarEnd}
-use Rattle.run_replay.proofs.Walked.{map-map, map-same}
 
 pub option_or-none : {A : Type 0} (o : Option A) → option_or o None ≡ o
 option_or-none None = refl
@@ -37,7 +36,7 @@ bar_ended-other p end b other =
 pub ends_later : (p : ℕ) (rest : ℕ → Option End) (end : Option End) (bars : List Called)
     → map (λ b. with_end b (option_or b.end (rest b.call.process))) (option_map_or (λ e. map (bar_ended p e) bars) end bars)
     ≡ map (λ b. with_end b (option_or b.end (option_or (if p == b.call.process then end else None) (rest b.call.process)))) bars
-ends_later p rest None bars = map-same _ _ (λ b. ap (λ o. with_end b (option_or b.end (option_or o (rest b.call.process)))) (either_way {A = Option End} (p == b.call.process) None)) bars
+ends_later p rest None bars = λ i. map (λ b. with_end b (option_or b.end (option_or (either_way {A = Option End} (p == b.call.process) None i) (rest b.call.process)))) bars
 ends_later p rest (Some e) bars =
-    map-map (bar_ended p e) (λ b. with_end b (option_or b.end (rest b.call.process))) bars
-    ∙ map-same _ _ (λ b. ap (with_end b) (option_or-assoc b.end (if p == b.call.process then Some e else None) (rest b.call.process))) bars
+    map-map (λ b. with_end b (option_or b.end (rest b.call.process))) (bar_ended p e) bars
+    ∙ (λ i. map (λ b. with_end b (option_or-assoc b.end (if p == b.call.process then Some e else None) (rest b.call.process) i)) bars)

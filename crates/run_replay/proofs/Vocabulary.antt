@@ -3,8 +3,11 @@ pub use Rattle.std.proofs.Common.{Bool, Contains, IfSome, IsSome, List, None, Op
 pub use Rattle.std.proofs.lemmas.Bool.{ne_eqb}
 pub use Rattle.std.proofs.lemmas.List.{append-nil, at_drop_all, at_drop_more, drop-map, drop_all, drop_more, length-map, map-append, map-id, take_all, take_more_set}
 pub use Rattle.std.proofs.lemmas.List.Concat.{flat_map-append}
+pub use Rattle.std.proofs.lemmas.List.Elements.{All-append, All-cons, All-map, All-nil, All-weaker}
+pub use Rattle.std.proofs.lemmas.List.Folds.{flat_map-map}
+pub use Rattle.std.proofs.lemmas.Simd.{map-map}
 pub use Rattle.std.proofs.lemmas.Result.{IfOk-weaker}
-pub use Rattle.std.specs.List.{AllByRecursion, flat_map, range_with_len}
+pub use Rattle.std.specs.List.{All, flat_map, range_with_len}
 pub use Rattle.std.specs.Option.{option_map_or, option_or}
 pub use Rattle.std.specs.Prelude.{is_some, option_and_then, option_map, slice_set}
 pub use Rattle.ready_objects.specs.Spoken.{Language}
