@@ -74,10 +74,6 @@ module _ {S I R : Type 0} (object : Sequential S I R) (w : WorldOf S I R) (num :
   links_at (DecideAfter c s prefer) is = decides c s prefer is (after_of w.memory c) refl
   links_at stage is = quiet stage is (λ x. refl)
 
-not_linked : (place p : ℕ) (changed : Bool) → dot_linked place p None changed ≡ []
-not_linked place p true = refl
-not_linked place p false = refl
-
 lost : (place p : ℕ) (proposed : Option CallId) → dot_linked place p proposed false ≡ []
 lost place p None = refl
 lost place p (Some call) = refl
@@ -113,7 +109,7 @@ module _ {S I R : Type 0} (object : Sequential S I R) (w : WorldOf S I R) (inv :
   has_dot c is = by_stage c.mine c.stage is where
     by_stage : (mine : Name) (stage : Stage) → w.call p ≡ Some (record { mine = mine; stage = stage }) → HasDot (record { mine = mine; stage = stage })
     by_stage mine (DecideAfter k s prefer) is = proposal_dot mine k s prefer is
-    by_stage mine stage is = not_linked place p (changes_place object w p (record { mine = mine; stage = stage }))
+    by_stage mine stage is = refl
 
   -- the dots of a step are that of the cell which it proposed, where it changed its place
   pub dots_by-linked : (c : Pending) → w.call p ≡ Some c

@@ -6,23 +6,29 @@ use Rattle.std.proofs.lemmas.List.FromFn.{map-range_with_len_more}
 range_more : (a n j : ℕ) → a + n ≡ j → range_with_len a (n + 1) ≡ range_with_len a n ++ j ∷ []
 range_more a n j e = sym (map-id (range_with_len a (n + 1))) ∙ map-range_with_len_more (λ (k : ℕ). k) a n j e ∙ ap (λ l. l ++ j ∷ []) (map-id (range_with_len a n))
 
-module _ {P H : Type 0} (h : P → H) where
+module _ {P H : Type 0} (h : P → H) (old : List H) where
   -- what one more of the places holds that numbers name
-  pub place_more : (f : ℕ → P) (old now new : List H) (n : ℕ) (x : H) → now ≡ old ++ map h (map f (range_with_len 0 n)) → new ≡ now ++ x ∷ [] → x ≡ h (f n) → new ≡ old ++ map h (map f (range_with_len 0 (n + 1)))
-  place_more f old now new n x is_now is_new is_x =
-      rw (is_new, is_now, is_x, map-range_with_len_more f 0 n n (omega arith), map-append h (map f (range_with_len 0 n)) (f n ∷ [])) (append_assoc old (map h (map f (range_with_len 0 n))) (h (f n) ∷ []))
+  pub place_more : (f : ℕ → P) (n : ℕ) → (old ++ map h (map f (range_with_len 0 n))) ++ h (f n) ∷ [] ≡ old ++ map h (map f (range_with_len 0 (n + 1)))
+  place_more f n =
+      rw (map-range_with_len_more f 0 n n (omega arith), map-append h (map f (range_with_len 0 n)) (f n ∷ [])) (append_assoc old (map h (map f (range_with_len 0 n))) (h (f n) ∷ []))
 
-  -- what the fields of one more cell hold
-  pub fields_more : {N : Type 0} (fields : N → List P) (cells more : List N) (old now new : List H) → now ≡ old ++ map h (flat_map fields cells) → new ≡ now ++ map h (flat_map fields more)
-      → new ≡ old ++ map h (flat_map fields (cells ++ more))
-  fields_more fields cells more old now new is_now is_new =
-      rw (is_new, is_now, flat_map-append fields cells more, map-append h (flat_map fields cells) (flat_map fields more)) (append_assoc old (map h (flat_map fields cells)) (map h (flat_map fields more)))
+  module _ {N : Type 0} (fields : N → List P) where
+    -- what the fields of one more cell hold that numbers name, and those of one more row of cells
+    pub cell_more : (f : ℕ → N) (a n j : ℕ) → a + n ≡ j
+        → (old ++ map h (flat_map fields (map f (range_with_len a n)))) ++ map h (fields (f j)) ≡ old ++ map h (flat_map fields (map f (range_with_len a (n + 1))))
+    cell_more f a n j e =
+        let cells = map f (range_with_len a n) in
+        rw (map-range_with_len_more f a n j e, flat_map-append fields cells (f j ∷ []), append-nil (fields (f j)), map-append h (flat_map fields cells) (fields (f j)))
+        (append_assoc old (map h (flat_map fields cells)) (map h (fields (f j))))
 
-  -- all of them, kind by kind
-  pub whole_is : (entries heads anchor cells : List P) (one two three four : List H) → one ≡ map h entries → two ≡ one ++ map h heads → three ≡ two ++ map h anchor → four ≡ three ++ map h cells
-      → four ≡ map h (entries ++ heads ++ (anchor ++ cells))
-  whole_is entries heads anchor cells one two three four is_one is_two is_three is_four = rw (is_four, is_three, is_two, is_one) (simp (map-append, append_assoc))
+    pub row_more : (rows : ℕ → List N) (n : ℕ)
+        → (old ++ map h (flat_map fields (flat_map rows (range_with_len 0 n)))) ++ map h (flat_map fields (rows n)) ≡ old ++ map h (flat_map fields (flat_map rows (range_with_len 0 (n + 1))))
+    row_more rows n =
+        let cells = flat_map rows (range_with_len 0 n) in
+        rw (range_more 0 n n (omega arith), flat_map-append rows (range_with_len 0 n) (n ∷ []), append-nil (rows n), flat_map-append fields cells (rows n), map-append h (flat_map fields cells) (flat_map fields (rows n)))
+        (append_assoc old (map h (flat_map fields cells)) (map h (flat_map fields (rows n))))
 
--- the cells of one process more
-pub rows_more : {N : Type 0} (f : ℕ → List N) (n : ℕ) → flat_map f (range_with_len 0 (n + 1)) ≡ flat_map f (range_with_len 0 n) ++ f n
-rows_more f n = rw (range_more 0 n n (omega arith)) (flat_map-append f (range_with_len 0 n) (n ∷ []) ∙ ap (λ l. flat_map f (range_with_len 0 n) ++ l) (append-nil (f n)))
+-- all of them, kind by kind
+pub whole_is : {P H : Type 0} (h : P → H) (entries heads anchor cells : List P)
+    → ((map h entries ++ map h heads) ++ map h anchor) ++ map h cells ≡ map h (entries ++ heads ++ (anchor ++ cells))
+whole_is h entries heads anchor cells = simp (map-append, append_assoc)

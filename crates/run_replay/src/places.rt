@@ -1,6 +1,5 @@
 //! What the places of a world hold, as text.
 
-ghost use Rattle.std.specs.Fmt.{decimal};
 ghost use Rattle.std.specs.Prelude.{◌≡◌, IfOk, IfSome, IsSome, option_map};
 ghost use Rattle.std.specs.Option.{option_copied};
 ghost use Rattle.cell_arena.specs.Arena.{cell_of};
@@ -16,7 +15,6 @@ use cell_arena::CellId;
 use ready_objects::Spoken;
 use seq_object::{CallId, SeqObject};
 use std::alloc::{AllocError, Global};
-use std::io::Write;
 use uni_core::{Place, World};
 
 /// The text of a cell's name: that of the call that it was made for, or `anchor`.
@@ -25,12 +23,10 @@ use uni_core::{Place, World};
 pub fn cell_text(alloc: Global, call: Option<CallId>) -> Result<Vec<u8>, AllocError>
     ensures { IfOk result (λ text. text.items ≡ cell_text call) }
 {
-    let mut text = Vec::new(alloc);
     match call {
-        None => text.extend_from_slice(b"anchor")?,
-        Some(call) => write!(text, "{call}").map_err(|_| AllocError)?,
+        None => Vec::from_slice(alloc, b"anchor"),
+        Some(call) => Ok(format!(in alloc; "{call}")?.into_bytes()),
     }
-    Ok(text)
 }
 
 /// The name of a field of a cell, as `1.0.seq`.
@@ -40,7 +36,8 @@ pub fn field_name(alloc: Global, cell: Option<CallId>, field: &str) -> Result<Ve
     ensures { IfOk result (λ text. text.items ≡ field_name cell field.now) }
 {
     let mut text = cell_text(alloc, cell)?;
-    write!(text, ".{field}").map_err(|_| AllocError)?;
+    text.push(b'.')?;
+    text.extend_from_slice(field.as_bytes())?;
     Ok(text)
 }
 
@@ -50,9 +47,7 @@ pub fn field_name(alloc: Global, cell: Option<CallId>, field: &str) -> Result<Ve
 fn entry_name(alloc: Global, array: &str, process: u64) -> Result<Vec<u8>, AllocError>
     ensures { IfOk result (λ text. text.items ≡ entry_name array.now process) }
 {
-    let mut text = Vec::new(alloc);
-    write!(text, "{array}[{process}]").map_err(|_| AllocError)?;
-    Ok(text)
+    Ok(format!(in alloc; "{array}[{process}]")?.into_bytes())
 }
 
 /// A field without another beside it.
@@ -144,17 +139,6 @@ pub(crate) fn field_held(
     Ok(alone(field_name(alloc, cell, field)?, text))
 }
 
-/// The text of a number.
-///
-/// An `Err` says that memory was refused.
-fn number_text(alloc: Global, number: u64) -> Result<Vec<u8>, AllocError>
-    ensures { IfOk result (λ text. text.items ≡ decimal number) }
-{
-    let mut text = Vec::new(alloc);
-    write!(text, "{number}").map_err(|_| AllocError)?;
-    Ok(text)
-}
-
 /// The state and the response that are settled in a cell.
 ///
 /// An `Err` says that memory was refused.
@@ -204,7 +188,8 @@ pub(crate) fn read_place<O: Spoken>(
             entry_held(alloc, "head", process, world.call_of(cell))
         }
         Place::SeqOf(cell) => {
-            let text = number_text(alloc, world.seq(cell))?;
+            let number = world.seq(cell);
+            let text = format!(in alloc; "{number}")?.into_bytes();
             field_held(alloc, world.call_of(cell), "seq", text)
         }
         Place::AfterOf(cell) => {

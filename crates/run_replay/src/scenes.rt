@@ -1,14 +1,13 @@
 //! The scenes of a run, by the replay of its events.
 
-ghost use Rattle.std.specs.Prelude.{◌≡◌, ◌∷◌, ◌<◌, ◌≤◌, [], ℕ, None, Some, IfOk, IfNone, IfSome, IsSome, OnOk, drop};
+ghost use Rattle.std.specs.Prelude.{◌≡◌, ◌∷◌, ◌<◌, [], ℕ, None, Some, IfOk, IfNone, IfSome, IsSome, OnOk, drop};
 ghost use Rattle.std.specs.Prelude.{length, option_and_then, option_map, take};
 ghost use Rattle.std.specs.Option.{option_map_or};
 ghost use Rattle.cell_arena.specs.Arena.{cell_of};
-ghost use Rattle.uni_model.specs.Transition.{place_of};
 ghost use Rattle.uni_model.specs.Worlds.{opened_world, world_after, world_after_all};
 ghost use Rattle.uni_model.specs.Worlds.{Event as model};
-ghost use Rattle.uni_core.specs.Readers.{call_of_name, kind_of, place_named, proposed_at, IsPlaceIn};
-ghost use Rattle.uni_core.specs.World.{current_of, name_in, world_of, IsProgress};
+ghost use Rattle.uni_core.specs.Readers.{call_of_name, place_named, proposed_at, IsPlaceIn};
+ghost use Rattle.uni_core.specs.World.{name_in, world_of, IsProgress};
 ghost use Rattle.uni_core.specs.Ends.{last_number};
 ghost use Rattle.uni_record.specs.Event.{event_lent, event_shown, events_shown};
 ghost use Rattle.run_replay.specs.Changes.{IsComing};

@@ -34,6 +34,7 @@ fn push_held(memory: &mut Vec<Held>, held: Held) -> Result<(), AllocError>
 /// Adds what the announce entries hold.
 ///
 /// An `Err` says that memory was refused.
+#[tactic(auto, using(crate::proofs::PlacesMore::place_more))]
 fn push_announced<O: Spoken>(
     alloc: Global,
     world: &World<O>,
@@ -52,6 +53,7 @@ fn push_announced<O: Spoken>(
 /// Adds what the head entries hold.
 ///
 /// An `Err` says that memory was refused.
+#[tactic(auto, using(crate::proofs::PlacesMore::place_more))]
 fn push_heads<O: Spoken>(
     alloc: Global,
     world: &World<O>,
