@@ -20,17 +20,15 @@ with_end b o = record b { end = o }
 
 -- a bar that has ended stays
 pub bar_ended-ended : (p : ℕ) (end : End) (bar : Bar) → is_some bar.end ≡ true → bar_ended p end (bar_shown bar) ≡ bar_shown bar
-bar_ended-ended p end bar some = ap (with_end (bar_shown bar)) (by_end bar.end some)
+bar_ended-ended p end bar some = ap (with_end (bar_shown bar)) (by_end bar.end some (p == bar.call.process))
   where
-    by_end : (o : Option BarEnd) → is_some o ≡ true
-        → option_or (option_map end_shown o) (if p == bar.call.process then Some end else None) ≡ option_map end_shown o
-    by_end None e = absurd (cc)
-    by_end (Some x) e = refl
+    by_end : (o : Option BarEnd) → is_some o ≡ true → (t : Bool) → option_or (option_map end_shown o) (if t then Some end else None) ≡ option_map end_shown o
+    by_end None e t = absurd (cc)
+    by_end (Some x) e t = refl
 
 -- and so does that of another process
 pub bar_ended-other : (p : ℕ) (end : End) (b : Called) → (p == b.call.process) ≡ false → bar_ended p end b ≡ b
-bar_ended-other p end b other =
-    ap (λ t. with_end b (option_or b.end (if t then Some end else None))) other ∙ ap (with_end b) (option_or-none b.end)
+bar_ended-other p end b other = rw other (ap (with_end b) (option_or-none b.end))
 
 -- bars that end by a step, if any does, and then by later ones, are those that end by the step or later ones
 pub ends_later : (p : ℕ) (rest : ℕ → Option End) (end : Option End) (bars : List Called)

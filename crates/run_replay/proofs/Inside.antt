@@ -1,7 +1,7 @@
 -- Each dot lies in a bar of its call.
 use Rattle.run_replay.proofs.Vocabulary.{All, All-append, All-cons, All-map, All-nil, All-weaker, AreAccepted, Bool, Call, CallId, Called, Contains, Dot, DotsLieInBars, End, EndsAreEvents, Event, IfSome, Invariant, Invariant-opened_world, Invariant-world_after, Invoked, IsAccepted, LiesIn, List, None, Option, Reshape, Some, SpokenObject, Step, Trim, WorldOf, [], acts_of, along, ap, arith, bar_begun, bars_in, dots_by, dots_of, end_by, end_in, end_of_step, false, if◌then◌else◌, inl, inr, length, linearized_in, ne_eqb, opened_world, option_map, option_or, refl, response_of_step, subst, sym, true, world_after, ℕ, ◌+◌, ◌<◌, ◌==◌, ◌∙◌, ◌∷◌, ◌≡◌, ◌≢◌, ◌≤◌, ◌⊎◌}
 use Rattle.std.proofs.lemmas.List.Elements.{Contains-append_right}
-use Rattle.run_replay.proofs.Lists.{contains_first, IfSome-either, IfSome-imply}
+use Rattle.run_replay.proofs.Lists.{contains_first, IfSome-either}
 use Rattle.run_replay.proofs.Ends.{either_way}
 use Rattle.run_replay.proofs.Replayed.{end_of_step-none}
 use Rattle.run_replay.proofs.Opened.{IsCurrent, linearized_pending, pending_before_call, pending_before_step, pending_before_era}
@@ -22,44 +22,30 @@ module _ {S I R : Type 0} (o : SpokenObject S I R) where
   abbrev Lies : WorldOf S I R → (place : ℕ) → List (Event I) → Dot → Type 0
   Lies w place es d = (place ≤ d.event) × (IsAhead w place es d ⊎ HasBar w place es d)
 
-  -- a step that ends a call does so at its place
-  end_of_step-place : (w : WorldOf S I R) (place q : ℕ) → IfSome (end_of_step o w place q) (λ x. x.event ≡ place)
-  end_of_step-place w place q = by_response (response_of_step w q)
+  -- an event that ends a call does so at its place
+  end_by-place : (P : ℕ → Type 0) (p : ℕ) (w : WorldOf S I R) (place : ℕ) (e : Event I) → P place → IfSome (end_by o p w place e) (λ x. P x.event)
+  end_by-place P p w place (Step q) here = by_test (q == p) (response_of_step w q)
     where
-      by_response : (r : Option R)
-          → IfSome (option_map (λ (r : R). let x : End = record { event = place; reply = o.language.resp_text r; steps = (world_after o.object w (Step q)).steps q; turns = (world_after o.object w (Step q)).turns q } in x) r) (λ x. x.event ≡ place)
-      by_response None = tt
-      by_response (Some r) = refl
+      by_test : (t : Bool) (r : Option R)
+          → IfSome (if t then option_map (λ (r : R). let x : End = record { event = place; reply = o.language.resp_text r; steps = (world_after o.object w (Step q)).steps q; turns = (world_after o.object w (Step q)).turns q } in x) r else None) (λ x. P x.event)
+      by_test true None = tt
+      by_test true (Some r) = here
+      by_test false r = tt
+  end_by-place P p w place e here = tt
 
-  end_by-place : (p : ℕ) (w : WorldOf S I R) (place : ℕ) (e : Event I) → IfSome (end_by o p w place e) (λ x. x.event ≡ place)
-  end_by-place p w place (Step q) = by_test (q == p)
-    where
-      by_test : (t : Bool) → IfSome (if t then end_of_step o w place q else None) (λ x. x.event ≡ place)
-      by_test true = end_of_step-place w place q
-      by_test false = tt
-  end_by-place p w place e = tt
-
-  -- a call ends in a run at its first event or later
-  pub end_in-place : (p : ℕ) (w : WorldOf S I R) (place : ℕ) (es : List (Event I)) (least : ℕ) → least ≤ place → IfSome (end_in o p w place es) (λ e. least ≤ e.event)
-  end_in-place p w place [] least low = tt
-  end_in-place p w place (e ∷ es) least low =
-      IfSome-either (λ (x : End). least ≤ x.event) (end_by o p w place e) (end_in o p (world_after o.object w e) (place + 1) es)
-      (IfSome-imply (λ (x : End). x.event ≡ place) (λ (x : End). least ≤ x.event) (λ x here. omega arith) (end_by o p w place e) (end_by-place p w place e))
-      (end_in-place p (world_after o.object w e) (place + 1) es least (omega arith))
-
-  -- and at its last event or earlier
-  end_in-within : (p : ℕ) (w : WorldOf S I R) (place : ℕ) (es : List (Event I)) (most : ℕ) → place + length es ≤ most → IfSome (end_in o p w place es) (λ e. e.event < most)
-  end_in-within p w place [] most high = tt
-  end_in-within p w place (e ∷ es) most high =
-      IfSome-either (λ (x : End). x.event < most) (end_by o p w place e) (end_in o p (world_after o.object w e) (place + 1) es)
-      (IfSome-imply (λ (x : End). x.event ≡ place) (λ (x : End). x.event < most) (λ x here. omega arith) (end_by o p w place e) (end_by-place p w place e))
-      (end_in-within p (world_after o.object w e) (place + 1) es most (omega arith))
+  -- a call ends in a run at one of its events
+  pub end_in-place : (P : ℕ → Type 0) (p : ℕ) (w : WorldOf S I R) (place : ℕ) (es : List (Event I)) → ((k : ℕ) → place ≤ k → k < place + length es → P k) → IfSome (end_in o p w place es) (λ e. P e.event)
+  end_in-place P p w place [] each = tt
+  end_in-place P p w place (e ∷ es) each =
+      IfSome-either (λ (x : End). P x.event) (end_by o p w place e) (end_in o p (world_after o.object w e) (place + 1) es)
+      (end_by-place P p w place e (each place (omega arith) (omega arith)))
+      (end_in-place P p (world_after o.object w e) (place + 1) es (λ k low high. each k (omega arith) (omega arith)))
 
   bars_within : (w : WorldOf S I R) (place : ℕ) (es : List (Event I)) (most : ℕ) → place + length es ≤ most → All (λ (b : Called). IfSome b.end (λ e. e.event < most)) (bars_in o w place es)
   bars_within w place [] most high = All-nil _
   bars_within w place (Call p i ∷ es) most high =
       All-cons (λ (b : Called). IfSome b.end (λ e. e.event < most)) (record (bar_begun o w place p i) { end = end_in o p (world_after o.object w (Call p i)) (place + 1) es }) _
-      (end_in-within p (world_after o.object w (Call p i)) (place + 1) es most (omega arith)) (bars_within (world_after o.object w (Call p i)) (place + 1) es most (omega arith))
+      (end_in-place (λ k. k < most) p (world_after o.object w (Call p i)) (place + 1) es (λ k low within. omega arith)) (bars_within (world_after o.object w (Call p i)) (place + 1) es most (omega arith))
   bars_within w place (e ∷ es) most high = bars_within (world_after o.object w e) (place + 1) es most (omega arith)
 
   pub EndsAreEvents-holds : (text : S → List ℕ) (name : List ℕ) (n : ℕ) (start : S) (number : ℕ) (events : List (Event I)) → EndsAreEvents o text name n start number events
@@ -75,7 +61,7 @@ module _ {S I R : Type 0} (o : SpokenObject S I R) where
       → All (Lies w place (Step p ∷ es)) (dots_of place p calls)
   here_ahead w place p es calls all = All-map (Lies w place (Step p ∷ es)) dot calls (All-weaker _ (λ c. Lies w place (Step p ∷ es) (dot c)) (λ c current. (
     (omega arith),
-    inl (record { process = c.process; nth = c.nth; named = refl; current = current; before = end_in-place c.process w place (Step p ∷ es) place (omega arith) }),
+    inl (record { process = c.process; nth = c.nth; named = refl; current = current; before = end_in-place (λ k. place ≤ k) c.process w place (Step p ∷ es) (λ k low within. low) }),
   )) calls all)
     where
       dot : Invoked I → Dot

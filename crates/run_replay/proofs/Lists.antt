@@ -11,10 +11,6 @@ pub flat-none : {X Y : Type 0} (xs : List X) → flat_map (λ (x : X). let none 
 flat-none [] = refl
 flat-none (x ∷ xs) = flat-none xs
 
-pub IfSome-imply : {X : Type 0} (P Q : X → Type 0) → ((x : X) → P x → Q x) → (o : Option X) → IfSome o P → IfSome o Q
-IfSome-imply P Q f None h = tt
-IfSome-imply P Q f (Some x) h = f x h
-
 pub IfSome-either : {X : Type 0} (P : X → Type 0) (x y : Option X) → IfSome x P → IfSome y P → IfSome (option_or x y) P
 IfSome-either P None y first rest = rest
 IfSome-either P (Some x) y first rest = first

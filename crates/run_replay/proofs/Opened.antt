@@ -73,16 +73,19 @@ module _ {S I R : Type 0} where
               | inr other ↦ (record { call = call; pending = sym other.1 ∙ pending; latest = latest }, inl other.0)
             ]
 
-    -- the end of an era leaves the calls that are pending
-    pub pending_before_era : (n p nth : ℕ) → IsCurrent (world_after_era w n) p nth → IsCurrent w p nth
-    pending_before_era n p nth is = by_new (new_of w.memory (last_cell w)) is.call is.pending is.latest
+    -- the end of an era leaves the calls of all processes
+    pub kept_by_era : (n : ℕ) → ((world_after_era w n).call ≡ w.call) × ((world_after_era w n).begun ≡ w.begun)
+    kept_by_era n = by_new (new_of w.memory (last_cell w))
       where
-        era : Option (S × Option R) → WorldOf S I R
-        era o = option_map_or (λ (new : S × Option R). record w { n = n; first = w.begun; memory = anchor_memory new.0 (seq_of w.memory (last_cell w)) }) o w
+        by_new : (o : Option (S × Option R)) → let v = option_map_or (λ (new : S × Option R). record w { n = n; first = w.begun; memory = anchor_memory new.0 (seq_of w.memory (last_cell w)) }) o w in
+            (v.call ≡ w.call) × (v.begun ≡ w.begun)
+        by_new None = (refl, refl)
+        by_new (Some new) = (refl, refl)
 
-        by_new : (o : Option (S × Option R)) → (call : Pending) → (era o).call p ≡ Some call → nth ≡ (era o).begun p - 1 → IsCurrent w p nth
-        by_new None call pending latest = record { call = call; pending = pending; latest = latest }
-        by_new (Some new) call pending latest = record { call = call; pending = pending; latest = latest }
+    pub pending_before_era : (n p nth : ℕ) → IsCurrent (world_after_era w n) p nth → IsCurrent w p nth
+    pending_before_era n p nth is =
+        let kept = kept_by_era n in
+        record { call = is.call; pending = sym (ap (λ f. f p) kept.0) ∙ is.pending; latest = is.latest ∙ ap (λ f. f p - 1) kept.1 }
 
     -- what is pending after a call that begins is that call, or was so before it
     pub pending_before_call : (q : ℕ) (i : I) (p nth : ℕ) → IsCurrent (world_after object w (Call q i)) p nth → ((p ≡ q) × (nth ≡ w.begun q)) ⊎ IsCurrent w p nth

@@ -1,5 +1,5 @@
 -- The replies of the bars are the responses of the history.
-use Rattle.run_replay.proofs.Vocabulary.{Announce, AreAccepted, BarsHaveTheReplies, Bool, Call, CallId, Called, Completed, CountsSteps, End, Event, IfSome, IsAccepted, IsSome, List, None, Of, Option, Pending, Reply, Reshape, RunMarks, Some, SpokenObject, Step, Trim, WorldOf, [], anchor_memory, ap, append-nil, arith, bar_begun, bar_ended, bars_in, call_after, completed_by, completed_in, current_of, end_in, end_of_step, eq-eqb, eqb-true, false, flat_map, flat_map-append, if◌then◌else◌, inl, inr, last_cell, map, map-append, map-map, marks_with, ne_eqb, new_of, number_cases, opened_world, option_and_then, option_map, option_map_or, option_or, option_to_list, place_of, refl, replies_in_order, reply_at, reply_text, response_after, response_of_step, seq_of, set_at, set_at-cases, stage_after, subst, sym, true, world_after, world_after_era, world_after_step, ℕ, ◌++◌, ◌+◌, ◌-◌, ◌<◌, ◌==◌, ◌∙◌, ◌∷◌, ◌≡◌, ◌≢◌, ◌≤◌}
+use Rattle.run_replay.proofs.Vocabulary.{Announce, AreAccepted, BarsHaveTheReplies, Bool, Call, CallId, Called, Completed, CountsSteps, End, Event, IfSome, IsAccepted, IsSome, List, None, Of, Option, Pending, Reply, Reshape, RunMarks, Some, SpokenObject, Step, Trim, WorldOf, [], ap, append-nil, arith, bar_begun, bar_ended, bars_in, call_after, completed_by, completed_in, current_of, end_in, end_of_step, eq-eqb, eqb-true, false, flat_map, flat_map-append, if◌then◌else◌, inl, inr, map, map-append, map-map, marks_with, ne_eqb, number_cases, opened_world, option_and_then, option_map, option_map_or, option_or, option_to_list, place_of, refl, replies_in_order, reply_at, reply_text, response_after, response_of_step, set_at, set_at-cases, stage_after, subst, sym, true, world_after, world_after_era, world_after_step, ℕ, ◌++◌, ◌+◌, ◌-◌, ◌<◌, ◌==◌, ◌∙◌, ◌∷◌, ◌≡◌, ◌≢◌, ◌≤◌}
 use Rattle.uni_model.specs.Helping.{HelpingInvariant}
 use Rattle.uni_model.proofs.Bounded.{HelpingInvariant-opened_world, HelpingInvariant-world_after}
 use Rattle.uni_model.proofs.Counted.{CountsSteps-opened_world, CountsSteps-world_after}
@@ -8,9 +8,9 @@ use Rattle.uni_record.proofs.Kept.{nothing_completed, one_completed}
 use Rattle.uni_record.proofs.Promised.{returns_are_responses}
 use Rattle.uni_script.proofs.Helped.{pending-world_after_step}
 use Rattle.run_replay.proofs.Replayed.{end_of_step-none}
-use Rattle.run_replay.proofs.Opened.{last_or_silent}
+use Rattle.run_replay.proofs.Opened.{kept_by_era, last_or_silent}
 use Rattle.run_replay.proofs.WholeMarks.{bar_later, marks_then-event}
-use Rattle.run_replay.proofs.Lists.{flat-none, flat-same, IfSome-imply}
+use Rattle.run_replay.proofs.Lists.{flat-none, flat-same}
 use Rattle.run_replay.proofs.Inside.{end_in-place}
 
 -- the reply of a call that ends so, if with the event at this place
@@ -98,7 +98,7 @@ module _ {S I R : Type 0} (o : SpokenObject S I R) where
       let v = world_after o.object w (Call p i) in
       ap (λ l. l ++ flat_map (reply_at earlier) (bars_in o v (place + 1) es))
       (reply_elsewhere earlier (record { process = p; nth = w.begun p }) (end_in o p v (place + 1) es)
-      (IfSome-imply (λ (e : End). place + 1 ≤ e.event) (λ (e : End). e.event ≢ earlier) (λ e more same. omega arith) (end_in o p v (place + 1) es) (end_in-place o p v (place + 1) es (place + 1) (omega arith))))
+      (end_in-place o (λ k. k ≢ earlier) p v (place + 1) es (λ k low within same. omega arith)))
       ∙ later_silent v (place + 1) earlier es (omega arith)
   later_silent w place earlier (e ∷ es) less = later_silent (world_after o.object w e) (place + 1) earlier es (omega arith)
 
@@ -109,18 +109,15 @@ module _ {S I R : Type 0} (o : SpokenObject S I R) where
       by_end : (b : Called) (x : Option End) → reply_of earlier b.call (option_or x (end_in o b.call.process w place es)) ≡ reply_of earlier b.call x
       by_end b None =
           reply_elsewhere earlier b.call (end_in o b.call.process w place es)
-          (IfSome-imply (λ (e : End). place ≤ e.event) (λ (e : End). e.event ≢ earlier) (λ e more same. omega arith) (end_in o b.call.process w place es) (end_in-place o b.call.process w place es place (omega arith)))
+          (end_in-place o (λ k. k ≢ earlier) b.call.process w place es (λ k low within same. omega arith))
       by_end b (Some e) = refl
 
   -- the replies at a place are those of the bars after its event
   replies_at_place : (v : WorldOf S I R) (place : ℕ) (es : List (Event I)) (after bars : List Called) → map (bar_later o v (place + 1) es) after ++ bars_in o v (place + 1) es ≡ bars
       → flat_map (reply_at place) bars ≡ flat_map (reply_at place) after
   replies_at_place v place es after bars is =
-      ap (flat_map (reply_at place)) (sym is)
-      ∙ flat_map-append (reply_at place) (map (bar_later o v (place + 1) es) after) (bars_in o v (place + 1) es)
-      ∙ ap (λ l. flat_map (reply_at place) (map (bar_later o v (place + 1) es) after) ++ l) (later_silent v (place + 1) place es (omega arith))
-      ∙ append-nil _
-      ∙ ends_later_silent v (place + 1) place es (omega arith) after
+      rw (← is, flat_map-append (reply_at place) (map (bar_later o v (place + 1) es) after), later_silent v (place + 1) place es (omega arith))
+      (append-nil _ ∙ ends_later_silent v (place + 1) place es (omega arith) after)
 
   -- the replies of what a run completes
   abbrev reply_texts : List (Completed R) → List Reply
@@ -289,21 +286,9 @@ module _ {S I R : Type 0} (o : SpokenObject S I R) where
         v = world_after o.object w (Step q)
 
     so_far_era : (n : ℕ) → IsSoFar (world_after_era w n) (place + 1) so_far
-    so_far_era n = record {
-      ended = ended_more;
-      pending = λ p. is.pending p ∙ ap option_to_list (sym (current_is (world_after_era w n) p _ _ (call p (new_of w.memory (last_cell w))) (begun p (new_of w.memory (last_cell w)))));
-    }
-      where
-        era : Option (S × Option R) → WorldOf S I R
-        era x = option_map_or (λ (new : S × Option R). record w { n = n; first = w.begun; memory = anchor_memory new.0 (seq_of w.memory (last_cell w)) }) x w
-
-        call : (p : ℕ) (x : Option (S × Option R)) → (era x).call p ≡ w.call p
-        call p None = refl
-        call p (Some new) = refl
-
-        begun : (p : ℕ) (x : Option (S × Option R)) → (era x).begun p ≡ w.begun p
-        begun p None = refl
-        begun p (Some new) = refl
+    so_far_era n =
+        let kept = kept_by_era o.object w n in
+        record { ended = ended_more; pending = λ p. is.pending p ∙ ap option_to_list (sym (current_is (world_after_era w n) p _ _ (ap (λ f. f p) kept.0) (ap (λ f. f p) kept.1))) }
 
     next_event : (e : Event I) → HelpingInvariant o.object w → IsAccepted w e → AreNext w place e (bars_after w place so_far e)
     next_event (Call q i) helping ok = next_call q i ok.1

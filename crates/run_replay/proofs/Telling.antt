@@ -66,11 +66,9 @@ module _ {S I R : Type 0} where
         ∙ sym (ap (option_map (stepped object l text w p)) is.is)
 
     -- and its frame
-    pub steps_told : (w : WorldOf S I R) (p : ℕ) (s : Stepped) → Some s ≡ option_map (stepped object l text w p) (w.call p) → Some (Steps s) ≡ option_map (λ call. Steps (stepped object l text w p call)) (w.call p)
-    steps_told w p s is = by_call (w.call p) is where
-      by_call : (o : Option Pending) → Some s ≡ option_map (stepped object l text w p) o → Some (Steps s) ≡ option_map (λ call. Steps (stepped object l text w p call)) o
-      by_call None none = absurd (cc)
-      by_call (Some call) some = let same : s ≡ stepped object l text w p call = cc in ap (λ t. Some (Steps t)) same
+    pub steps_told : (s : Stepped) (step : Pending → Stepped) (o : Option Pending) → Some s ≡ option_map step o → Some (Steps s) ≡ option_map (λ call. Steps (step call)) o
+    steps_told s step None is = absurd (cc)
+    steps_told s step (Some call) is = ap (option_map Steps) is
 
     -- a call
     pub begun_is : (w : WorldOf S I R) → Invariant object w → (p : ℕ) (i : I) (b : Begun)

@@ -10,4 +10,4 @@ returns-in_ok-begun_of-in-Call-clause-frame g c = rw c.in-Call.is (ap (λ b. Som
 
 pub returns-in_ok-step-in-Step-clause-frame : goal.returns-in_ok-step-in-Step-clause-frame
 returns-in_ok-step-in-Step-clause-frame g c =
-    rw c.in-Step.is (steps_told (g.O.SeqObject.sequential c.args.replay.now.object) g.O.Spoken.language g.O.Spoken.state_text (world_of c.args.replay.now) c.in-Step.process _ c.in_ok-step-in-Step.ensures.step)
+    rw c.in-Step.is (steps_told (g.O.SeqObject.sequential c.args.replay.now.object) g.O.Spoken.language g.O.Spoken.state_text _ _ ((world_of c.args.replay.now).call c.in-Step.process) c.in_ok-step-in-Step.ensures.step)
