@@ -1,8 +1,7 @@
 -- Bars that end, and those that don't.
-use Rattle.run_replay.proofs.Vocabulary.{Bool, Called, End, List, None, Option, Some, ap, bar_ended, bar_shown, end_shown, false, if◌then◌else◌, is_some, map, option_map, option_map_or, option_or, refl, true, ℕ, ◌==◌, ◌∙◌, ◌≡◌}
+use Rattle.run_replay.proofs.Vocabulary.{Bool, Called, End, List, None, Option, Some, ap, bar_ended, bar_shown, end_shown, false, if◌then◌else◌, is_some, map, map-map, option_map, option_map_or, option_or, refl, true, ℕ, ◌==◌, ◌∙◌, ◌≡◌}
 use Rattle.run_replay.specs.declared.marks.Bar.{Bar}
 use Rattle.run_replay.specs.declared.marks.BarEnd.{BarEnd}
-use Rattle.run_replay.proofs.Walked.{map-map, map-same}
 
 pub option_or-none : {A : Type 0} (o : Option A) → option_or o None ≡ o
 option_or-none None = refl
@@ -21,23 +20,21 @@ with_end b o = record b { end = o }
 
 -- a bar that has ended stays
 pub bar_ended-ended : (p : ℕ) (end : End) (bar : Bar) → is_some bar.end ≡ true → bar_ended p end (bar_shown bar) ≡ bar_shown bar
-bar_ended-ended p end bar some = ap (with_end (bar_shown bar)) (by_end bar.end some)
+bar_ended-ended p end bar some = ap (with_end (bar_shown bar)) (by_end bar.end some (p == bar.call.process))
   where
-    by_end : (o : Option BarEnd) → is_some o ≡ true
-        → option_or (option_map end_shown o) (if p == bar.call.process then Some end else None) ≡ option_map end_shown o
-    by_end None e = absurd (cc)
-    by_end (Some x) e = refl
+    by_end : (o : Option BarEnd) → is_some o ≡ true → (t : Bool) → option_or (option_map end_shown o) (if t then Some end else None) ≡ option_map end_shown o
+    by_end None e t = absurd (cc)
+    by_end (Some x) e t = refl
 
 -- and so does that of another process
 pub bar_ended-other : (p : ℕ) (end : End) (b : Called) → (p == b.call.process) ≡ false → bar_ended p end b ≡ b
-bar_ended-other p end b other =
-    ap (λ t. with_end b (option_or b.end (if t then Some end else None))) other ∙ ap (with_end b) (option_or-none b.end)
+bar_ended-other p end b other = rw other (ap (with_end b) (option_or-none b.end))
 
 -- bars that end by a step, if any does, and then by later ones, are those that end by the step or later ones
 pub ends_later : (p : ℕ) (rest : ℕ → Option End) (end : Option End) (bars : List Called)
     → map (λ b. with_end b (option_or b.end (rest b.call.process))) (option_map_or (λ e. map (bar_ended p e) bars) end bars)
     ≡ map (λ b. with_end b (option_or b.end (option_or (if p == b.call.process then end else None) (rest b.call.process)))) bars
-ends_later p rest None bars = map-same _ _ (λ b. ap (λ o. with_end b (option_or b.end (option_or o (rest b.call.process)))) (either_way {A = Option End} (p == b.call.process) None)) bars
+ends_later p rest None bars = λ i. map (λ b. with_end b (option_or b.end (option_or (either_way {A = Option End} (p == b.call.process) None i) (rest b.call.process)))) bars
 ends_later p rest (Some e) bars =
-    map-map (bar_ended p e) (λ b. with_end b (option_or b.end (rest b.call.process))) bars
-    ∙ map-same _ _ (λ b. ap (with_end b) (option_or-assoc b.end (if p == b.call.process then Some e else None) (rest b.call.process))) bars
+    map-map (λ b. with_end b (option_or b.end (rest b.call.process))) (bar_ended p e) bars
+    ∙ (λ i. map (λ b. with_end b (option_or-assoc b.end (if p == b.call.process then Some e else None) (rest b.call.process) i)) bars)

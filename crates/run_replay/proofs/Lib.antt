@@ -3,7 +3,6 @@ pub mod Proposing
 pub mod Staying
 pub mod Telling
 pub mod Passing
-pub mod EachEvent
 pub mod PlacesMore
 pub mod Lists
 pub mod Walked

@@ -1,39 +1,19 @@
 -- What a step links, and the dot that it has: the cell that it proposes, where nothing is linked yet; else none.
-use Rattle.std.proofs.Common.{◌≡◌, ◌≤◌, ◌∙◌, ◌++◌, ◌∷◌, ◌+◌, ℕ, Bool, true, false, List, [], Option, None, Some, ap, append-nil, arith, drop, inl, inr, length, option_map, refl, subst, sym}
-use Rattle.std.specs.Prelude.{option_and_then}
-use Rattle.std.specs.Option.{option_map_or, option_or}
-use Rattle.seq_object.specs.Sequential.{Sequential}
-use Rattle.uni_model.specs.Places.{Memory, Name, after_of, inv_of, memory_with}
-use Rattle.uni_model.specs.Places.Name.{Anchor, Of}
+use Rattle.run_replay.proofs.Vocabulary.{Anchor, Bool, CallId, DecideAfter, DecideNew, Invariant, Invoked, IsSound, List, Memory, Name, None, Option, Pending, Sequential, Some, Stage, Step, WorldOf, [], after_of, ap, append-nil, arith, call_after, call_of_name, calls_of, cells_from, chain, dots_by, dots_of, drop, era_calls, false, inl, inr, kind_of, length, memory_with, option_and_then, option_map_or, option_or, place_of, proposed_at, refl, set_at, subst, sym, true, world_after, world_after_step, ℕ, ◌++◌, ◌+◌, ◌∙◌, ◌∷◌, ◌≡◌, ◌≤◌}
+use Rattle.std.proofs.Math.Seq.{drop-append_seam}
 use Rattle.uni_model.specs.Places.Place.{AfterOf}
 use Rattle.uni_model.specs.Places.Content.{Link}
-use Rattle.uni_model.specs.Stages.{Pending, Stage}
-use Rattle.uni_model.specs.Stages.Stage.{Announce, DecideAfter, DecideNew, Finish, ReadAnnounce, ReadHelpSeq, ScanHead, ScanSeq, Test, WriteBefore, WriteHead, WriteScan, WriteSeq}
-use Rattle.uni_model.specs.Transition.{place_of}
-use Rattle.uni_model.specs.Effects.{call_after, effect_of}
-use Rattle.uni_model.specs.Counting.{era_calls}
-use Rattle.uni_model.specs.Chain.{invoked_at, cells_from}
-use Rattle.uni_model.specs.History.{calls_of}
-use Rattle.uni_model.specs.Worlds.{WorldOf, chain, world_after, world_after_step}
-use Rattle.uni_model.specs.AtomicObject.{Invoked, set_at}
-use Rattle.uni_model.specs.Worlds.Event.{Step}
-use Rattle.uni_model.specs.Invariant.{IsSound, Invariant}
+use Rattle.uni_model.specs.Effects.{effect_of}
 use Rattle.uni_model.proofs.Chains.{calls_at, calls_at-append, calls_at-kept, cells_from-link, cells_from-same, invoked_at-same}
 use Rattle.uni_model.proofs.Moves.{IsSound-moved}
 use Rattle.uni_model.proofs.Numbered.{numbered_last, numbered_last-cases}
 use Rattle.uni_model.proofs.Simulation.{calls_of-calls_at, enough}
 use Rattle.uni_model.proofs.Steps.{leads, links, nothing_after, outside, proposed, threaded_c}
 use Rattle.uni_model.proofs.Written.{after_of-memory_with}
-use Rattle.seq_object.specs.declared.call_id.CallId.{CallId}
-use Rattle.uni_core.specs.Readers.{call_of_name, kind_of, place_named, proposed_at}
-use Rattle.uni_core.specs.World.{name_in}
-use Rattle.uni_core.specs.declared.stage.StepKind.{StepKind}
-use Rattle.uni_core.specs.declared.stage.Place.{Place as PlaceById}
-use Rattle.run_replay.specs.declared.marks.Dot.{Dot}
-use Rattle.run_replay.specs.Changes.{changes_place, has_changed, presence, standing_at}
+use Rattle.run_replay.specs.Changes.{IsComing, changes_place, has_changed, presence}
 use Rattle.run_replay.specs.Marking.{dot_linked}
-use Rattle.run_replay.specs.Marks.{dots_by, dots_of}
-use Rattle.run_replay.proofs.Replayed.{changes-taken, linearized_by_step}
+use Rattle.run_replay.specs.declared.scenes.Coming.{Coming}
+use Rattle.run_replay.proofs.Replayed.{linearized_by_step}
 
 -- the cell that a step links from this stage, if one
 abbrev pub linked_at : {S I R : Type 0} → Memory S I R → Stage → Option Name
@@ -91,27 +71,8 @@ module _ {S I R : Type 0} (object : Sequential S I R) (w : WorldOf S I R) (num :
       ∙ ap (λ cs. cs ++ calls_at w.memory (prefer ∷ [])) (sym (calls_of-calls_at w))
 
   links_at : (stage : Stage) → w.call p ≡ Some (record { mine = mine; stage = stage }) → Links stage (linked_at w.memory stage)
-  links_at Announce is = quiet Announce is (λ x. refl)
-  links_at (ScanHead q best s) is = quiet (ScanHead q best s) is (λ x. refl)
-  links_at (ScanSeq q best s y) is = quiet (ScanSeq q best s y) is (λ x. refl)
-  links_at (WriteScan best s) is = quiet (WriteScan best s) is (λ x. refl)
-  links_at (Test c s) is = quiet (Test c s) is (λ x. refl)
-  links_at (ReadAnnounce c s) is = quiet (ReadAnnounce c s) is (λ x. refl)
-  links_at (ReadHelpSeq c s help) is = quiet (ReadHelpSeq c s help) is (λ x. refl)
   links_at (DecideAfter c s prefer) is = decides c s prefer is (after_of w.memory c) refl
-  links_at (DecideNew c s d) is = quiet (DecideNew c s d) is (λ x. refl)
-  links_at (WriteBefore c s d) is = quiet (WriteBefore c s d) is (λ x. refl)
-  links_at (WriteSeq c s d) is = quiet (WriteSeq c s d) is (λ x. refl)
-  links_at (WriteHead c s d) is = quiet (WriteHead c s d) is (λ x. refl)
-  links_at (Finish s t) is = quiet (Finish s t) is (λ x. refl)
-
-drop_length-append : {A : Type 0} (xs ys : List A) → drop (length xs) (xs ++ ys) ≡ ys
-drop_length-append [] ys = refl
-drop_length-append (x ∷ xs) ys = drop_length-append xs ys
-
-not_linked : (place p : ℕ) (changed : Bool) → dot_linked place p None changed ≡ []
-not_linked place p true = refl
-not_linked place p false = refl
+  links_at stage is = quiet stage is (λ x. refl)
 
 lost : (place p : ℕ) (proposed : Option CallId) → dot_linked place p proposed false ≡ []
 lost place p None = refl
@@ -146,23 +107,9 @@ module _ {S I R : Type 0} (object : Sequential S I R) (w : WorldOf S I R) (inv :
 
   has_dot : (c : Pending) → w.call p ≡ Some c → HasDot c
   has_dot c is = by_stage c.mine c.stage is where
-    silent : (mine : Name) (stage : Stage) → dot_linked place p None (changes_place object w p (record { mine = mine; stage = stage })) ≡ []
-    silent mine stage = not_linked place p (changes_place object w p (record { mine = mine; stage = stage }))
-
     by_stage : (mine : Name) (stage : Stage) → w.call p ≡ Some (record { mine = mine; stage = stage }) → HasDot (record { mine = mine; stage = stage })
-    by_stage mine Announce is = silent mine Announce
-    by_stage mine (ScanHead q best s) is = silent mine (ScanHead q best s)
-    by_stage mine (ScanSeq q best s y) is = silent mine (ScanSeq q best s y)
-    by_stage mine (WriteScan best s) is = silent mine (WriteScan best s)
-    by_stage mine (Test c s) is = silent mine (Test c s)
-    by_stage mine (ReadAnnounce c s) is = silent mine (ReadAnnounce c s)
-    by_stage mine (ReadHelpSeq c s help) is = silent mine (ReadHelpSeq c s help)
     by_stage mine (DecideAfter k s prefer) is = proposal_dot mine k s prefer is
-    by_stage mine (DecideNew c s d) is = silent mine (DecideNew c s d)
-    by_stage mine (WriteBefore c s d) is = silent mine (WriteBefore c s d)
-    by_stage mine (WriteSeq c s d) is = silent mine (WriteSeq c s d)
-    by_stage mine (WriteHead c s d) is = silent mine (WriteHead c s d)
-    by_stage mine (Finish s t) is = silent mine (Finish s t)
+    by_stage mine stage is = refl
 
   -- the dots of a step are that of the cell which it proposed, where it changed its place
   pub dots_by-linked : (c : Pending) → w.call p ≡ Some c
@@ -171,32 +118,14 @@ module _ {S I R : Type 0} (object : Sequential S I R) (w : WorldOf S I R) (inv :
       ap (dots_of place p) (
       linearized_by_step object w p
       ∙ ap (drop (length (calls_of w))) (subst (λ o. calls_of (world_after_step object w p o) ≡ calls_of w ++ linked) (sym is) (links_at object w inv.0 inv.1 inv.2 p c.mine c.stage is))
-      ∙ drop_length-append (calls_of w) linked)
+      ∙ drop-append_seam (calls_of w) linked)
       ∙ sym (has_dot c is)
     where
       linked : List (Invoked I)
       linked = option_map_or (λ x. calls_at w.memory (x ∷ [])) (linked_at w.memory c.stage) []
 
--- the same of a step that was taken, by what stood at its place before and after it, and by the call whose cell it proposed
-pub dots_by-taken : {S I R : Type 0} (object : Sequential S I R) (w v : WorldOf S I R) → Invariant object w
-    → (place p : ℕ) (kind : StepKind) (at : PlaceById) (before : ℕ) (changed : Bool) (offered : Option CallId)
-    → option_map (λ (c : Pending). kind_of c.stage) (w.call p) ≡ Some kind
-    → option_map (λ (c : Pending). place_of w.n p c.mine c.stage) (w.call p) ≡ Some (place_named (name_in w) at)
-    → v ≡ world_after object w (Step p)
-    → before ≡ standing_at w.memory (place_named (name_in w) at)
-    → changed ≡ has_changed kind before (standing_at v.memory (place_named (name_in v) at))
-    → offered ≡ option_and_then call_of_name (option_and_then (λ (c : Pending). proposed_at c.stage) (w.call p))
-    → dot_linked place p offered changed ≡ dots_by object w place (Step p)
-dots_by-taken object w v inv place p kind at before changed offered kinded placed world stood has offers = by_call (w.call p) refl kinded placed offers
-  where
-    by_call : (o : Option Pending) → w.call p ≡ o → option_map (λ (c : Pending). kind_of c.stage) o ≡ Some kind
-        → option_map (λ (c : Pending). place_of w.n p c.mine c.stage) o ≡ Some (place_named (name_in w) at)
-        → offered ≡ option_and_then call_of_name (option_and_then (λ (c : Pending). proposed_at c.stage) o)
-        → dot_linked place p offered changed ≡ dots_by object w place (Step p)
-    by_call None is e f g = absurd (cc)
-    by_call (Some c) is e f g =
-        let same : kind_of c.stage ≡ kind = cc in
-        let there : place_of w.n p c.mine c.stage ≡ place_named (name_in w) at = cc in
-        ap (dot_linked place p offered) (changes-taken object w v p kind at before changed c same there world stood has)
-        ∙ ap (λ q. dot_linked place p q (changes_place object w p c)) g
-        ∙ sym (dots_by-linked object w inv place p c is)
+-- the same of a step that was taken, which changed its place or not
+pub dots_by-taken : {S I R : Type 0} (object : Sequential S I R) (w : WorldOf S I R) → Invariant object w → (place p : ℕ) (coming : Coming) (is : IsComing w p coming) (changed : Bool)
+    → changed ≡ changes_place object w p is.pending → dot_linked place p coming.proposed changed ≡ dots_by object w place (Step p)
+dots_by-taken object w inv place p coming is changed has =
+    ap (dot_linked place p coming.proposed) has ∙ ap (λ q. dot_linked place p q (changes_place object w p is.pending)) is.proposed ∙ sym (dots_by-linked object w inv place p is.pending is.is)

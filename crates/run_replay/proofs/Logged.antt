@@ -1,7 +1,6 @@
 -- The dots and the boxes of a run are its joined log.
-use Rattle.run_replay.proofs.Vocabulary.{AcceptsAll, Act, Atomic, Call, CallId, Dot, DotsAreTheLog, Entry, Event, Invoke, Invoked, Linearize, List, Reshape, Respond, Sequential, SpokenObject, Step, Trim, WorldOf, [], acts_of, along, ap, append-nil, append_assoc, dots_by, history_of, linearized_in, log_of_run, map, map-append, opened_world, refl, sym, world_after, ℕ, ◌++◌, ◌+◌, ◌∙◌, ◌∷◌, ◌≡◌}
+use Rattle.run_replay.proofs.Vocabulary.{AcceptsAll, Act, Atomic, CallId, Dot, DotsAreTheLog, Entry, Event, Invoke, Invoked, Linearize, List, Respond, Sequential, SpokenObject, Step, WorldOf, [], acts_of, along, ap, append-nil, append_assoc, dots_by, history_of, linearized_in, log_of_run, map, map-append, map-map, opened_world, refl, sym, world_after, ℕ, ◌++◌, ◌+◌, ◌∙◌, ◌∷◌, ◌≡◌}
 use Rattle.uni_model.proofs.Linearized.{IsLinearizable-holds}
-use Rattle.run_replay.proofs.Walked.{map-map}
 
 -- the name of a call
 abbrev id_of_call : {I : Type 0} → Invoked I → CallId
@@ -26,10 +25,8 @@ module _ {S I R : Type 0} (object : Sequential S I R) where
 
   -- the dots of an event are of the calls that take effect by it
   dots_by-calls : (w : WorldOf S I R) (place : ℕ) (e : Event I) → map (λ (d : Dot). d.call) (dots_by object w place e) ≡ map id_of_call (linearized_in (acts_of object w e))
-  dots_by-calls w place (Call p i) = refl
-  dots_by-calls w place (Step p) = map-map (λ (c : Invoked I). let d : Dot = record { event = place; call = id_of_call c; by = p } in d) (λ (d : Dot). d.call) (linearized_in (acts_of object w (Step p)))
-  dots_by-calls w place Trim = refl
-  dots_by-calls w place (Reshape n) = refl
+  dots_by-calls w place (Step p) = map-map (λ (d : Dot). d.call) (λ (c : Invoked I). let d : Dot = record { event = place; call = id_of_call c; by = p } in d) (linearized_in (acts_of object w (Step p)))
+  dots_by-calls w place e = refl
 
   dots-calls : (w : WorldOf S I R) (place : ℕ) (es : List (Event I)) → map (λ (d : Dot). d.call) (along object (dots_by object) w place es) ≡ map id_of_call (linearized_in (history_of object w es))
   dots-calls w place [] = refl
@@ -47,4 +44,4 @@ module _ {S I R : Type 0} (o : SpokenObject S I R) where
       let shown = IsLinearizable-holds o.object n start number events positive ok in
       dots-calls o.object (opened_world n start number) 0 events
       ∙ ap (map id_of_call) (sym (agreed-AcceptsAll o.object _ (history_of o.object (opened_world n start number) events) shown.0 shown.2) ∙ sym shown.1.agreed)
-      ∙ map-map (λ (e : Entry I R). e.call) id_of_call (log_of_run o.object (opened_world n start number) events)
+      ∙ map-map id_of_call (λ (e : Entry I R). e.call) (log_of_run o.object (opened_world n start number) events)

@@ -1,5 +1,5 @@
 -- Calls that are pending: which of them take effect, and which go on to be pending.
-use Rattle.run_replay.proofs.Vocabulary.{AcceptsAll, Act, AllByRecursion, Announce, AreCalls, Atomic, Call, Content, DecideAfter, DecideNew, Finish, Invariant, Invoked, IsAccepted, IsSome, Linearize, List, Memory, Name, None, Of, Option, Pending, ReadAnnounce, ReadHelpSeq, ScanHead, ScanSeq, Sequential, Shows, Some, Stage, Step, Test, WorldOf, WriteBefore, WriteHead, WriteScan, WriteSeq, [], acts_of, anchor_memory, ap, arith, call_after, calls_of, false, inl, inr, invoked_at, last_cell, linearized_in, map, new_of, open_at, option_and_then, option_map_or, place_of, refl, response_after, response_of_step, seq_of, set_at-cases, stage_after, subst, sym, true, world_after, world_after_era, world_after_step, ℕ, ◌++◌, ◌+◌, ◌-◌, ◌∙◌, ◌∷◌, ◌≡◌, ◌≢◌, ◌⊎◌}
+use Rattle.run_replay.proofs.Vocabulary.{AcceptsAll, Act, All, All-cons, All-nil, All-weaker, Announce, AreCalls, Atomic, Call, Content, Finish, Invariant, Invoked, IsAccepted, IsSome, Linearize, List, Memory, Name, None, Of, Option, Pending, Sequential, Shows, Some, Stage, Step, WorldOf, [], acts_of, anchor_memory, ap, arith, call_after, calls_of, false, inl, inr, invoked_at, last_cell, linearized_in, map, new_of, open_at, option_and_then, option_map_or, place_of, refl, response_after, response_of_step, seq_of, set_at-cases, stage_after, subst, sym, true, world_after, world_after_era, world_after_step, ℕ, ◌++◌, ◌+◌, ◌-◌, ◌∙◌, ◌∷◌, ◌≡◌, ◌≢◌, ◌⊎◌}
 use Rattle.uni_model.proofs.LawProofs.{accepts}
 use Rattle.run_replay.proofs.Replayed.{linearized_by_step}
 
@@ -14,9 +14,9 @@ pub record IsCurrent {S I R : Type 0} (w : WorldOf S I R) (p nth : ℕ) : Type 0
   pub latest : nth ≡ w.begun p - 1
 
 -- calls that take effect one after the other were open before
-placed_open : {S I R : Type 0} (object : Sequential S I R) (xs : List (Invoked I)) (rest : List (Act I R)) (a b : Atomic S I) → AcceptsAll object a (map Linearize xs ++ rest) b → AllByRecursion (IsOpenIn a) xs
-placed_open object [] rest a b is = tt
-placed_open {S} {I} object (x ∷ xs) rest a b is = (is.1.0, subst (λ (o : Atomic S I). AllByRecursion (IsOpenIn o) xs) is.1.2 (placed_open object xs rest is.0 b is.2))
+placed_open : {S I R : Type 0} (object : Sequential S I R) (xs : List (Invoked I)) (rest : List (Act I R)) (a b : Atomic S I) → AcceptsAll object a (map Linearize xs ++ rest) b → All (IsOpenIn a) xs
+placed_open object [] rest a b is = All-nil _
+placed_open {S} {I} object (x ∷ xs) rest a b is = All-cons (IsOpenIn a) x xs is.1.0 (subst (λ (o : Atomic S I). All (IsOpenIn o) xs) is.1.2 (placed_open object xs rest is.0 b is.2))
 
 module _ {S I R : Type 0} where
   -- an open call is the pending one
@@ -35,9 +35,10 @@ module _ {S I R : Type 0} where
 
   -- the calls that take effect by a step were pending
   pub linearized_pending : (object : Sequential S I R) (w : WorldOf S I R) (p : ℕ) → Invariant object w → IsAccepted w (Step p)
-      → AllByRecursion (λ (c : Invoked I). IsCurrent w c.process c.nth) (linearized_in (acts_of object w (Step p)))
+      → All (λ (c : Invoked I). IsCurrent w c.process c.nth) (linearized_in (acts_of object w (Step p)))
   linearized_pending object w p inv ok =
-      subst (AllByRecursion (λ (c : Invoked I). IsCurrent w c.process c.nth)) (sym (linearized_by_step object w p)) (each _ (placed_open object _ _ a took.0 took.2))
+      subst (All (λ (c : Invoked I). IsCurrent w c.process c.nth)) (sym (linearized_by_step object w p))
+      (All-weaker (IsOpenIn a) _ (λ c there. open_is_current w inv.0 inv.2.calls c.process c.nth c.inv there) _ (placed_open object _ _ a took.0 took.2))
     where
       a : Atomic S I
       a = record { start = inv.2.values.anchor.0; agreed = calls_of w; open_call = λ q. open_at w.memory (w.call q); next_nth = w.begun }
@@ -45,25 +46,10 @@ module _ {S I R : Type 0} where
       took : (b : Atomic S I) × Shows (world_after object w (Step p)) b × AcceptsAll object a (acts_of object w (Step p)) b
       took = accepts object w (Step p) inv ok tt a (record { start = inv.2.values.anchor.1; agreed = refl; open_call = λ q. refl; next_nth = λ q. refl })
 
-      each : (xs : List (Invoked I)) → AllByRecursion (IsOpenIn a) xs → AllByRecursion (λ (c : Invoked I). IsCurrent w c.process c.nth) xs
-      each [] all = tt
-      each (x ∷ xs) all = (open_is_current w inv.0 inv.2.calls x.process x.nth x.inv all.0, each xs all.1)
-
   -- a step with a response is the last of its call
   pub last_or_silent : (n : ℕ) (mine : Name) (stage : Stage) (v : Content S I R) (seen : Memory S I R) → (response_after mine stage seen ≡ None) ⊎ (stage_after n mine stage v ≡ None)
-  last_or_silent n mine Announce v seen = inl refl
-  last_or_silent n mine (ScanHead q best best_seq) v seen = inl refl
-  last_or_silent n mine (ScanSeq q best best_seq h) v seen = inl refl
-  last_or_silent n mine (WriteScan best best_seq) v seen = inl refl
-  last_or_silent n mine (Test c c_seq) v seen = inl refl
-  last_or_silent n mine (ReadAnnounce c c_seq) v seen = inl refl
-  last_or_silent n mine (ReadHelpSeq c c_seq help) v seen = inl refl
-  last_or_silent n mine (DecideAfter c c_seq prefer) v seen = inl refl
-  last_or_silent n mine (DecideNew c c_seq d) v seen = inl refl
-  last_or_silent n mine (WriteBefore c c_seq d) v seen = inl refl
-  last_or_silent n mine (WriteSeq c c_seq d) v seen = inl refl
-  last_or_silent n mine (WriteHead c c_seq d) v seen = inl refl
   last_or_silent n mine (Finish c_seq mine_seq) v seen = inr refl
+  last_or_silent n mine stage v seen = inl refl
 
   module _ (object : Sequential S I R) (w : WorldOf S I R) where
     -- what is pending after a step was so before it, and if it is of the process that took the step, that had no response
@@ -87,16 +73,19 @@ module _ {S I R : Type 0} where
               | inr other ↦ (record { call = call; pending = sym other.1 ∙ pending; latest = latest }, inl other.0)
             ]
 
-    -- the end of an era leaves the calls that are pending
-    pub pending_before_era : (n p nth : ℕ) → IsCurrent (world_after_era w n) p nth → IsCurrent w p nth
-    pending_before_era n p nth is = by_new (new_of w.memory (last_cell w)) is.call is.pending is.latest
+    -- the end of an era leaves the calls of all processes
+    pub kept_by_era : (n : ℕ) → ((world_after_era w n).call ≡ w.call) × ((world_after_era w n).begun ≡ w.begun)
+    kept_by_era n = by_new (new_of w.memory (last_cell w))
       where
-        era : Option (S × Option R) → WorldOf S I R
-        era o = option_map_or (λ (new : S × Option R). record w { n = n; first = w.begun; memory = anchor_memory new.0 (seq_of w.memory (last_cell w)) }) o w
+        by_new : (o : Option (S × Option R)) → let v = option_map_or (λ (new : S × Option R). record w { n = n; first = w.begun; memory = anchor_memory new.0 (seq_of w.memory (last_cell w)) }) o w in
+            (v.call ≡ w.call) × (v.begun ≡ w.begun)
+        by_new None = (refl, refl)
+        by_new (Some new) = (refl, refl)
 
-        by_new : (o : Option (S × Option R)) → (call : Pending) → (era o).call p ≡ Some call → nth ≡ (era o).begun p - 1 → IsCurrent w p nth
-        by_new None call pending latest = record { call = call; pending = pending; latest = latest }
-        by_new (Some new) call pending latest = record { call = call; pending = pending; latest = latest }
+    pub pending_before_era : (n p nth : ℕ) → IsCurrent (world_after_era w n) p nth → IsCurrent w p nth
+    pending_before_era n p nth is =
+        let kept = kept_by_era n in
+        record { call = is.call; pending = sym (ap (λ f. f p) kept.0) ∙ is.pending; latest = is.latest ∙ ap (λ f. f p - 1) kept.1 }
 
     -- what is pending after a call that begins is that call, or was so before it
     pub pending_before_call : (q : ℕ) (i : I) (p nth : ℕ) → IsCurrent (world_after object w (Call q i)) p nth → ((p ≡ q) × (nth ≡ w.begun q)) ⊎ IsCurrent w p nth

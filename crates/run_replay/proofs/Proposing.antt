@@ -1,5 +1,5 @@
 -- What a step proposes, by the call whose cell it proposes and by what its place holds afterwards; and what the cell of a call asks for.
-use Rattle.run_replay.proofs.Vocabulary.{Announce, DecideAfter, DecideNew, Finish, InvOf, Invariant, Language, List, Memory, Name, NewOf, None, Of, Option, Pending, ReadAnnounce, ReadHelpSeq, ScanHead, ScanSeq, Sequential, Some, Stage, Step, Test, WorldOf, WriteBefore, WriteHead, WriteScan, WriteSeq, after_of, ap, arith, call_of_name, content_after, held, inv_of, kind_of, memory_with, name_eq_same, new_of, option_and_then, option_map, option_or, place_of, proposal_of, proposal_told, proposed_at, refl, sym, value_after, world_after, world_after_step, ℕ, ◌∙◌, ◌≡◌}
+use Rattle.run_replay.proofs.Vocabulary.{DecideAfter, DecideNew, InvOf, Invariant, Language, List, Memory, Name, NewOf, None, Of, Option, Pending, Sequential, Some, Stage, Step, WorldOf, after_of, ap, arith, call_of_name, content_after, held, inv_of, kind_of, memory_with, name_eq_same, new_of, option_and_then, option_map, option_or, place_of, proposal_of, proposal_told, proposed_at, refl, sym, value_after, world_after, world_after_step, ℕ, ◌∙◌, ◌≡◌}
 use Rattle.uni_model.specs.Places.Content.{Invocation, Settled}
 
 module _ {S I R : Type 0} where
@@ -31,23 +31,8 @@ module _ {S I R : Type 0} (object : Sequential S I R) (w : WorldOf S I R) where
           → option_map (λ v. held l text (memory_with w.memory (place_of w.n p mine stage) v) (place_of w.n p mine stage)) (proposal_of object stage w.memory)
           ≡ proposal_told (kind_of stage) (option_and_then call_of_name (proposed_at stage))
           (held l text (memory_with w.memory (place_of w.n p mine stage) (content_after object mine stage (w.memory (place_of w.n p mine stage)) w.memory)) (place_of w.n p mine stage))
-      by_stage mine Announce is = refl
-      by_stage mine (ScanHead r best best_seq) is = refl
-      by_stage mine (ScanSeq r best best_seq h) is = refl
-      by_stage mine (WriteScan best best_seq) is = refl
-      by_stage mine (Test c c_seq) is = refl
-      by_stage mine (ReadAnnounce c c_seq) is = refl
-      by_stage mine (ReadHelpSeq c c_seq help) is = refl
       by_stage mine (DecideAfter c c_seq prefer) is = rw (name_eq_same c) refl
       by_stage mine (DecideNew c c_seq d) is =
           let stands = inv.2.stands p (record { mine = mine; stage = DecideNew c c_seq d }) is in
           ap (λ x. Some (held l text (memory_with w.memory (NewOf d) (Settled x)) (NewOf d))) (value_same c d stands.1 (new_of w.memory d) refl)
-      by_stage mine (WriteBefore c c_seq d) is = refl
-      by_stage mine (WriteSeq c c_seq d) is = refl
-      by_stage mine (WriteHead c c_seq d) is = refl
-      by_stage mine (Finish c_seq mine_seq) is = refl
-
-  -- the call whose cell a step proposes, of a process whose call is pending
-  pub proposed_in : (p : ℕ) (c : Pending) → w.call p ≡ Some c
-      → option_and_then call_of_name (option_and_then (λ (d : Pending). proposed_at d.stage) (w.call p)) ≡ option_and_then call_of_name (proposed_at c.stage)
-  proposed_in p c some = ap (λ o. option_and_then call_of_name (option_and_then (λ (d : Pending). proposed_at d.stage) o)) some
+      by_stage mine stage is = refl

@@ -1,5 +1,5 @@
 -- The marks so far, with those of the events that are left.
-use Rattle.run_replay.proofs.Vocabulary.{Call, Called, Event, List, None, Reshape, RunMarks, Some, SpokenObject, Step, Trim, WorldOf, [], along, ap, append-nil, append_assoc, bar_begun, bars_in, dots_by, end_in, end_of_step, era_of, eras_in, event_shown, events_shown, from_with, lines_by, map, map-append, marks_with, option_or, refl, steps_by, world_after, ℕ, ◌++◌, ◌+◌, ◌∙◌, ◌∷◌, ◌≡◌}
+use Rattle.run_replay.proofs.Vocabulary.{Call, Called, Event, List, None, RunMarks, Some, SpokenObject, Step, WorldOf, [], along, ap, append-nil, append_assoc, bar_begun, bars_in, dots_by, end_in, end_of_step, era_of, eras_in, event_shown, events_shown, from_with, lines_by, map, map-append, marks_with, option_or, refl, steps_by, world_after, ℕ, ◌++◌, ◌+◌, ◌∙◌, ◌∷◌, ◌≡◌}
 use Rattle.uni_record.specs.declared.event.Event.{Event as Stored}
 use Rattle.run_replay.proofs.Walked.{map-kept}
 use Rattle.run_replay.proofs.Ends.{with_end, option_or-none, ends_later}
@@ -41,15 +41,10 @@ module _ {S I R : Type 0} (o : SpokenObject S I R) (text : S → List ℕ) where
       (ap (λ l. l ++ bars_in o v (place + 1) es) (ends_later p (λ q. end_in o q v (place + 1) es) (end_of_step o w place p) m.bars))
       (append_assoc m.dots (dots_by o.object w place (Step p)) (along o.object (dots_by o.object) v (place + 1) es))
       refl refl
-  marks_then-event m w from place Trim es =
-      let v = world_after o.object w Trim in
+  marks_then-event m w from place e es =
+      let v = world_after o.object w e in
       marks_are _ _ refl refl refl refl refl
-      (append_assoc m.lines (lines_by w place Trim) (along o.object lines_by v (place + 1) es))
-      (append_assoc m.eras (era_of o text w from (Some place) ∷ []) (eras_in o text v (place + 1) (place + 1) es))
-  marks_then-event m w from place (Reshape n) es =
-      let v = world_after o.object w (Reshape n) in
-      marks_are _ _ refl refl refl refl refl
-      (append_assoc m.lines (lines_by w place (Reshape n)) (along o.object lines_by v (place + 1) es))
+      (append_assoc m.lines (lines_by w place e) (along o.object lines_by v (place + 1) es))
       (append_assoc m.eras (era_of o text w from (Some place) ∷ []) (eras_in o text v (place + 1) (place + 1) es))
 
   -- none is left
@@ -64,7 +59,4 @@ module _ {S I R : Type 0} (o : SpokenObject S I R) (text : S → List ℕ) where
       → m' ≡ marks_with o text m w from place (event_shown e) → w' ≡ world_after o.object w (event_shown e) → from' ≡ from_with from place (event_shown e)
       → marks_then m' w' from' (place + 1) (events_shown rest) ≡ marks_then m w from place (events_shown (e ∷ rest))
   marks_then-taken m m' w w' from from' place e rest marks world next =
-      ap (λ n. marks_then n w' from' (place + 1) (events_shown rest)) marks
-      ∙ ap (λ v. marks_then (marks_with o text m w from place (event_shown e)) v from' (place + 1) (events_shown rest)) world
-      ∙ ap (λ k. marks_then (marks_with o text m w from place (event_shown e)) (world_after o.object w (event_shown e)) k (place + 1) (events_shown rest)) next
-      ∙ marks_then-event m w from place (event_shown e) (events_shown rest)
+      rw (marks, world, next) (marks_then-event m w from place (event_shown e) (events_shown rest))

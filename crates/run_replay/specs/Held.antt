@@ -1,15 +1,13 @@
 -- What the places of a memory hold, as text, and what has changed from one memory to another.
 use Rattle.std.specs.Prelude.{◌≡◌, ℕ, if◌then◌else◌, List, [], ◌∷◌, ◌++◌, Option, Some, None, codes, refl}
-use Rattle.std.specs.Fmt.{decimal, digits}
+use Rattle.std.specs.Fmt.{decimal}
 use Rattle.std.specs.Option.{option_map_or}
 use Rattle.std.specs.Str.{bytes_eq}
 use Rattle.seq_object.specs.declared.call_id.CallId.{CallId}
 use Rattle.ready_objects.specs.Spoken.{Language}
 use Rattle.ready_objects.specs.Words.{text_of_words}
 use Rattle.uni_model.specs.Places.{Name, Place, Memory, announce_of, head_of, inv_of, seq_of, after_of, new_of, before_of}
-use Rattle.uni_model.specs.Places.Name.{Anchor, Of}
 use Rattle.uni_model.specs.Places.Place.{Announced, HeadOf, InvOf, SeqOf, AfterOf, NewOf, BeforeOf}
-use Rattle.uni_model.specs.Worlds.{anchor_memory}
 use Rattle.uni_core.specs.Readers.{call_of_name}
 
 -- a named field of the memory, and the text of what it holds
@@ -87,33 +85,6 @@ replies_changed _ _ = []
 -- the fields of a place that have changed
 abbrev pub changes_between : (before after : Held) → List Change
 changes_between b a = change_of b.field a.field ++ replies_changed b.reply a.reply
-
--- an anchor with the state 9 and the number 4, and a cell that isn't made
-abbrev sample_language : Language ℕ ℕ
-sample_language =
-    record { inv_words = λ i. (i ∷ []) ∷ []; inv_of_words = λ words. None; resp_text = λ r. r ∷ []; inv_of_word = λ w. w }
-
-abbrev sample : Memory ℕ ℕ ℕ
-sample = anchor_memory 9 4
-
-number_of_anchor : held sample_language (λ s. s ∷ []) sample (SeqOf Anchor) ≡ alone (codes "anchor.seq") (codes "4")
-unfolding digits
-number_of_anchor = refl
-
-head_of_process : held sample_language (λ s. s ∷ []) sample (HeadOf 2) ≡ alone (codes "head[2]") (codes "anchor")
-unfolding digits
-head_of_process = refl
-
-cell_after : held sample_language (λ s. s ∷ []) sample (AfterOf (Of 1 0)) ≡ alone (codes "1.0.after") (codes "?")
-unfolding digits
-cell_after = refl
-
-state_of_anchor : held sample_language (λ s. s ∷ []) sample (NewOf Anchor)
-    ≡ record {
-      field = record { name = codes "anchor.state"; text = 9 ∷ [] };
-      reply = Some (record { name = codes "anchor.reply"; text = codes "none" });
-    }
-state_of_anchor = refl
 
 -- a proposal that lost changes nothing; one that won changes the field
 lost_proposal : changes_between (alone (codes "anchor.after") (codes "0.0")) (alone (codes "anchor.after") (codes "0.0")) ≡ []

@@ -1,3 +1,4 @@
+pub mod Samples
 pub mod Held
 pub mod Proposal
 pub mod Frames

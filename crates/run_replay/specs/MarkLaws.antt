@@ -99,23 +99,14 @@ module _ {S I R : Type 0} (o : SpokenObject S I R) (text : S → List ℕ) (name
   EndsAreEvents = All (λ b. IfSome b.end (λ e. e.event < marks.events)) marks.bars
 
 -- two bars, of which the second one ends first
-abbrev sample : List Called
-sample =
-    record {
-      call = record { process = 0; nth = 0 };
-      from = 0;
-      words = [];
-      end = Some (record { event = 5; reply = 7 ∷ []; steps = 1; turns = 1 });
-    }
-    ∷ record {
-      call = record { process = 1; nth = 0 };
-      from = 1;
-      words = [];
-      end = Some (record { event = 4; reply = 8 ∷ []; steps = 1; turns = 1 });
-    }
-    ∷ []
+abbrev sample : (p event reply : ℕ) → Called
+sample p event reply = record {
+  call = record { process = p; nth = 0 };
+  from = p;
+  words = [];
+  end = Some (record { event = event; reply = reply ∷ []; steps = 1; turns = 1 });
+}
 
-sample_replies : replies_in_order {I = ℕ} sample 0 (replicate 6 Trim)
-    ≡ record { call = record { process = 1; nth = 0 }; text = 8 ∷ [] }
-    ∷ record { call = record { process = 0; nth = 0 }; text = 7 ∷ [] } ∷ []
+sample_replies : replies_in_order {I = ℕ} (sample 0 5 7 ∷ sample 1 4 8 ∷ []) 0 (replicate 6 Trim)
+    ≡ record { call = record { process = 1; nth = 0 }; text = 8 ∷ [] } ∷ record { call = record { process = 0; nth = 0 }; text = 7 ∷ [] } ∷ []
 sample_replies = refl

@@ -19,10 +19,9 @@ dot_linked place p _ _ = []
 
 -- how many events came before the present era, after one event more
 abbrev pub from_with : {I : Type 0} → (from place : ℕ) → Event I → ℕ
-from_with from place (Call p i) = from
-from_with from place (Step p) = from
 from_with from place Trim = place + 1
 from_with from place (Reshape n) = place + 1
+from_with from place _ = from
 
 -- the marks so far, and those of an event at this place, which comes to this world; the present era began after so many events
 abbrev pub marks_with : {S I R : Type 0} → SpokenObject S I R → (S → List ℕ) → RunMarks → WorldOf S I R → (from place : ℕ)

@@ -13,13 +13,14 @@ use Rattle.uni_model.specs.Chain.{Entry}
 use Rattle.uni_model.specs.Worlds.{WorldOf, Event, world_after, response_of_step, opened_world}
 use Rattle.uni_model.specs.Worlds.Event.{Call, Step, Trim, Reshape}
 use Rattle.uni_model.specs.AtomicObject.{Act, Invoked}
-use Rattle.uni_model.specs.AtomicObject.Act.{Invoke, Linearize, Respond}
+use Rattle.uni_model.specs.AtomicObject.Act.{Linearize}
 use Rattle.uni_model.specs.History.{log, acts_of}
 use Rattle.uni_core.specs.Readers.{kind_of}
 use Rattle.uni_log.specs.Log.{state_settled_at}
 use Rattle.uni_core.specs.Ends.{last_number}
 use Rattle.uni_script.specs.Objects.{SpokenObject}
 use Rattle.run_replay.specs.Changes.{changes_place}
+use Rattle.run_replay.specs.Samples.{sample, sample_language}
 use Rattle.run_replay.specs.declared.marks.StepMark.{StepMark}
 use Rattle.run_replay.specs.declared.marks.Dot.{Dot}
 use Rattle.run_replay.specs.declared.marks.EraEnd.TheVariants as era
@@ -89,9 +90,8 @@ steps_by object w place _ = []
 -- the calls that take effect among acts, in order
 abbrev pub linearized_in : {I R : Type 0} → List (Act I R) → List (Invoked I)
 linearized_in [] = []
-linearized_in (Invoke p k i ∷ acts) = linearized_in acts
 linearized_in (Linearize c ∷ acts) = c ∷ linearized_in acts
-linearized_in (Respond p k r ∷ acts) = linearized_in acts
+linearized_in (_ ∷ acts) = linearized_in acts
 
 -- the dots of calls that take effect by a step of a process
 abbrev pub dots_of : {I : Type 0} → (place p : ℕ) → List (Invoked I) → List Dot
@@ -160,9 +160,7 @@ module _ {S I R : Type 0} (o : SpokenObject S I R) where
   bars_in w place (Call p i ∷ es) =
       let v = world_after o.object w (Call p i) in
       record (bar_begun w place p i) { end = end_in p v (place + 1) es } ∷ bars_in v (place + 1) es
-  bars_in w place (Step p ∷ es) = bars_in (world_after o.object w (Step p)) (place + 1) es
-  bars_in w place (Trim ∷ es) = bars_in (world_after o.object w Trim) (place + 1) es
-  bars_in w place (Reshape n ∷ es) = bars_in (world_after o.object w (Reshape n)) (place + 1) es
+  bars_in w place (e ∷ es) = bars_in (world_after o.object w e) (place + 1) es
 
 -- on an object with its words and the text of each of its states
 module _ {S I R : Type 0} (o : SpokenObject S I R) (text : S → List ℕ) where
@@ -179,12 +177,11 @@ module _ {S I R : Type 0} (o : SpokenObject S I R) (text : S → List ℕ) where
   -- the eras of a run, where the present one began after so many events
   abbrev pub eras_in : WorldOf S I R → (from place : ℕ) → List (Event I) → List EraMarks
   eras_in w from place [] = era_of w from None ∷ []
-  eras_in w from place (Call p i ∷ es) = eras_in (world_after o.object w (Call p i)) from (place + 1) es
-  eras_in w from place (Step p ∷ es) = eras_in (world_after o.object w (Step p)) from (place + 1) es
   eras_in w from place (Trim ∷ es) =
       era_of w from (Some place) ∷ eras_in (world_after o.object w Trim) (place + 1) (place + 1) es
   eras_in w from place (Reshape n ∷ es) =
       era_of w from (Some place) ∷ eras_in (world_after o.object w (Reshape n)) (place + 1) (place + 1) es
+  eras_in w from place (e ∷ es) = eras_in (world_after o.object w e) from (place + 1) es
 
   -- the marks of a run from a world, on an object of this name
   abbrev pub marks_of_run : (name : List ℕ) → WorldOf S I R → List (Event I) → RunMarks
@@ -198,15 +195,6 @@ module _ {S I R : Type 0} (o : SpokenObject S I R) (text : S → List ℕ) where
         lines = along o.object lines_by w 0 events;
         eras = eras_in w 0 0 events;
       }
-
--- one process and an object that keeps the last number and answers the one before, from 9
-abbrev sample : Sequential ℕ ℕ ℕ
-sample = record { initial = 9; next = λ s i. i; answer = λ s i. s }
-
--- a process alone takes 14 steps; the eighth links its cell
-one_call_dot : along sample (dots_by sample) (opened_world 1 9 1) 0 (Call 0 7 ∷ replicate 14 (Step 0))
-    ≡ record { event = 8; call = record { process = 0; nth = 0 }; by = 0 } ∷ []
-one_call_dot = refl
 
 -- a stopped process is helped: process 1 takes one step, and process 0 links first its cell, and then its own
 helped_dots : along sample (dots_by sample) (opened_world 2 9 1) 0 (Call 1 5 ∷ Step 1 ∷ Call 0 6 ∷ replicate 24 (Step 0))
@@ -237,13 +225,9 @@ trim_line : along sample lines_by (opened_world 1 9 1) 0 (Call 0 7 ∷ replicate
     ≡ record { event = 15; end = era.Trim; number = 2 } ∷ []
 trim_line = refl
 
--- the words of the sample
+-- the sample with its words
 abbrev spoken : SpokenObject ℕ ℕ ℕ
-spoken = record {
-  object = sample;
-  language = record
-      { inv_words = λ i. (i ∷ []) ∷ []; inv_of_words = λ words. None; resp_text = λ r. r ∷ []; inv_of_word = λ w. w };
-}
+spoken = record { object = sample; language = sample_language }
 
 -- the call that is helped stays open, and the other one has its reply, steps and turns
 helped_bars : bars_in spoken (opened_world 2 9 1) 0 (Call 1 5 ∷ Step 1 ∷ Call 0 6 ∷ replicate 24 (Step 0))

@@ -10,10 +10,10 @@ use Rattle.uni_model.specs.Places.Content.{Invocation, Link, Settled}
 use Rattle.uni_model.specs.Stages.{Stage}
 use Rattle.uni_model.specs.Stages.Stage.{Announce, DecideAfter, DecideNew}
 use Rattle.uni_model.specs.Transition.{value_after}
-use Rattle.uni_model.specs.Worlds.{anchor_memory}
 use Rattle.uni_core.specs.declared.stage.StepKind.{StepKind}
 use Rattle.uni_core.specs.declared.stage.StepKind.TheVariants as kinds
 use Rattle.run_replay.specs.Held.{Held, alone, cell_text}
+use Rattle.run_replay.specs.Samples.{sample, sample_memory}
 
 -- what the step of a stage proposes for its place; of two proposals the first stands
 abbrev pub proposal_of : {S I R : Type 0} → Sequential S I R → Stage → Memory S I R → Option (Content S I R)
@@ -28,15 +28,12 @@ proposal_told kinds.DecideNew prefer after = Some after
 proposal_told _ prefer after = None
 
 -- a process that would help 1.0 proposes it after the anchor; one that announces proposes nothing
-abbrev sample : Sequential ℕ ℕ ℕ
-sample = record { initial = 9; next = λ s i. i; answer = λ s i. s }
-
 proposes_link : (m : Memory ℕ ℕ ℕ) → proposal_of sample (DecideAfter Anchor 1 (Of 1 0)) m ≡ Some (Link (Some (Of 1 0)))
 proposes_link m = refl
 
 -- after the state 9 it proposes for a cell that asks for 7 the state 7 and the response 9
 proposes_state : proposal_of sample (DecideNew Anchor 4 (Of 1 0))
-    (memory_with (anchor_memory 9 4) (InvOf (Of 1 0)) (Invocation (Some 7))) ≡ Some (Settled (Some (7, Some 9)))
+    (memory_with sample_memory (InvOf (Of 1 0)) (Invocation (Some 7))) ≡ Some (Settled (Some (7, Some 9)))
 proposes_state = refl
 
 proposes_nothing : (m : Memory ℕ ℕ ℕ) → proposal_of sample Announce m ≡ None

@@ -9,6 +9,7 @@ use Rattle.uni_core.specs.declared.stage.StepKind.{StepKind}
 use Rattle.uni_core.specs.declared.stage.StepKind.TheVariants as kinds
 use Rattle.run_replay.specs.Frames.{Frame, Steps, frame_of}
 use Rattle.run_replay.specs.Held.{Held}
+use Rattle.run_replay.specs.Samples.{sample, sample_language}
 use Rattle.run_replay.specs.Whole.{whole_memory}
 
 -- what an event did, and the whole memory after it, where that is asked for
@@ -53,14 +54,6 @@ module _ {S I R : Type 0} (object : Sequential S I R) (l : Language I R) (text :
   excerpt_of from most w events =
       let v = world_after_all object w (take from events) in
       record { start = start_of l text (length (take from events)) v; scenes = scenes_from v (take most (drop from events)) }
-
--- one process and an object that keeps the last number and answers the one before, from 9
-abbrev sample : Sequential ℕ ℕ ℕ
-sample = record { initial = 9; next = λ s i. i; answer = λ s i. s }
-
-abbrev sample_language : Language ℕ ℕ
-sample_language =
-    record { inv_words = λ i. (i ∷ []) ∷ []; inv_of_words = λ words. None; resp_text = λ r. r ∷ []; inv_of_word = λ w. w }
 
 -- the kind of a step, if a frame is one
 abbrev kind_of_frame : Frame → List StepKind

@@ -1,8 +1,7 @@
 -- The whole memory of a world, as text.
-use Rattle.std.specs.Prelude.{◌≡◌, ℕ, List, [], ◌∷◌, ◌++◌, map, Some, None, codes, refl}
+use Rattle.std.specs.Prelude.{◌≡◌, ℕ, List, [], ◌∷◌, ◌++◌, map, Some, codes, refl}
 use Rattle.std.specs.Fmt.{digits}
 use Rattle.std.specs.List.{flat_map, range_with_len}
-use Rattle.seq_object.specs.Sequential.{Sequential}
 use Rattle.ready_objects.specs.Spoken.{Language}
 use Rattle.uni_model.specs.Places.{Name, Place}
 use Rattle.uni_model.specs.Places.Name.{Anchor, Of}
@@ -10,6 +9,7 @@ use Rattle.uni_model.specs.Places.Place.{Announced, HeadOf, InvOf, SeqOf, AfterO
 use Rattle.uni_model.specs.Worlds.{WorldOf, calls_in_era, opened_world, world_after}
 use Rattle.uni_model.specs.Worlds.Event.{Call}
 use Rattle.run_replay.specs.Held.{Held, alone, held}
+use Rattle.run_replay.specs.Samples.{sample, sample_language}
 
 -- the places of a cell
 abbrev pub fields_of : Name → List Place
@@ -32,13 +32,6 @@ abbrev pub whole_memory : {S I R : Type 0} → Language I R → (S → List ℕ)
 whole_memory l text w = map (held l text w.memory) (places_of w)
 
 -- a process that has called, before its first step: its cell is made, and asks for A; the anchor asks for nothing
-abbrev sample : Sequential ℕ ℕ ℕ
-sample = record { initial = 57; next = λ s i. i; answer = λ s i. s }
-
-abbrev sample_language : Language ℕ ℕ
-sample_language =
-    record { inv_words = λ i. (i ∷ []) ∷ []; inv_of_words = λ words. None; resp_text = λ r. r ∷ []; inv_of_word = λ w. w }
-
 abbrev settled : (cell state reply : List ℕ) → Held
 settled cell state reply =
     record {

@@ -1,8 +1,7 @@
 //! The frames of a run, as plain data.
 
-ghost use Rattle.std.specs.Prelude.{◌≡◌, ◌++◌, IfOk, OnOk, map, option_map};
-ghost use Rattle.std.specs.Str.{bytes_eq};
-ghost use Rattle.run_replay.specs.Held.{change_of, changes_between, replies_changed};
+ghost use Rattle.std.specs.Prelude.{◌≡◌, ◌++◌, IfOk, OnOk, map};
+ghost use Rattle.run_replay.specs.Held.{change_of, changes_between};
 ghost use Rattle.run_replay.specs.ScenesShown.{change_shown, field_shown, held_shown};
 
 use seq_object::CallId;
@@ -117,55 +116,6 @@ pub struct Start {
     pub memory: Vec<Held>,
 }
 
-/// A copy of a field.
-///
-/// An `Err` says that memory was refused.
-fn field_copy(alloc: Global, field: &Field) -> Result<Field, AllocError>
-    ensures { IfOk result (λ copy. field_shown copy ≡ field_shown field.now) }
-{
-    Ok(Field {
-        name: Vec::from_slice(alloc, &field.name)?,
-        text: Vec::from_slice(alloc, &field.text)?,
-    })
-}
-
-/// A copy of what a place holds.
-///
-/// An `Err` says that memory was refused.
-pub(crate) fn held_copy(alloc: Global, held: &Held) -> Result<Held, AllocError>
-    ensures { IfOk result (λ copy. held_shown copy ≡ held_shown held.now) }
-{
-    let reply = match &held.reply {
-        Some(reply) => Some(field_copy(alloc, reply)?),
-        None => None,
-    };
-    Ok(Held {
-        field: field_copy(alloc, &held.field)?,
-        reply,
-    })
-}
-
-/// Whether a field holds the same text.
-fn is_same(before: &Field, after: &Field) -> bool
-    ensures { result ≡ bytes_eq before.now.text.items after.now.text.items }
-{
-    before.text.as_slice() == after.text.as_slice()
-}
-
-/// The change of a field.
-///
-/// An `Err` says that memory was refused.
-fn change_from(alloc: Global, before: &Field, after: &Field) -> Result<Change, AllocError>
-    ensures { IfOk result (λ change. change_shown change ≡
-        record { name = after.now.name.items; before = before.now.text.items; after = after.now.text.items }) }
-{
-    Ok(Change {
-        name: Vec::from_slice(alloc, &after.name)?,
-        before: Vec::from_slice(alloc, &before.text)?,
-        after: Vec::from_slice(alloc, &after.text)?,
-    })
-}
-
 /// Adds the change of a field, if there is one.
 ///
 /// An `Err` says that memory was refused.
@@ -178,33 +128,15 @@ fn push_change(
     ensures { OnOk result (map change_shown changes.new.items ≡
         map change_shown changes.old.items ++ change_of (field_shown before.now) (field_shown after.now)) }
 {
-    if is_same(before, after) {
+    if before.text.as_slice() == after.text.as_slice() {
         return Ok(());
     }
-    changes.push(change_from(alloc, before, after)?)?;
+    changes.push(Change {
+        name: Vec::from_slice(alloc, &after.name)?,
+        before: Vec::from_slice(alloc, &before.text)?,
+        after: Vec::from_slice(alloc, &after.text)?,
+    })?;
     Ok(())
-}
-
-/// Adds the change of a reply, if there is one.
-///
-/// An `Err` says that memory was refused.
-fn push_reply_change(
-    alloc: Global,
-    before: &Option<Field>,
-    after: &Option<Field>,
-    changes: &mut Vec<Change>,
-) -> Result<(), AllocError>
-    ensures { OnOk result (map change_shown changes.new.items ≡
-        map change_shown changes.old.items ++ replies_changed (option_map field_shown before.now)
-        (option_map field_shown after.now)) }
-{
-    let Some(before) = before else {
-        return Ok(());
-    };
-    match after {
-        Some(after) => push_change(alloc, before, after, changes),
-        None => Ok(()),
-    }
 }
 
 /// The fields of a place that have changed, from what it held before to what it holds afterwards.
@@ -216,6 +148,8 @@ pub fn changes_of(alloc: Global, before: &Held, after: &Held) -> Result<Vec<Chan
 {
     let mut changes = Vec::new(alloc);
     push_change(alloc, &before.field, &after.field, &mut changes)?;
-    push_reply_change(alloc, &before.reply, &after.reply, &mut changes)?;
+    if let (Some(before), Some(after)) = (&before.reply, &after.reply) {
+        push_change(alloc, before, after, &mut changes)?;
+    }
     Ok(changes)
 }

@@ -2,7 +2,7 @@
 
 ghost use Rattle.std.specs.Prelude.{◌≡◌, ℕ, ◌<◌, ◌++◌, ◌∷◌, [], ◌^◌, IfOk, OnOk};
 ghost use Rattle.std.specs.Prelude.{IsSome, map, option_map};
-ghost use Rattle.std.specs.Option.{option_copied};
+ghost use Rattle.std.specs.Option.{option_copied, option_map_or};
 ghost use Rattle.cell_arena.specs.Arena.{cell_of};
 ghost use Rattle.uni_model.specs.Worlds.{opened_world, world_after};
 ghost use Rattle.uni_model.specs.Worlds.Event.{Call, Step};
@@ -10,10 +10,11 @@ ghost use Rattle.uni_core.specs.Readers.{place_named, IsPlaceIn};
 ghost use Rattle.uni_core.specs.World.{name_in, world_of};
 ghost use Rattle.uni_log.specs.Entry.{entry_shown};
 ghost use Rattle.uni_record.specs.Event.{event_lent, event_shown, events_shown};
+ghost use Rattle.run_replay.specs.Frames.{answered};
 ghost use Rattle.run_replay.specs.Marks.{marks_of_run, bar_begun, box_of, era_of};
-ghost use Rattle.run_replay.specs.MarksShown.{bar_shown, cell_shown, era_shown, marks_shown};
+ghost use Rattle.run_replay.specs.MarksShown.{bar_shown, cell_shown, end_shown, era_shown, marks_shown};
 ghost use Rattle.run_replay.specs.Marking.{marks_with, from_with, bar_ended, dot_linked};
-ghost use Rattle.run_replay.specs.Changes.{announces, has_changed, presence, standing_at};
+ghost use Rattle.run_replay.specs.Changes.{has_changed, presence, standing_at};
 
 use crate::marks::{Bar, BarEnd, CellBox, Dot, Era, EraEnd, EraLine, Marks, StepMark};
 use crate::opening::reopened;
@@ -185,16 +186,9 @@ fn standing_at<O: Spoken>(world: &World<O>, place: Place) -> u64
 fn has_changed(kind: StepKind, before: u64, after: u64) -> bool
     ensures { result ≡ has_changed kind before after }
 {
-    announces(kind) || before != after
-}
-
-/// Whether a step of this kind announces a cell, which is a new one.
-fn announces(kind: StepKind) -> bool
-    ensures { result ≡ announces kind }
-{
     match kind {
         StepKind::Announce => true,
-        _ => false,
+        _ => before != after,
     }
 }
 
@@ -217,9 +211,6 @@ fn replay_step<O: Spoken>(
         (record { object = O.sequential replay.old.object; language = O.language }) O.state_text
         (marks_shown marks.old) (world_of replay.old) from place (Step process)) }
 {
-    if process >= replay.processes() {
-        return Err(AllocError);
-    }
     let Some(coming) = coming_step(replay, process) else {
         return Err(AllocError);
     };
@@ -227,22 +218,18 @@ fn replay_step<O: Spoken>(
     let before = standing_at(replay, coming.place);
     let progress = take_step(alloc, process, replay)?;
     let after = standing_at(replay, coming.place);
-    let nth = replay.begun(process).saturating_sub(1);
-    let steps = replay.steps(process);
     let changed = has_changed(coming.kind, before, after);
     marks.steps.push(StepMark {
         event: place,
         process,
-        nth,
-        number: steps,
+        nth: coming.call.nth,
+        number: replay.steps(process),
         kind: coming.kind,
         changed,
     })?;
     push_dot(coming, changed, place, process, &mut marks.dots)?;
-    if let Progress::Done(reply) = progress {
-        let turns = replay.turns(process);
-        end_bars::<O>(alloc, process, place, reply, steps, turns, &mut marks.bars)?;
-    }
+    let end = end_of(alloc, process, place, progress, replay)?;
+    end_bars(alloc, process, &end, &mut marks.bars)?;
     Ok(())
 }
 
@@ -266,55 +253,69 @@ fn push_dot(
     Ok(())
 }
 
-/// Ends the bars of a process that haven't ended, by a step that has this response.
+/// How a step that a process has taken in a replay ended its call, if it did.
 ///
 /// An `Err` says that memory was refused.
-fn end_bars<O: Spoken>(
+fn end_of<O: Spoken>(
     alloc: Global,
     process: u64,
     place: u64,
-    response: O::Resp,
-    steps: u64,
-    turns: u64,
+    progress: Progress<O::Resp>,
+    replay: &World<O>,
+) -> Result<Option<BarEnd>, AllocError>
+    requires { process < (world_of replay.now).n }
+    ensures { IfOk result (λ end. option_map end_shown end ≡ option_map (λ response. record {
+      event = place;
+      reply = O.language.resp_text response;
+      steps = (world_of replay.now).steps process;
+      turns = (world_of replay.now).turns process;
+    }) (answered progress)) }
+{
+    let Progress::Done(response) = progress else {
+        return Ok(None);
+    };
+    Ok(Some(BarEnd {
+        event: place,
+        reply: O::resp_text(alloc, response)?,
+        steps: replay.steps(process),
+        turns: replay.turns(process),
+    }))
+}
+
+/// Ends the bars of a process that haven't ended so, if its call has.
+///
+/// An `Err` says that memory was refused.
+fn end_bars(
+    alloc: Global,
+    process: u64,
+    end: &Option<BarEnd>,
     bars: &mut Vec<Bar>,
 ) -> Result<(), AllocError>
     ensures { OnOk result (map bar_shown bars.new.items
-        ≡ map (bar_ended process (record {
-          event = place;
-          reply = O.language.resp_text response;
-          steps = steps;
-          turns = turns;
-        })) (map bar_shown bars.old.items)) }
+        ≡ option_map_or (λ end. map (bar_ended process end) (map bar_shown bars.old.items))
+        (option_map end_shown end.now) (map bar_shown bars.old.items)) }
 {
+    let Some(end) = end else {
+        return Ok(());
+    };
     for bar in bars.iter_mut() {
-        end_bar::<O>(alloc, process, place, response, steps, turns, bar)?;
+        end_bar(alloc, process, end, bar)?;
     }
     Ok(())
 }
 
-/// Ends a bar, if it is one of the process and hasn't ended, by a step that has this response.
+/// Ends a bar so, if it is one of the process and hasn't ended.
 ///
 /// An `Err` says that memory was refused.
-fn end_bar<O: Spoken>(
-    alloc: Global,
-    process: u64,
-    place: u64,
-    response: O::Resp,
-    steps: u64,
-    turns: u64,
-    bar: &mut Bar,
-) -> Result<(), AllocError>
-    ensures { OnOk result (bar_shown bar.new ≡ bar_ended process
-        (record { event = place; reply = O.language.resp_text response; steps = steps; turns = turns })
-        (bar_shown bar.old)) }
+fn end_bar(alloc: Global, process: u64, end: &BarEnd, bar: &mut Bar) -> Result<(), AllocError>
+    ensures { OnOk result (bar_shown bar.new ≡ bar_ended process (end_shown end.now) (bar_shown bar.old)) }
 {
     if bar.end.is_none() && process == u64::from(bar.call.process) {
-        let reply = O::resp_text(alloc, response)?;
         bar.end = Some(BarEnd {
-            event: place,
-            reply,
-            steps,
-            turns,
+            event: end.event,
+            reply: Vec::from_slice(alloc, &end.reply)?,
+            steps: end.steps,
+            turns: end.turns,
         });
     }
     Ok(())

@@ -1,9 +1,9 @@
 //! What the places of a world hold, as text.
 
-ghost use Rattle.std.specs.Prelude.{◌≡◌, ◌<◌, Some, IfOk, IfSome, IsSome, codes, option_map};
+ghost use Rattle.std.specs.Prelude.{◌≡◌, IfOk, IfSome, IsSome, option_map};
 ghost use Rattle.std.specs.Option.{option_copied};
 ghost use Rattle.cell_arena.specs.Arena.{cell_of};
-ghost use Rattle.uni_model.specs.Places.Place.{Announced, HeadOf, SeqOf, AfterOf, NewOf, BeforeOf};
+ghost use Rattle.uni_model.specs.Places.Place.{NewOf};
 ghost use Rattle.uni_core.specs.Readers.{place_named, IsPlaceIn};
 ghost use Rattle.uni_core.specs.World.{name_in, world_of};
 ghost use Rattle.run_replay.specs.Held.{alone, cell_text, entry_name, field_name, held, link_text, reply_text};
@@ -15,7 +15,6 @@ use cell_arena::CellId;
 use ready_objects::Spoken;
 use seq_object::{CallId, SeqObject};
 use std::alloc::{AllocError, Global};
-use std::io::Write;
 use uni_core::{Place, World};
 
 /// The text of a cell's name: that of the call that it was made for, or `anchor`.
@@ -24,12 +23,10 @@ use uni_core::{Place, World};
 pub fn cell_text(alloc: Global, call: Option<CallId>) -> Result<Vec<u8>, AllocError>
     ensures { IfOk result (λ text. text.items ≡ cell_text call) }
 {
-    let mut text = Vec::new(alloc);
     match call {
-        None => text.extend_from_slice(b"anchor")?,
-        Some(call) => write!(text, "{call}").map_err(|_| AllocError)?,
+        None => Vec::from_slice(alloc, b"anchor"),
+        Some(call) => Ok(format!(in alloc; "{call}")?.into_bytes()),
     }
-    Ok(text)
 }
 
 /// The name of a field of a cell, as `1.0.seq`.
@@ -39,7 +36,8 @@ pub fn field_name(alloc: Global, cell: Option<CallId>, field: &str) -> Result<Ve
     ensures { IfOk result (λ text. text.items ≡ field_name cell field.now) }
 {
     let mut text = cell_text(alloc, cell)?;
-    write!(text, ".{field}").map_err(|_| AllocError)?;
+    text.push(b'.')?;
+    text.extend_from_slice(field.as_bytes())?;
     Ok(text)
 }
 
@@ -49,9 +47,7 @@ pub fn field_name(alloc: Global, cell: Option<CallId>, field: &str) -> Result<Ve
 fn entry_name(alloc: Global, array: &str, process: u64) -> Result<Vec<u8>, AllocError>
     ensures { IfOk result (λ text. text.items ≡ entry_name array.now process) }
 {
-    let mut text = Vec::new(alloc);
-    write!(text, "{array}[{process}]").map_err(|_| AllocError)?;
-    Ok(text)
+    Ok(format!(in alloc; "{array}[{process}]")?.into_bytes())
 }
 
 /// A field without another beside it.
@@ -114,98 +110,33 @@ fn reply_text<O: Spoken>(
     }
 }
 
-/// What the announce entry of a process holds.
+/// An entry of an array, which names a cell.
 ///
 /// An `Err` says that memory was refused.
-pub(crate) fn announced_entry<O: Spoken>(
+fn entry_held(
     alloc: Global,
-    world: &World<O>,
+    array: &str,
     process: u64,
+    cell: Option<CallId>,
 ) -> Result<Held, AllocError>
-    requires { process < (world_of world.now).n }
-    ensures { IfOk result (λ found. held_shown found ≡
-        held O.language O.state_text (world_of world.now).memory (Announced process)) }
+    ensures { IfOk result (λ found. held_shown found ≡ alone (entry_name array.now process) (cell_text cell)) }
 {
-    let text = cell_text(alloc, world.call_of(world.announced(process)))?;
-    Ok(alone(entry_name(alloc, "announce", process)?, text))
+    let text = cell_text(alloc, cell)?;
+    Ok(alone(entry_name(alloc, array, process)?, text))
 }
 
-/// What the head entry of a process holds.
+/// A field of a cell, which holds this text.
 ///
 /// An `Err` says that memory was refused.
-pub(crate) fn head_entry<O: Spoken>(
+pub(crate) fn field_held(
     alloc: Global,
-    world: &World<O>,
-    process: u64,
+    cell: Option<CallId>,
+    field: &str,
+    text: Vec<u8>,
 ) -> Result<Held, AllocError>
-    requires { process < (world_of world.now).n }
-    ensures { IfOk result (λ found. held_shown found ≡
-        held O.language O.state_text (world_of world.now).memory (HeadOf process)) }
+    ensures { IfOk result (λ found. held_shown found ≡ alone (field_name cell field.now) text.items) }
 {
-    let text = cell_text(alloc, world.call_of(world.head(process)))?;
-    Ok(alone(entry_name(alloc, "head", process)?, text))
-}
-
-/// The number of a cell.
-///
-/// An `Err` says that memory was refused.
-pub(crate) fn number_field<O: Spoken>(
-    alloc: Global,
-    world: &World<O>,
-    cell: CellId,
-) -> Result<Held, AllocError>
-    requires { IsSome (cell_of world.now.shared.cells cell) }
-    ensures { IfOk result (λ found. held_shown found ≡
-        held O.language O.state_text (world_of world.now).memory (SeqOf (name_in (world_of world.now) cell))) }
-{
-    let call = world.call_of(cell);
-    let number = world.seq(cell);
-    let mut text = Vec::new(alloc);
-    write!(text, "{number}").map_err(|_| AllocError)?;
-    Ok(alone(field_name(alloc, call, "seq")?, text))
-}
-
-/// The cell after a cell.
-///
-/// An `Err` says that memory was refused.
-pub(crate) fn after_field<O: Spoken>(
-    alloc: Global,
-    world: &World<O>,
-    cell: CellId,
-) -> Result<Held, AllocError>
-    requires { IsSome (cell_of world.now.shared.cells cell) }
-    ensures { IfOk result (λ found. held_shown found ≡
-        held O.language O.state_text (world_of world.now).memory (AfterOf (name_in (world_of world.now) cell))) }
-{
-    let call = world.call_of(cell);
-    let text = link_text(alloc, world, world.after(cell))?;
-    Ok(alone(field_name(alloc, call, "after")?, text))
-}
-
-/// The cell before a cell.
-///
-/// An `Err` says that memory was refused.
-pub(crate) fn before_field<O: Spoken>(
-    alloc: Global,
-    world: &World<O>,
-    cell: CellId,
-) -> Result<Held, AllocError>
-    requires { IsSome (cell_of world.now.shared.cells cell) }
-    ensures { IfOk result (λ found. held_shown found ≡
-        held O.language O.state_text (world_of world.now).memory (BeforeOf (name_in (world_of world.now) cell))) }
-{
-    let call = world.call_of(cell);
-    let text = link_text(alloc, world, world.before(cell))?;
-    Ok(alone(field_name(alloc, call, "before")?, text))
-}
-
-/// What a call's cell asks for, as this text.
-///
-/// An `Err` says that memory was refused.
-pub(crate) fn asked_field(alloc: Global, call: CallId, text: Vec<u8>) -> Result<Held, AllocError>
-    ensures { IfOk result (λ found. held_shown found ≡ alone (field_name (Some call) (codes "inv")) text.items) }
-{
-    Ok(alone(field_name(alloc, Some(call), "inv")?, text))
+    Ok(alone(field_name(alloc, cell, field)?, text))
 }
 
 /// The state and the response that are settled in a cell.
@@ -248,11 +179,27 @@ pub(crate) fn read_place<O: Spoken>(
         held O.language O.state_text (world_of world.now).memory (place_named (name_in (world_of world.now)) place)) }
 {
     match place {
-        Place::Announced(process) => announced_entry(alloc, world, process),
-        Place::HeadOf(process) => head_entry(alloc, world, process),
-        Place::SeqOf(cell) => number_field(alloc, world, cell),
-        Place::AfterOf(cell) => after_field(alloc, world, cell),
+        Place::Announced(process) => {
+            let cell = world.announced(process);
+            entry_held(alloc, "announce", process, world.call_of(cell))
+        }
+        Place::HeadOf(process) => {
+            let cell = world.head(process);
+            entry_held(alloc, "head", process, world.call_of(cell))
+        }
+        Place::SeqOf(cell) => {
+            let number = world.seq(cell);
+            let text = format!(in alloc; "{number}")?.into_bytes();
+            field_held(alloc, world.call_of(cell), "seq", text)
+        }
+        Place::AfterOf(cell) => {
+            let text = link_text(alloc, world, world.after(cell))?;
+            field_held(alloc, world.call_of(cell), "after", text)
+        }
         Place::NewOf(cell) => settled_fields(alloc, world, cell),
-        Place::BeforeOf(cell) => before_field(alloc, world, cell),
+        Place::BeforeOf(cell) => {
+            let text = link_text(alloc, world, world.before(cell))?;
+            field_held(alloc, world.call_of(cell), "before", text)
+        }
     }
 }

@@ -1,24 +1,26 @@
 //! The scenes of a run, by the replay of its events.
 
-ghost use Rattle.std.specs.Prelude.{◌≡◌, ◌∷◌, ◌<◌, ◌≤◌, [], ℕ, None, Some, IfOk, IfNone, IfSome, IsSome, OnOk, drop};
+ghost use Rattle.std.specs.Prelude.{◌≡◌, ◌∷◌, ◌<◌, [], ℕ, None, Some, IfOk, IfNone, IfSome, IsSome, OnOk, drop};
 ghost use Rattle.std.specs.Prelude.{length, option_and_then, option_map, take};
+ghost use Rattle.std.specs.Option.{option_map_or};
 ghost use Rattle.cell_arena.specs.Arena.{cell_of};
-ghost use Rattle.uni_model.specs.Transition.{place_of};
 ghost use Rattle.uni_model.specs.Worlds.{opened_world, world_after, world_after_all};
 ghost use Rattle.uni_model.specs.Worlds.{Event as model};
-ghost use Rattle.uni_core.specs.Readers.{call_of_name, kind_of, place_named, proposed_at, IsPlaceIn};
-ghost use Rattle.uni_core.specs.World.{current_of, name_in, world_of, IsProgress};
+ghost use Rattle.uni_core.specs.Readers.{call_of_name, place_named, proposed_at, IsPlaceIn};
+ghost use Rattle.uni_core.specs.World.{name_in, world_of, IsProgress};
 ghost use Rattle.uni_core.specs.Ends.{last_number};
 ghost use Rattle.uni_record.specs.Event.{event_lent, event_shown, events_shown};
+ghost use Rattle.run_replay.specs.Changes.{IsComing};
 ghost use Rattle.run_replay.specs.Frames.{answered, begun, ended, frame_of, stepped};
+ghost use Rattle.run_replay.specs.Held.{held};
 ghost use Rattle.run_replay.specs.Proposal.{proposal_told};
 ghost use Rattle.run_replay.specs.Scenes.{excerpt_of, start_of};
 ghost use Rattle.run_replay.specs.ScenesShown.{begun_shown, end_shown, frame_shown, held_shown};
 ghost use Rattle.run_replay.specs.ScenesShown.{scene_shown, start_shown, step_shown};
 
-use crate::frame::{Begun, EndedEra, Frame, Held, Scene, Start, Step, held_copy};
+use crate::frame::{Begun, EndedEra, Frame, Held, Scene, Start, Step};
 use crate::opening::reopened;
-use crate::places::{alone, asked_field, cell_text, read_place, settled_fields};
+use crate::places::{alone, cell_text, field_held, read_place, settled_fields};
 use crate::whole::{memory_asked, whole_memory};
 use cell_arena::{CellId, Cells};
 use ready_objects::Spoken;
@@ -151,10 +153,10 @@ fn take_event<O: Spoken>(
             take_step(alloc, process, replay)?;
         }
         Event::Trim => {
-            trim(replay).map_err(|_| AllocError)?;
+            end_era(alloc, None, replay)?;
         }
         Event::Reshape(processes) => {
-            reshape(alloc, replay, processes).map_err(|_| AllocError)?;
+            end_era(alloc, Some(processes), replay)?;
         }
     }
     Ok(())
@@ -203,47 +205,53 @@ fn frame_of<O: Spoken>(
             let step = step_of(alloc, process, replay)?;
             Ok(Frame::Step(step))
         }
-        Event::Trim => Ok(Frame::End(trimmed(alloc, replay)?)),
-        Event::Reshape(processes) => Ok(Frame::End(reshaped(alloc, processes, replay)?)),
+        Event::Trim => Ok(Frame::End(ended_of(alloc, None, replay)?)),
+        Event::Reshape(processes) => Ok(Frame::End(ended_of(alloc, Some(processes), replay)?)),
     }
 }
 
-/// An era ends by a trim in a replay; the answer is what that left.
+/// Ends the era in a replay, by a reshape to so many processes or else by a trim; the answer is the number of the new
+/// anchor.
 ///
-/// An `Err` says that memory was refused, or the trim.
-fn trimmed<O: Spoken>(alloc: Global, replay: &mut World<O>) -> Result<EndedEra, AllocError>
+/// An `Err` says that memory was refused, or the event.
+fn end_era<O: Spoken>(
+    alloc: Global,
+    reshaped: Option<u64>,
+    replay: &mut World<O>,
+) -> Result<u64, AllocError>
     ensures object { replay.new.object ≡ replay.old.object }
-    ensures world { OnOk result (world_of replay.new ≡
-        world_after (O.sequential replay.old.object) (world_of replay.old) model.Trim) }
-    ensures end { IfOk result (λ end. end_shown end ≡
-        ended O.language O.state_text None (last_number (world_of replay.old))
-        (world_after (O.sequential replay.old.object) (world_of replay.old) model.Trim).memory) }
+    ensures number { IfOk result (λ number. number ≡ last_number (world_of replay.old)) }
+    ensures world { OnOk result (world_of replay.new ≡ world_after (O.sequential replay.old.object)
+        (world_of replay.old) (option_map_or model.Reshape reshaped model.Trim)) }
 {
-    let Ok(number) = trim(replay) else {
-        return Err(AllocError);
-    };
-    end_of(alloc, None, number, replay)
+    match reshaped {
+        Some(processes) => reshape(alloc, replay, processes).map_err(|_| AllocError),
+        None => trim(replay).map_err(|_| AllocError),
+    }
 }
 
-/// An era ends by a reshape in a replay; the answer is what that left.
+/// The same; the answer is what the end left.
 ///
-/// An `Err` says that memory was refused, or the reshape.
-fn reshaped<O: Spoken>(
+/// An `Err` says that memory was refused, or the event.
+fn ended_of<O: Spoken>(
     alloc: Global,
-    processes: u64,
+    reshaped: Option<u64>,
     replay: &mut World<O>,
 ) -> Result<EndedEra, AllocError>
     ensures object { replay.new.object ≡ replay.old.object }
-    ensures world { OnOk result (world_of replay.new ≡
-        world_after (O.sequential replay.old.object) (world_of replay.old) (model.Reshape processes)) }
+    ensures world { OnOk result (world_of replay.new ≡ world_after (O.sequential replay.old.object)
+        (world_of replay.old) (option_map_or model.Reshape reshaped model.Trim)) }
     ensures end { IfOk result (λ end. end_shown end ≡
-        ended O.language O.state_text (Some processes) (last_number (world_of replay.old))
-        (world_after (O.sequential replay.old.object) (world_of replay.old) (model.Reshape processes)).memory) }
+        ended O.language O.state_text reshaped (last_number (world_of replay.old)) (world_of replay.new).memory) }
 {
-    let Ok(number) = reshape(alloc, replay, processes) else {
-        return Err(AllocError);
-    };
-    end_of(alloc, Some(processes), number, replay)
+    let number = end_era(alloc, reshaped, replay)?;
+    replay.shape();
+    let anchor = settled_fields(alloc, replay, CellId::anchor())?;
+    Ok(EndedEra {
+        reshaped,
+        number,
+        anchor,
+    })
 }
 
 /// A process begins a call in a replay; the answer is what that did.
@@ -267,8 +275,8 @@ pub fn begun_of<O: Spoken>(
     };
     let unmade = Vec::from_slice(alloc, b"?")?;
     let asked = O::inv_text(alloc, inv)?;
-    let before = asked_field(alloc, call, unmade)?;
-    let after = asked_field(alloc, call, asked)?;
+    let before = field_held(alloc, Some(call), "inv", unmade)?;
+    let after = field_held(alloc, Some(call), "inv", asked)?;
     let words = O::inv_text(alloc, inv)?;
     Ok(Begun {
         call,
@@ -294,35 +302,28 @@ fn reply_of<O: Spoken>(
     }
 }
 
-/// What a step of this kind proposed, by the call whose cell it proposed and by what its place holds after it.
+/// What a step of this kind that was taken proposed for its place, by the call whose cell it proposed.
 ///
 /// An `Err` says that memory was refused.
-fn proposed_of(
+fn proposed_of<O: Spoken>(
     alloc: Global,
     kind: StepKind,
+    place: Place,
     offered: Option<CallId>,
-    after: &Held,
+    replay: &World<O>,
 ) -> Result<Option<Held>, AllocError>
-    ensures { IfOk result (λ proposed. option_map held_shown proposed
-        ≡ proposal_told kind offered (held_shown after.now)) }
+    requires { IsPlaceIn (world_of replay.now).n (λ cell. IsSome (cell_of replay.now.shared.cells cell)) place }
+    ensures { IfOk result (λ proposed. option_map held_shown proposed ≡ proposal_told kind offered
+        (held O.language O.state_text (world_of replay.now).memory (place_named (name_in (world_of replay.now)) place))) }
 {
     match kind {
         StepKind::DecideAfter => {
-            let name = Vec::from_slice(alloc, &after.field.name)?;
-            Ok(Some(alone(name, cell_text(alloc, offered)?)))
+            let after = read_place(alloc, replay, place)?;
+            let text = cell_text(alloc, offered)?;
+            Ok(Some(alone(after.field.name, text)))
         }
-        StepKind::DecideNew => Ok(Some(held_copy(alloc, after)?)),
-        StepKind::Announce
-        | StepKind::ScanHead
-        | StepKind::ScanSeq
-        | StepKind::WriteScan
-        | StepKind::Test
-        | StepKind::ReadAnnounce
-        | StepKind::ReadHelpSeq
-        | StepKind::WriteBefore
-        | StepKind::WriteSeq
-        | StepKind::WriteHead
-        | StepKind::Finish => Ok(None),
+        StepKind::DecideNew => Ok(Some(read_place(alloc, replay, place)?)),
+        _ => Ok(None),
     }
 }
 
@@ -351,20 +352,15 @@ fn proposed_call<O: Spoken>(world: &World<O>, process: u64) -> Option<CallId>
     }
 }
 
-/// The next step of a process; `None` where it has no call pending.
+/// The next step of a process; `None` where it has no call pending, or there is no such process.
 pub(crate) fn coming_step<O: Spoken>(world: &World<O>, process: u64) -> Option<Coming>
-    requires { process < (world_of world.now).n }
-    ensures call { IfSome result (λ coming. current_of (world_of world.now) process ≡ Some coming.call) }
-    ensures kind { IfSome result (λ coming. option_map (λ c. kind_of c.stage) ((world_of world.now).call process) ≡
-        Some coming.kind) }
-    ensures place { IfSome result (λ coming. option_map (λ c. place_of (world_of world.now).n process c.mine c.stage)
-        ((world_of world.now).call process)
-        ≡ Some (place_named (name_in (world_of world.now)) coming.place)) }
+    ensures coming { IfSome result (IsComing (world_of world.now) process) }
     ensures there { IfSome result (λ coming. IsPlaceIn (world_of world.now).n
         (λ cell. IsSome (cell_of world.now.shared.cells cell)) coming.place) }
-    ensures proposed { IfSome result (λ coming. coming.proposed ≡ option_and_then call_of_name
-        (option_and_then (λ c. proposed_at c.stage) ((world_of world.now).call process))) }
 {
+    if process >= world.processes() {
+        return None;
+    }
     let call = world.current(process)?;
     let kind = world.next_kind(process)?;
     let place = world.next_place(process)?;
@@ -417,9 +413,6 @@ pub fn step_of<O: Spoken>(
         option_map (stepped (O.sequential replay.old.object) O.language O.state_text (world_of replay.old) process)
         ((world_of replay.old).call process)) }
 {
-    if process >= replay.processes() {
-        return Err(AllocError);
-    }
     replay.shape();
     let Some(coming) = coming_step(replay, process) else {
         return Err(AllocError);
@@ -427,7 +420,7 @@ pub fn step_of<O: Spoken>(
     let before = read_place(alloc, replay, coming.place)?;
     let progress = take_step(alloc, process, replay)?;
     let after = read_place(alloc, replay, coming.place)?;
-    let proposed = proposed_of(alloc, coming.kind, coming.proposed, &after)?;
+    let proposed = proposed_of(alloc, coming.kind, coming.place, coming.proposed, replay)?;
     let reply = reply_of::<O>(alloc, progress)?;
     Ok(Step {
         call: coming.call,
@@ -439,26 +432,5 @@ pub fn step_of<O: Spoken>(
         steps: replay.steps(process),
         turns: replay.turns(process),
         reply,
-    })
-}
-
-/// How an era ended, with the number of the anchor of the world after it.
-///
-/// An `Err` says that memory was refused.
-fn end_of<O: Spoken>(
-    alloc: Global,
-    reshaped: Option<u64>,
-    number: u64,
-    replay: &World<O>,
-) -> Result<EndedEra, AllocError>
-    ensures { IfOk result (λ end. end_shown end ≡
-        ended O.language O.state_text reshaped number (world_of replay.now).memory) }
-{
-    replay.shape();
-    let anchor = settled_fields(alloc, replay, CellId::anchor())?;
-    Ok(EndedEra {
-        reshaped,
-        number,
-        anchor,
     })
 }

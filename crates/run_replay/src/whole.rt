@@ -5,7 +5,7 @@ ghost use Rattle.cell_arena.specs.Arena.{cell_of};
 ghost use Rattle.std.specs.List.{flat_map, range_with_len};
 ghost use Rattle.std.specs.Option.{option_copied, option_map_or};
 ghost use Rattle.ready_objects.specs.Words.{text_of_words};
-ghost use Rattle.uni_model.specs.Places.Place.{Announced, HeadOf, InvOf};
+ghost use Rattle.uni_model.specs.Places.Place.{Announced, HeadOf};
 ghost use Rattle.uni_core.specs.World.{name_in, world_of};
 ghost use Rattle.run_replay.specs.Held.{held};
 ghost use Rattle.run_replay.specs.Scenes.{memory_asked};
@@ -13,15 +13,12 @@ ghost use Rattle.run_replay.specs.ScenesShown.{held_shown};
 ghost use Rattle.run_replay.specs.Whole.{cells_below, cells_of, fields_of, whole_memory};
 
 use crate::frame::Held;
-use crate::places::{
-    after_field, alone, announced_entry, before_field, field_name, head_entry, number_field,
-    settled_fields,
-};
+use crate::places::{field_held, read_place};
 use cell_arena::CellId;
 use ready_objects::Spoken;
 use seq_object::CallId;
 use std::alloc::{AllocError, Global};
-use uni_core::World;
+use uni_core::{Place, World};
 
 /// Adds what a place holds.
 ///
@@ -37,6 +34,7 @@ fn push_held(memory: &mut Vec<Held>, held: Held) -> Result<(), AllocError>
 /// Adds what the announce entries hold.
 ///
 /// An `Err` says that memory was refused.
+#[tactic(auto, using(crate::proofs::PlacesMore::place_more))]
 fn push_announced<O: Spoken>(
     alloc: Global,
     world: &World<O>,
@@ -47,7 +45,7 @@ fn push_announced<O: Spoken>(
         (map Announced (range_with_len 0 (world_of world.now).n))) }
 {
     for process in 0..world.processes() {
-        push_held(memory, announced_entry(alloc, world, process)?)?;
+        push_held(memory, read_place(alloc, world, Place::Announced(process))?)?;
     }
     Ok(())
 }
@@ -55,6 +53,7 @@ fn push_announced<O: Spoken>(
 /// Adds what the head entries hold.
 ///
 /// An `Err` says that memory was refused.
+#[tactic(auto, using(crate::proofs::PlacesMore::place_more))]
 fn push_heads<O: Spoken>(
     alloc: Global,
     world: &World<O>,
@@ -65,7 +64,7 @@ fn push_heads<O: Spoken>(
         (map HeadOf (range_with_len 0 (world_of world.now).n))) }
 {
     for process in 0..world.processes() {
-        push_held(memory, head_entry(alloc, world, process)?)?;
+        push_held(memory, read_place(alloc, world, Place::HeadOf(process))?)?;
     }
     Ok(())
 }
@@ -83,19 +82,6 @@ fn asked_text<O: Spoken>(alloc: Global, inv: Option<&O::Inv>) -> Result<Vec<u8>,
     }
 }
 
-/// What a cell asks for.
-///
-/// An `Err` says that memory was refused.
-fn asked_of<O: Spoken>(alloc: Global, world: &World<O>, cell: CellId) -> Result<Held, AllocError>
-    requires { IsSome (cell_of world.now.shared.cells cell) }
-    ensures { IfOk result (λ found. held_shown found ≡
-        held O.language O.state_text (world_of world.now).memory (InvOf (name_in (world_of world.now) cell))) }
-{
-    let call = world.call_of(cell);
-    let text = asked_text::<O>(alloc, world.inv(cell))?;
-    Ok(alone(field_name(alloc, call, "inv")?, text))
-}
-
 /// Adds what the fields of a cell hold.
 ///
 /// An `Err` says that memory was refused.
@@ -110,11 +96,15 @@ fn push_cell<O: Spoken>(
         ++ map (held O.language O.state_text (world_of world.now).memory)
         (fields_of (name_in (world_of world.now) cell))) }
 {
-    push_held(memory, asked_of(alloc, world, cell)?)?;
-    push_held(memory, number_field(alloc, world, cell)?)?;
-    push_held(memory, after_field(alloc, world, cell)?)?;
-    push_held(memory, before_field(alloc, world, cell)?)?;
-    push_held(memory, settled_fields(alloc, world, cell)?)
+    let asked = asked_text::<O>(alloc, world.inv(cell))?;
+    push_held(
+        memory,
+        field_held(alloc, world.call_of(cell), "inv", asked)?,
+    )?;
+    push_held(memory, read_place(alloc, world, Place::SeqOf(cell))?)?;
+    push_held(memory, read_place(alloc, world, Place::AfterOf(cell))?)?;
+    push_held(memory, read_place(alloc, world, Place::BeforeOf(cell))?)?;
+    push_held(memory, read_place(alloc, world, Place::NewOf(cell))?)
 }
 
 /// Adds what the cells hold that a process has made in the present era.

@@ -1,4 +1,4 @@
-use Rattle.run_replay.proofs.Vocabulary.{None, RunMarks, SpokenObject, [], ap, arith, bar_shown, era_of, era_shown, event_lent, event_shown, events_shown, length, length-map, map, marks_shown, marks_with, opened_world, subst, sym, world_after, world_of, ◌++◌, ◌∙◌, ◌∷◌, ◌≡◌}
+use Rattle.run_replay.proofs.Vocabulary.{None, RunMarks, SpokenObject, [], ap, arith, bar_shown, era_of, era_shown, event_lent, event_shown, events_shown, length, length-map, map, marks_shown, opened_world, sym, world_of, ◌++◌, ◌∙◌, ◌∷◌, ◌≡◌}
 use Rattle.run_replay.proofs.Replayed.{marks_are}
 use Rattle.run_replay.proofs.WholeMarks.{marks_then, marks_then-taken, marks_then-none}
 use Rattle.run_replay.proofs.marking.marks_of.Goals as goal
@@ -39,8 +39,7 @@ loop-event-preserved g c =
       object = took.object ∙ here.object;
       place = omega (arith, place, left);
       marks = marks_then-taken o g.O.Spoken.state_text (marks_shown c.loop-event.marks) (marks_shown c.replay_event.new.marks) w (world_of c.replay_event.new.replay) c.loop-event.from c.in_ok-from.from c.loop-event.place event c.next.new.self
-          (subst (λ object. marks_shown c.replay_event.new.marks ≡ marks_with (record { object = g.O.SeqObject.sequential object; language = g.O.Spoken.language }) g.O.Spoken.state_text (marks_shown c.loop-event.marks) w c.loop-event.from c.loop-event.place (event_shown event)) here.object took.marks)
-          (subst (λ object. world_of c.replay_event.new.replay ≡ world_after (g.O.SeqObject.sequential object) w (event_shown event)) here.object took.world)
+          (rw here.object at took.marks) (rw here.object at took.world)
           took.from
           ∙ ap (λ es. marks_then o g.O.Spoken.state_text (marks_shown c.loop-event.marks) w c.loop-event.from c.loop-event.place (events_shown es)) (sym c.in-Some.ensures.steps)
           ∙ here.marks;

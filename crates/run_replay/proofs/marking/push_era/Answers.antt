@@ -27,10 +27,7 @@ returns g c =
     let w = world_of c.args.world.now in
     let boxes : map cell_shown c.loop-place.cells.items ≡ boxes_from g.O.Spoken.language g.O.Spoken.state_text w 1 (log w) =
     sym (append-nil (map cell_shown c.loop-place.cells.items))
-    ∙ ap (λ l. map cell_shown c.loop-place.cells.items ++ boxes_from g.O.Spoken.language g.O.Spoken.state_text w (c.loop-place.place + 1) (map entry_shown l)) (sym (drop_all c.loop-place.place c.deref-entry-items.result.now c.loop-place-test.false))
-    ∙ c.loop-place.invariant
-    ∙ ap (λ l. boxes_from g.O.Spoken.language g.O.Spoken.state_text w 1 (map entry_shown l)) c.deref-entry-items.ensures.value
-    ∙ ap (boxes_from g.O.Spoken.language g.O.Spoken.state_text w 1) (c.in_ok-entries.ensures.log ∙ ap (λ v. log (world_of v)) c.of-log.ensures) in
+    ∙ (rw (drop_all c.loop-place.place c.deref-entry-items.result.now c.loop-place-test.false, c.deref-entry-items.ensures.value, c.in_ok-entries.ensures.log, c.of-log.ensures) at c.loop-place.invariant) in
     let made : EraMarks = record { from = c.args.from; last = c.args.last; processes = c.processes-processes.result; anchor = c.seq-anchor.result; cells = map cell_shown c.loop-place.cells.items } in
     let is : made ≡ era_of (record { object = g.O.SeqObject.sequential c.args.world.now.object; language = g.O.Spoken.language }) g.O.Spoken.state_text w c.args.from c.args.last =
     era_is made _ refl refl c.processes-processes.ensures (c.seq-anchor.ensures ∙ ap (λ i. seq_of w.memory (name_in w i)) c.anchor.ensures) boxes in

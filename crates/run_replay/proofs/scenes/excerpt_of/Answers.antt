@@ -1,4 +1,4 @@
-use Rattle.run_replay.proofs.Vocabulary.{ap, drop, event_shown, events_shown, length, opened_world, scenes_from, subst, sym, take, world_after_all, world_of, ◌∙◌, ◌≡◌}
+use Rattle.run_replay.proofs.Vocabulary.{ap, drop, event_shown, events_shown, opened_world, scenes_from, sym, take, world_of, ◌∙◌}
 use Rattle.std.proofs.lemmas.List.{drop-map}
 use Rattle.run_replay.proofs.Passing.{excerpt_is}
 use Rattle.run_replay.proofs.scenes.excerpt_of.Goals as goal
@@ -14,9 +14,8 @@ returns g c =
     let passed = c.in_ok-passed.ensures in
     let v = world_of c.pass.new.replay in
     sym (excerpt_is object g.O.Spoken.language g.O.Spoken.state_text c.args.is_whole from c.args.most _ start v (events_shown c.args.run.now.events) (events_shown c.pass.new.events) _ _
-    (subst (λ o. v ≡ world_after_all (sequential o) (world_of c.in_ok-replay.replay) (take from (events_shown given))) c.in_ok-replay.ensures.object passed.world
-    ∙ ap (λ w. world_after_all object w (take from (events_shown given))) c.in_ok-replay.ensures.world ∙ ap (λ es. world_after_all object start (take from es)) all)
-    (passed.passed ∙ ap (λ es. length (take from es)) all)
+    (rw (c.in_ok-replay.ensures.object, c.in_ok-replay.ensures.world, c.events-events.ensures) at passed.world)
+    (rw c.events-events.ensures at passed.passed)
     (ap events_shown passed.events ∙ sym (drop-map event_shown from given) ∙ ap (drop from) all)
     c.in_ok-start.ensures
     (ap (λ o. scenes_from (sequential o) g.O.Spoken.language g.O.Spoken.state_text c.args.is_whole v (take c.args.most (events_shown c.pass.new.events))) (passed.object ∙ c.in_ok-replay.ensures.object)))

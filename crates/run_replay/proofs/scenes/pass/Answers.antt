@@ -1,4 +1,4 @@
-use Rattle.run_replay.proofs.Vocabulary.{[], arith, ap, drop, event_lent, event_shown, events_shown, length, rules, subst, sym, take, world_after, world_after_all, world_of, ◌+◌, ◌-◌, ◌<◌, ◌∙◌, ◌∷◌, ◌≡◌}
+use Rattle.run_replay.proofs.Vocabulary.{[], ap, arith, drop, event_lent, event_shown, events_shown, length, rules, sym, take, world_after_all, world_of, ◌+◌, ◌-◌, ◌<◌, ◌∙◌, ◌∷◌, ◌≡◌}
 use Rattle.run_replay.proofs.Passing.{drop_first, none_taken, passed_more, world_more}
 use Rattle.run_replay.proofs.scenes.pass.Goals.{else-loop-left-test, then-loop-left-test+in_default}
 use Rattle.run_replay.proofs.scenes.pass.Goals as goal
@@ -23,7 +23,7 @@ loop-left-preserved g c =
       passed = passed_more c.args.count left _ (event_shown e) (events_shown rest) some fewer
           (ap (λ es. (c.args.count - left) + length (take left (events_shown es))) (sym is) ∙ here.passed);
       world = world_more object left (world_of c.loop-left.replay) _ _ (event_shown e) (events_shown rest) some
-          (subst (λ o. world_of c.take_event.new.replay ≡ world_after (g.O.SeqObject.sequential o) (world_of c.loop-left.replay) (event_shown e)) here.object took.world)
+          (rw here.object at took.world)
           (ap (λ es. world_after_all object (world_of c.loop-left.replay) (take left (events_shown es))) (sym is) ∙ here.world);
     }
 

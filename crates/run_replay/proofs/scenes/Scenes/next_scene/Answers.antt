@@ -1,4 +1,4 @@
-use Rattle.run_replay.proofs.Vocabulary.{Some, ap, event_lent, event_shown, events_shown, rules, scene_shown, scenes_from, sym, take, world_of, ◌-◌, ◌<◌, ◌∙◌, ◌∷◌, ◌≡◌}
+use Rattle.run_replay.proofs.Vocabulary.{Some, ap, event_lent, event_shown, events_shown, frame_shown, rules, scene_shown, scenes_from, sym, take, world_of, ◌-◌, ◌<◌, ◌∙◌, ◌∷◌}
 use Rattle.run_replay.specs.declared.frame.Scene.{Scene}
 use Rattle.run_replay.proofs.Telling.{scene_taken}
 use Rattle.run_replay.proofs.Passing.{take_first}
@@ -18,5 +18,5 @@ returns-clause-next g c =
     let scene : Scene = record { frame = c.in_ok-frame.frame; memory = c.in_ok-memory.memory } in
     sym c.self.view_is ∙ ap (λ es. from w (take here.left (events_shown es))) c.in-Some.ensures.steps
     ∙ ap (from w) (take_first here.left event rest some)
-    ∙ scene_taken (sequential here.replay.object) g.O.Spoken.language g.O.Spoken.state_text here.is_whole w v event (take (here.left - 1) rest) (scene_shown scene) took.frame took.world c.in_ok-memory.ensures
+    ∙ scene_taken (sequential here.replay.object) g.O.Spoken.language g.O.Spoken.state_text here.is_whole w v event (take (here.left - 1) rest) (frame_shown c.in_ok-frame.frame) _ took.frame took.world c.in_ok-memory.ensures
     ∙ ap (λ o. Some (scene_shown scene) ∷ scenes_from (sequential o) g.O.Spoken.language g.O.Spoken.state_text here.is_whole v (take (here.left - 1) rest)) (sym took.object)
