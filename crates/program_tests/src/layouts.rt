@@ -1,9 +1,6 @@
 //! Tests of the labels of equal refusals, of columns, and of the longest picture.
 
-use run_layout::{
-    Axis, Column, MOST_EVENTS, MOST_REMARKS, PictureFault, Range, Scale, Subject, Told, axis_of,
-    subject_of, told_of,
-};
+use run_layout::{Axis, PictureFault, Range, Scale, Subject, Told, axis_of, subject_of, told_of};
 use std::alloc::Global;
 use std::io::Write;
 use std::test::Fail;
@@ -26,6 +23,9 @@ const NARROW: Scale = Scale {
     step: 1,
     letter: 1,
     mark: 1,
+    margin: 0,
+    top: 0,
+    lane: 0,
 };
 
 /// What a picture shows of a good script.
@@ -73,32 +73,30 @@ fn equal_refusals_have_one_label(rt: HostRuntime) -> Result<(), Fail> {
 /// Whether columns have their events and their remarks where they should.
 fn has_columns(axis: &Axis) -> bool {
     // The label has nine letters and the room beside them, of which the step after it takes one.
-    let events = axis.event(0) == (Column { left: 0, width: 9 })
-        && axis.event(1) == (Column { left: 9, width: 1 })
-        && axis.event(2) == (Column { left: 90, width: 0 });
+    let events = match axis.layout.columns.as_slice() {
+        [call, step, end] => {
+            (call.from, call.to) == (0, 9)
+                && (step.from, step.to) == (9, 10)
+                && (end.from, end.to) == (90, 90)
+        }
+        _ => false,
+    };
     // The mark, and "call 1 deq refused: P1 has a call pending" or "trim refused: P1 has a call pending" with the room
     // beside it.
-    let remarks = axis.remark(1)
-        == (Column {
-            left: 10,
-            width: 43,
-        })
-        && axis.remark(2) == (Column { left: 53, width: 0 })
-        && axis.remark(3)
-            == (Column {
-                left: 53,
-                width: 37,
-            })
-        && axis.remark(4) == (Column { left: 90, width: 0 });
-    events && remarks && axis.end == 90
+    let remarks = match axis.remarks.as_slice() {
+        [_, call, note, trim] => {
+            (call.from, call.to) == (10, 53)
+                && (note.from, note.to) == (53, 53)
+                && (trim.from, trim.to) == (53, 90)
+        }
+        _ => false,
+    };
+    events && remarks
 }
 
 #[test]
 fn columns(rt: HostRuntime) -> Result<(), Fail> {
     let subject = subject(rt.alloc(), PENDING)?;
-    if subject.marks.events > MOST_EVENTS || subject.remarks.len() > MOST_REMARKS {
-        return Err(Fail::from("the script is short"));
-    }
     let axis = axis_of(rt.alloc(), &subject.marks, &subject.remarks, NARROW)?;
     assert!(rt; has_columns(&axis));
     Ok(())

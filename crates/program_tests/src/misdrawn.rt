@@ -1,13 +1,11 @@
 //! Wrong drawings: each is answered `Misdrawn`.
 
-ghost use Rattle.std.specs.Prelude.{◌≤◌, IfOk, length};
-
 use run_layout::{PictureFault, Range, Subject, subject_of};
 use run_lines::{COLUMNS, Ink, Sketch, Stroke, sketch_of};
 use run_picture::{Drawn, draw};
 use std::alloc::{AllocError, Global};
 use std::test::Fail;
-use svg_text::{Paint, Shape};
+use svg_text::{Paint, Shape, Spot};
 use uni_script::Checked;
 
 /// Process 0 helps process 1, which stopped after its first step; a refusal comes before, and a call of a process that
@@ -70,10 +68,7 @@ enum Wrong {
 }
 
 /// What a picture shows of the script.
-fn subject(alloc: Global) -> Result<Subject, Fail>
-    ensures few { IfOk result (λ subject. subject.marks.events ≤ 2000) }
-    ensures remarks { IfOk result (λ subject. length subject.remarks.items ≤ 100000) }
-{
+fn subject(alloc: Global) -> Result<Subject, Fail> {
     match subject_of(alloc, Range::all(), &mut Checked::new(SCRIPT.as_bytes())) {
         Ok(subject) => Ok(subject),
         Err(_) => Err(Fail::from("the script should be drawn")),
@@ -88,43 +83,28 @@ fn lie(alloc: Global) -> Result<Vec<u8>, AllocError> {
 /// Makes each shape of the strip wrong that can be wrong in this way.
 fn spoil_shape(alloc: Global, wrong: Wrong, shape: &mut Shape) -> Result<(), AllocError> {
     match (wrong, shape) {
-        (Wrong::DotInAnotherLane, Shape::Dot { y, .. }) => {
-            *y = if *y > LANE {
-                *y - LANE
+        (Wrong::DotInAnotherLane, Shape::Dot(at)) => {
+            *at = if at.y > LANE {
+                at.back(0, LANE)
             } else {
-                y.saturating_add(LANE)
+                at.by(0, LANE)
             };
         }
-        (Wrong::TipOfTheHelper, Shape::Tip { y, y1, y2, .. }) => {
-            *y = y.saturating_sub(LANE);
-            *y1 = y1.saturating_sub(LANE);
-            *y2 = y2.saturating_sub(LANE);
+        (Wrong::TipOfTheHelper, Shape::Tip(at, one, other)) => {
+            *at = at.back(0, LANE);
+            *one = one.back(0, LANE);
+            *other = other.back(0, LANE);
         }
-        (Wrong::BarEndsLate, Shape::Rect { width, .. }) => *width = width.saturating_add(20),
-        (Wrong::LabelLies, Shape::Text { text, .. }) => *text = lie(alloc)?,
-        (Wrong::StepBefore, Shape::Titled { x, .. }) => *x = x.saturating_sub(20),
-        (
-            Wrong::RefusalLate,
-            Shape::Line {
-                x1,
-                x2,
-                paint: Paint::Cross,
-                ..
-            },
-        ) => {
-            *x1 = x1.saturating_add(500);
-            *x2 = x2.saturating_add(500);
+        (Wrong::BarEndsLate, Shape::Rect(_, width, _, _)) => *width = width.saturating_add(20),
+        (Wrong::LabelLies, Shape::Text(_, _, _, text)) => *text = lie(alloc)?,
+        (Wrong::StepBefore, Shape::Titled(at, _, _, _, _)) => *at = at.back(20, 0),
+        (Wrong::RefusalLate, Shape::Line(from, to, Paint::Cross)) => {
+            *from = from.by(500, 0);
+            *to = to.by(500, 0);
         }
-        (
-            Wrong::OpenBarIsClosed,
-            Shape::Rect {
-                height: 46,
-                paint,
-                ..
-            },
-        ) => *paint = Paint::Frame,
-        (Wrong::RowBeginsLate, Shape::View { left, .. }) => *left = left.saturating_add(20),
-        (Wrong::RowEndsEarly, Shape::View { width, .. }) => *width = width.saturating_sub(20),
+        (Wrong::OpenBarIsClosed, Shape::Rect(_, _, 46, paint)) => *paint = Paint::Frame,
+        (Wrong::RowBeginsLate, Shape::View(_, _, _, left)) => *left = left.saturating_add(20),
+        (Wrong::RowEndsEarly, Shape::View(_, width, _, _)) => *width = width.saturating_sub(20),
         _ => {}
     }
     Ok(())
@@ -136,7 +116,7 @@ fn spoil(alloc: Global, wrong: Wrong, drawn: &mut Drawn) -> Result<(), AllocErro
         spoil_shape(alloc, wrong, shape)?;
     }
     for shape in &mut drawn.drawing.shapes {
-        if let Shape::View { .. } = shape {
+        if let Shape::View(..) = shape {
             spoil_shape(alloc, wrong, shape)?;
         }
     }
@@ -147,7 +127,7 @@ fn spoil(alloc: Global, wrong: Wrong, drawn: &mut Drawn) -> Result<(), AllocErro
 fn spoil_order(alloc: Global, wrong: Wrong, drawn: &mut Drawn) -> Result<(), AllocError> {
     let first = drawn.boxes.0;
     match wrong {
-        Wrong::DotTwice => drawn.drawing.strip.push(Shape::Dot { x: 60, y: 80 })?,
+        Wrong::DotTwice => drawn.drawing.strip.push(Shape::Dot(Spot { x: 60, y: 80 }))?,
         Wrong::LeftOut => {
             drawn.drawing.strip.pop();
         }

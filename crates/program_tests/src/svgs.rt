@@ -1,7 +1,7 @@
 //! A test of a whole text, with labels that are escaped.
 
 use std::alloc::{AllocError, Global};
-use svg_text::{Anchor, Drawing, Paint, Shape, svg_of};
+use svg_text::{Anchor, Drawing, Paint, Shape, Spot, svg_of};
 
 /// The text of a picture with one label, and a strip of which a part is shown.
 const LABEL: &str =
@@ -30,7 +30,7 @@ fn copied(alloc: Global, bytes: &[u8]) -> Result<Vec<u8>, AllocError> {
 /// A strip with one dot.
 fn strip(alloc: Global) -> Result<Vec<Shape>, AllocError> {
     let mut shapes = Vec::new(alloc);
-    shapes.push(Shape::Dot { x: 50, y: 6 })?;
+    shapes.push(Shape::Dot(Spot { x: 50, y: 6 }))?;
     Ok(shapes)
 }
 
@@ -38,20 +38,8 @@ fn strip(alloc: Global) -> Result<Vec<Shape>, AllocError> {
 fn view_and_label(alloc: Global) -> Result<Vec<Shape>, AllocError> {
     let text = copied(alloc, b"<c \"d\">")?;
     let mut shapes = Vec::new(alloc);
-    shapes.push(Shape::View {
-        x: 2,
-        y: 5,
-        width: 20,
-        height: 12,
-        left: 40,
-    })?;
-    shapes.push(Shape::Text {
-        x: 3,
-        y: 9,
-        anchor: Anchor::Middle,
-        paint: Paint::Ink,
-        text,
-    })?;
+    shapes.push(Shape::View(Spot { x: 2, y: 5 }, 20, 12, 40))?;
+    shapes.push(Shape::Text(Spot { x: 3, y: 9 }, Anchor::Middle, Paint::Ink, text))?;
     Ok(shapes)
 }
 

@@ -3,7 +3,7 @@ use Rattle.run_layout.proofs.Vocabulary.{Err, HasMoreEvents, HasTooManyEvents, I
 use Rattle.uni_script.specs.declared.grammar.Version.{Version}
 use Rattle.uni_script.specs.declared.script_run.ScriptRun.{ScriptRun}
 use Rattle.uni_script.specs.declared.script_run.ScriptRecord.{ScriptRecord}
-use Rattle.uni_script.specs.declared.script_run.ScriptRecord.TheVariants.{Queue, Directory, Book, Sticky}
+use Rattle.uni_script.specs.declared.script_run.ScriptRecord.TheVariants.{Queue}
 use Rattle.uni_model.specs.Worlds.{Event}
 use Rattle.uni_record.specs.Recorded.{Recording}
 use Rattle.uni_script.specs.Meaning.{Session}
@@ -18,23 +18,17 @@ use Rattle.run_layout.specs.Choice.{count_in}
 
 marks_of_session-record : (version : Version) (r : ScriptRecord) → marks_of_session (session_of_record version r) ≡ marks_of_record r
 marks_of_session-record version (Queue r) = refl
-marks_of_session-record version (Directory r) = refl
-marks_of_session-record version (Book r) = refl
-marks_of_session-record version (Sticky r) = refl
+marks_of_session-record version r = refl
 
 events-record : (version : Version) (r : ScriptRecord) → length (session_of_record version r).session.events ≡ events_of_record r
 events-record version (Queue r) = refl
-events-record version (Directory r) = refl
-events-record version (Book r) = refl
-events-record version (Sticky r) = refl
+events-record version r = refl
 
 -- the marks of a record tell how many events it has
 events-marks : (r : ScriptRecord) → (marks_of_record r).events ≡ events_of_record r
 unfolding marks_of_events
 events-marks (Queue r) = refl
-events-marks (Directory r) = refl
-events-marks (Book r) = refl
-events-marks (Sticky r) = refl
+events-marks r = refl
 
 -- the session of a run has the events of its record
 pub events-run : (b : ScriptSession) (version : Version) (r : ScriptRecord) → b ≡ session_of_record version r → length b.session.events ≡ events_of_record r

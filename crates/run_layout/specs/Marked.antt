@@ -32,10 +32,12 @@ pub record Sign : Type 0 where
 abbrev pub sign_shown : code.Sign → Sign
 sign_shown s = record { mark = s.mark; columns = s.columns; lanes = s.lanes; text = s.text.items }
 
+abbrev pub sign_of : Mark → Edge × Edge → (lanes : Option (ℕ × ℕ)) → (text : List ℕ) → Sign
+sign_of mark columns lanes text = record { mark = mark; columns = columns; lanes = lanes; text = text }
+
 -- a mark in the column of an event and the lane of a process
 abbrev pub at : Mark → (event process : ℕ) → (text : List ℕ) → Sign
-at mark event process text =
-    record { mark = mark; columns = (Before event, After event); lanes = Some (process, process); text = text }
+at mark event process text = sign_of mark (Before event, After event) (Some (process, process)) text
 
 -- the names of so many processes from one on, in the column of an event
 unfoldable pub names_from : (event process count : ℕ) → List Sign
@@ -49,26 +51,19 @@ new_names named (era ∷ eras) = names_from (era.from - 1) named (era.processes 
 
 -- the end of an era, through all lanes
 abbrev pub line_sign : EraLine → Sign
-line_sign line =
-    record { mark = mark.End; columns = (Before line.event, After line.event); lanes = None; text = line_text line }
+line_sign line = sign_of mark.End (Before line.event, After line.event) None (line_text line)
 
 -- a call, from the column of its begin to that of its end; one that has not returned stays open, up to the end of all
 abbrev pub bar_sign : (events : ℕ) → Called → Sign
 bar_sign events bar =
-    record {
-      mark = option_map_or (λ _. mark.Bar) bar.end mark.Open;
-      columns = (Before bar.from, After (option_map_or (λ end. end.event) bar.end events));
-      lanes = Some (bar.call.process, bar.call.process);
-      text = [];
-    }
+    sign_of (option_map_or (λ _. mark.Bar) bar.end mark.Open) (Before bar.from, After (option_map_or (λ end. end.event) bar.end events))
+    (Some (bar.call.process, bar.call.process)) []
 
 -- the arrow of help, from the lane of who helps down or up to that of the call
 abbrev pub arrow_in : (event by process : ℕ) → Sign
 arrow_in event by process =
-    if nat_lt by process then
-    record { mark = mark.Down; columns = (Before event, After event); lanes = Some (by, process); text = [] }
-    else
-    record { mark = mark.Up; columns = (Before event, After event); lanes = Some (process, by); text = [] }
+    if nat_lt by process then sign_of mark.Down (Before event, After event) (Some (by, process)) []
+    else sign_of mark.Up (Before event, After event) (Some (process, by)) []
 
 abbrev pub arrow_signs : Dot → List Sign
 arrow_signs dot = if dot.call.process == dot.by then [] else arrow_in dot.event dot.by dot.call.process ∷ []
@@ -83,8 +78,7 @@ dot_sign dot = at mark.Dot dot.event dot.call.process []
 
 -- the label of a call at its begin, and where it has returned its counts, which are over with its end
 abbrev pub counts_signs : (process : ℕ) → Option End → List Sign
-counts_signs process (Some end) =
-    record { mark = mark.Counts; columns = (Start, After end.event); lanes = Some (process, process); text = counts_text end } ∷ []
+counts_signs process (Some end) = sign_of mark.Counts (Start, After end.event) (Some (process, process)) (counts_text end) ∷ []
 counts_signs process None = []
 
 abbrev pub text_signs : Called → List Sign
@@ -96,8 +90,7 @@ after_events count = if count == 0 then Start else After (count - 1)
 
 -- a refusal, above the lanes, after so many events and before the next one
 abbrev pub refusal_of_text : (before : ℕ) → Option (List ℕ) → List Sign
-refusal_of_text before (Some text) =
-    record { mark = mark.Refusal; columns = (after_events before, Before before); lanes = None; text = text } ∷ []
+refusal_of_text before (Some text) = sign_of mark.Refusal (after_events before, Before before) None text ∷ []
 refusal_of_text before None = []
 
 abbrev pub refusal_signs : Label → List Sign
@@ -129,8 +122,7 @@ abbrev linked : (by : ℕ) → Dot
 linked by = record { event = 7; call = record { process = 1; nth = 0 }; by = by }
 
 arrows_of_three : flat_map arrow_signs (linked 0 ∷ linked 2 ∷ linked 1 ∷ [])
-    ≡ record { mark = mark.Down; columns = (Before 7, After 7); lanes = Some (0, 1); text = [] }
-    ∷ record { mark = mark.Up; columns = (Before 7, After 7); lanes = Some (1, 2); text = [] } ∷ []
+    ≡ sign_of mark.Down (Before 7, After 7) (Some (0, 1)) [] ∷ sign_of mark.Up (Before 7, After 7) (Some (1, 2)) [] ∷ []
 arrows_of_three = refl
 
 -- a reshape from one process to two, by the first event, names the lane of the second one

@@ -13,8 +13,7 @@ mod wording;
 mod wrapping;
 
 pub use axis::{
-    Axis, Column, MOST_EVENTS, MOST_LANES, MOST_REMARKS, Scale, Side, Stretch, axis_of,
-    lanes_between, letters,
+    Axis, MOST_EVENTS, MOST_LANES, Scale, Side, Stretch, axis_of, lanes_between, letters,
 };
 pub use choice::Range;
 pub use marked::{Mark, Sign, after_events, push_part, push_part_in, signs_of};

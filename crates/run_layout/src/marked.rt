@@ -6,9 +6,9 @@ ghost use Rattle.std.specs.List.{flat_map};
 ghost use Rattle.signs.specs.Signs.{meaning};
 ghost use Rattle.run_replay.specs.MarksShown.{bar_shown, era_shown, marks_shown};
 ghost use Rattle.run_layout.specs.Refusals.{told_shown};
-ghost use Rattle.run_layout.specs.Marked.{after_events, arrow_in, arrow_signs, at, bar_sign, counts_signs, dot_sign};
-ghost use Rattle.run_layout.specs.Marked.{line_sign, names_from, new_names, refusal_signs, sign_shown, signs_of};
-ghost use Rattle.run_layout.specs.Marked.{part, part_in, step_sign, text_signs};
+ghost use Rattle.run_layout.specs.Marked.{after_events, arrow_signs, at, bar_sign, dot_sign, line_sign, names_from};
+ghost use Rattle.run_layout.specs.Marked.{new_names, part, part_in, refusal_signs, sign_of, sign_shown, signs_of};
+ghost use Rattle.run_layout.specs.Marked.{step_sign, text_signs};
 
 use crate::axis::MOST_LANES;
 use crate::refusals::{Told, told_of};
@@ -63,6 +63,26 @@ pub struct Sign {
 /// The signs of a run, as they are added.
 type Signs = Vec<Sign>;
 
+/// Adds a sign.
+fn push_sign(
+    signs: &mut Signs,
+    mark: Mark,
+    columns: (Edge, Edge),
+    lanes: Option<(u64, u64)>,
+    text: Vec<u8>,
+) -> Result<(), AllocError>
+    ensures { OnOk result (map sign_shown signs.new.items
+        ≡ map sign_shown signs.old.items ++ sign_of mark columns lanes text.items ∷ []) }
+{
+    signs.push(Sign {
+        mark,
+        columns,
+        lanes,
+        text,
+    })?;
+    Ok(())
+}
+
 /// Adds a mark in the column of an event and the lane of a process.
 fn push_at(
     signs: &mut Signs,
@@ -74,13 +94,8 @@ fn push_at(
     ensures { OnOk result (map sign_shown signs.new.items
         ≡ map sign_shown signs.old.items ++ at mark event process text.items ∷ []) }
 {
-    signs.push(Sign {
-        mark,
-        columns: (Edge::Before(event), Edge::After(event)),
-        lanes: Some((process, process)),
-        text,
-    })?;
-    Ok(())
+    let columns = (Edge::Before(event), Edge::After(event));
+    push_sign(signs, mark, columns, Some((process, process)), text)
 }
 
 /// Adds the names of the processes from one on and before another.
@@ -107,74 +122,52 @@ fn push_new_names(alloc: Global, eras: &[Era], signs: &mut Signs) -> Result<(), 
 {
     let mut named = MOST_LANES;
     for era in eras {
-        push_names(
-            alloc,
-            era.from.saturating_sub(1),
-            named,
-            era.processes,
-            signs,
-        )?;
+        let event = era.from.saturating_sub(1);
+        push_names(alloc, event, named, era.processes, signs)?;
         named = era.processes;
     }
     Ok(())
 }
 
-/// The end of an era.
-fn line_sign(alloc: Global, line: &EraLine) -> Result<Sign, AllocError>
-    ensures { IfOk result (λ sign. sign_shown sign ≡ line_sign line.now) }
+/// Adds the end of an era.
+fn push_line(alloc: Global, line: &EraLine, signs: &mut Signs) -> Result<(), AllocError>
+    ensures { OnOk result (map sign_shown signs.new.items
+        ≡ map sign_shown signs.old.items ++ line_sign line.now ∷ []) }
 {
-    Ok(Sign {
-        mark: Mark::End,
-        columns: (Edge::Before(line.event), Edge::After(line.event)),
-        lanes: None,
-        text: line_of(alloc, line)?,
-    })
+    let columns = (Edge::Before(line.event), Edge::After(line.event));
+    push_sign(signs, Mark::End, columns, None, line_of(alloc, line)?)
 }
 
-/// A call.
-fn bar_sign(alloc: Global, events: u64, bar: &Bar) -> Sign
-    ensures { sign_shown result ≡ bar_sign events (bar_shown bar.now) }
+/// Adds a call.
+fn push_bar(alloc: Global, events: u64, bar: &Bar, signs: &mut Signs) -> Result<(), AllocError>
+    ensures { OnOk result (map sign_shown signs.new.items
+        ≡ map sign_shown signs.old.items ++ bar_sign events (bar_shown bar.now) ∷ []) }
 {
     let (mark, last) = match &bar.end {
         Some(end) => (Mark::Bar, end.event),
         None => (Mark::Open, events),
     };
+    let columns = (Edge::Before(bar.from), Edge::After(last));
     let process = u64::from(bar.call.process);
-    Sign {
-        mark,
-        columns: (Edge::Before(bar.from), Edge::After(last)),
-        lanes: Some((process, process)),
-        text: Vec::new(alloc),
-    }
+    let text = Vec::new(alloc);
+    push_sign(signs, mark, columns, Some((process, process)), text)
 }
 
-/// An arrow of help, from the lane of who helps to that of the call.
-fn arrow_in(alloc: Global, event: u64, by: u64, process: u64) -> Sign
-    ensures { sign_shown result ≡ arrow_in event by process }
-{
-    let (mark, lanes) = if by < process {
-        (Mark::Down, (by, process))
-    } else {
-        (Mark::Up, (process, by))
-    };
-    Sign {
-        mark,
-        columns: (Edge::Before(event), Edge::After(event)),
-        lanes: Some(lanes),
-        text: Vec::new(alloc),
-    }
-}
-
-/// Adds the arrow of help, where another process linked the cell of a call.
+/// Adds the arrow of help, where another process linked the cell of a call: from its lane to that of the call.
 fn push_arrow(alloc: Global, dot: Dot, signs: &mut Signs) -> Result<(), AllocError>
     ensures { OnOk result (map sign_shown signs.new.items
         ≡ map sign_shown signs.old.items ++ arrow_signs dot) }
 {
-    let process = u64::from(dot.call.process);
-    if process != dot.by {
-        signs.push(arrow_in(alloc, dot.event, dot.by, process))?;
+    let columns = (Edge::Before(dot.event), Edge::After(dot.event));
+    let (by, process) = (dot.by, u64::from(dot.call.process));
+    let text = Vec::new(alloc);
+    if by < process {
+        push_sign(signs, Mark::Down, columns, Some((by, process)), text)
+    } else if process < by {
+        push_sign(signs, Mark::Up, columns, Some((process, by)), text)
+    } else {
+        Ok(())
     }
-    Ok(())
 }
 
 /// Adds a step.
@@ -183,13 +176,8 @@ fn push_step(alloc: Global, step: StepMark, signs: &mut Signs) -> Result<(), All
         ≡ map sign_shown signs.old.items ++ step_sign step ∷ []) }
 {
     let mark = Mark::Step(step.kind, step.changed);
-    push_at(
-        signs,
-        mark,
-        step.event,
-        step.process,
-        step_title(alloc, step)?,
-    )
+    let title = step_title(alloc, step)?;
+    push_at(signs, mark, step.event, step.process, title)
 }
 
 /// Adds the label of a call, and where it has returned its counts.
@@ -200,12 +188,9 @@ fn push_texts(alloc: Global, bar: &Bar, signs: &mut Signs) -> Result<(), AllocEr
     let process = u64::from(bar.call.process);
     push_at(signs, Mark::Label, bar.from, process, label_of(alloc, bar)?)?;
     if let Some(end) = &bar.end {
-        signs.push(Sign {
-            mark: Mark::Counts,
-            columns: (Edge::Start, Edge::After(end.event)),
-            lanes: Some((process, process)),
-            text: counts_of(alloc, end)?,
-        })?;
+        let columns = (Edge::Start, Edge::After(end.event));
+        let text = counts_of(alloc, end)?;
+        push_sign(signs, Mark::Counts, columns, Some((process, process)), text)?;
     }
     Ok(())
 }
@@ -266,12 +251,14 @@ fn push_refusal(alloc: Global, told: &Told, signs: &mut Signs) -> Result<(), All
         ≡ map sign_shown signs.old.items ++ refusal_signs (told_shown told.now)) }
 {
     if let Some(label) = &told.label {
-        signs.push(Sign {
-            mark: Mark::Refusal,
-            columns: (after_events(told.before), Edge::Before(told.before)),
-            lanes: None,
-            text: label.as_slice().to_vec(alloc)?,
-        })?;
+        let columns = (after_events(told.before), Edge::Before(told.before));
+        push_sign(
+            signs,
+            Mark::Refusal,
+            columns,
+            None,
+            label.as_slice().to_vec(alloc)?,
+        )?;
     }
     Ok(())
 }
@@ -289,10 +276,10 @@ pub fn signs_of(
     let mut signs = Vec::new(alloc);
     push_new_names(alloc, &marks.eras, &mut signs)?;
     for line in &marks.lines {
-        signs.push(line_sign(alloc, line)?)?;
+        push_line(alloc, line, &mut signs)?;
     }
     for bar in &marks.bars {
-        signs.push(bar_sign(alloc, marks.events, bar))?;
+        push_bar(alloc, marks.events, bar, &mut signs)?;
     }
     for dot in &marks.dots {
         push_arrow(alloc, *dot, &mut signs)?;

@@ -19,7 +19,7 @@ use std::alloc::{AllocError, Global};
 use std::fmt;
 use uni_record::Recorded;
 use uni_script::{
-    BenchFault, ObjectName, Options, PlacedRemark, ScriptRecord, ScriptRun, TextIn, run_of_object,
+    BenchFault, Options, PlacedRemark, ScriptRecord, ScriptRun, TextIn, run_of_object,
     run_of_script,
 };
 
@@ -136,36 +136,12 @@ fn marks_of_record(
     ensures memory { (e : Fault) → IsErrOf result (PictureFault.Script e) → e ≡ Fault.Memory }
 {
     match stored {
-        ScriptRecord::Queue(recorded) => {
-            marks_of_events(
-                alloc,
-                range,
-                ObjectName::Queue.word(),
-                QueueObject,
-                recorded,
-            )
+        ScriptRecord::Queue(run) => marks_of_events(alloc, range, "queue", QueueObject, run),
+        ScriptRecord::Directory(run) => {
+            marks_of_events(alloc, range, "directory", DirectoryObject, run)
         }
-        ScriptRecord::Directory(recorded) => {
-            marks_of_events(
-                alloc,
-                range,
-                ObjectName::Directory.word(),
-                DirectoryObject,
-                recorded,
-            )
-        }
-        ScriptRecord::Book(recorded) => {
-            marks_of_events(alloc, range, ObjectName::Book.word(), BookObject, recorded)
-        }
-        ScriptRecord::Sticky(recorded) => {
-            marks_of_events(
-                alloc,
-                range,
-                ObjectName::Sticky.word(),
-                StickyObject,
-                recorded,
-            )
-        }
+        ScriptRecord::Book(run) => marks_of_events(alloc, range, "book", BookObject, run),
+        ScriptRecord::Sticky(run) => marks_of_events(alloc, range, "sticky", StickyObject, run),
     }
 }
 

@@ -1,3 +1,2 @@
 pub mod Vocabulary
 pub mod Painting
-pub mod Pieces

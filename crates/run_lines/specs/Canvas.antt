@@ -1,47 +1,27 @@
 -- Rows of letters, upon which strokes are put one after the other.
 use Rattle.std.specs.Prelude.{◌≡◌, ℕ, ◌+◌, ◌-◌, ◌==◌, ◌&&◌, ◌||◌, if◌then◌else◌, nat_le, nat_lt, Bool}
-use Rattle.std.specs.Prelude.{List, [], ◌∷◌, ◌++◌, length, map, fold, slice_index, Some, codes, refl}
+use Rattle.std.specs.Prelude.{List, [], ◌∷◌, ◌++◌, length, map, fold, slice_index, Some, Vec, codes, refl}
 use Rattle.std.specs.List.{range_with_len}
+use Rattle.std.specs.declared.alloc.Global.{Global}
 use Rattle.signs.specs.declared.sign.Look.{Look}
 use Rattle.signs.specs.declared.sign.Look.TheVariants as look
 use Rattle.signs.specs.Signs.{Outline}
-use Rattle.run_lines.specs.declared.canvas.Ink as code_ink
-use Rattle.run_lines.specs.declared.canvas.Ink.TheVariants as ink
-use Rattle.run_lines.specs.declared.canvas.Stroke as code
+use Rattle.run_lines.specs.declared.canvas.Ink.{Ink}
+use Rattle.run_lines.specs.declared.canvas.Ink.TheVariants.{Text, Bar, Line, Arrow}
+use Rattle.run_lines.specs.declared.canvas.Stroke.{Stroke}
 
--- what a stroke has: a text, a bar that is so wide, a line, or the line of an arrow, which is behind what stands there
-pub data Ink : Type 0 where
-  Text : (text : List ℕ) → Ink
-  Bar : (width : ℕ) → Ink
-  Line : Ink
-  Arrow : Ink
-
--- a stroke stands in each row from `top` to before `bottom`, from a column on
-pub record Stroke : Type 0 where
-  pub top : ℕ
-  pub bottom : ℕ
-  pub column : ℕ
-  pub ink : Ink
-
--- what the code's are
-abbrev pub ink_shown : code_ink.Ink → Ink
-ink_shown (ink.Text text) = Text text.items
-ink_shown (ink.Bar width) = Bar width
-ink_shown ink.Line = Line
-ink_shown ink.Arrow = Arrow
-
-abbrev pub stroke_shown : code.Stroke → Stroke
-stroke_shown s = record { top = s.top; bottom = s.bottom; column = s.column; ink = ink_shown s.ink }
+-- a stroke stands in each row from `top` to before `bottom`, from a column on: a text, a bar that is so wide, a line, or the line of an
+-- arrow, which is behind what stands there
 
 -- how many letters it has, and each of them
 abbrev pub width_of : Ink → ℕ
-width_of (Text text) = length text
+width_of (Text text) = length text.items
 width_of (Bar width) = width
 width_of Line = 1
 width_of Arrow = 1
 
 abbrev pub letter_in : Ink → (place : ℕ) → ℕ
-letter_in (Text text) place = slice_index text place
+letter_in (Text text) place = slice_index text.items place
 letter_in (Bar width) place = if place == 0 then 91 else 45
 letter_in Line place = 124
 letter_in Arrow place = 124
@@ -85,7 +65,7 @@ look_of Line = look.End
 look_of Arrow = look.Arrow
 
 abbrev pub text_of : Ink → List ℕ
-text_of (Text text) = text
+text_of (Text text) = text.items
 text_of _ = []
 
 -- the column after it, or after the first letter of a text
@@ -105,17 +85,18 @@ outline_of stroke =
     }
 
 -- an open bar from column 1 on, then a letter upon it, then a line behind both in all rows
-abbrev three : List Stroke
-three =
-    record { top = 1; bottom = 2; column = 1; ink = Bar 4 }
-    ∷ record { top = 1; bottom = 2; column = 2; ink = Text (codes "A") }
-    ∷ record { top = 0; bottom = 3; column = 3; ink = Arrow } ∷ []
+module _ (letter : Vec ℕ Global) (is_letter : letter.items ≡ codes "A") where
+  abbrev three : List Stroke
+  three =
+      record { top = 1; bottom = 2; column = 1; ink = Bar 4 }
+      ∷ record { top = 1; bottom = 2; column = 2; ink = Text letter }
+      ∷ record { top = 0; bottom = 3; column = 3; ink = Arrow } ∷ []
 
-rows_of_three : rows_of three 5 3 ≡ codes "   | " ∷ codes " [A|-" ∷ codes "   | " ∷ []
-unfolding rows_of letter_at
-rows_of_three = refl
+  rows_of_three : rows_of three 5 3 ≡ codes "   | " ∷ codes " [A|-" ∷ codes "   | " ∷ []
+  unfolding rows_of letter_at
+  rows_of_three = rw is_letter refl
 
--- what is behind a letter isn't seen
-letter_before_line : letter_at (three ++ record { top = 0; bottom = 3; column = 2; ink = Arrow } ∷ []) 1 2 ≡ 65
-unfolding letter_at
-letter_before_line = refl
+  -- what is behind a letter isn't seen
+  letter_before_line : letter_at (three ++ record { top = 0; bottom = 3; column = 2; ink = Arrow } ∷ []) 1 2 ≡ 65
+  unfolding letter_at
+  letter_before_line = rw is_letter refl

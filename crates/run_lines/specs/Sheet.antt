@@ -14,7 +14,8 @@ use Rattle.run_layout.specs.Wrapping.{lines_of}
 use Rattle.run_lines.specs.declared.numbering.Numbering.{Numbering}
 use Rattle.run_lines.specs.declared.sheet.Block.{Block}
 use Rattle.run_lines.specs.Numbers.{numbering_after, no_notes}
-use Rattle.run_lines.specs.Canvas.{Stroke, outline_of, rows_of}
+use Rattle.run_lines.specs.declared.canvas.Stroke.{Stroke}
+use Rattle.run_lines.specs.Canvas.{outline_of, rows_of}
 use Rattle.run_lines.specs.Parts.{parts_of_run}
 
 -- ---- lines of text

@@ -2,8 +2,8 @@
 //! Where no more is said, an `Err` says that memory was refused.
 
 ghost use Rattle.std.specs.Prelude.{◌≡◌, ◌<◌, ℕ, IfOk, IfSome, length, map, slice_index};
-ghost use Rattle.run_lines.specs.Canvas.{ink_shown, is_in_row, letter_in, letter_over, letter_seen, outline_of, row_of};
-ghost use Rattle.run_lines.specs.Canvas.{right_of, rows_of, stroke_shown, width_of};
+ghost use Rattle.run_lines.specs.Canvas.{is_in_row, letter_in, letter_over, letter_seen, outline_of, right_of};
+ghost use Rattle.run_lines.specs.Canvas.{row_of, rows_of, width_of};
 
 use signs::{Look, Seen, Span, holds};
 use std::alloc::{AllocError, Global};
@@ -24,7 +24,7 @@ pub enum Ink {
 impl Ink {
     /// How wide it is.
     fn width(&self) -> u64
-        ensures { result ≡ width_of (ink_shown self.now) }
+        ensures { result ≡ width_of self.now }
     {
         match self {
             Ink::Text(text) => text.len() as u64,
@@ -35,8 +35,8 @@ impl Ink {
 
     /// A letter, by its place from 0.
     fn letter(&self, place: usize) -> u8
-        requires { place < width_of (ink_shown self.now) }
-        ensures { result ≡ letter_in (ink_shown self.now) place }
+        requires { place < width_of self.now }
+        ensures { result ≡ letter_in self.now place }
     {
         match self {
             Ink::Text(text) => text[place],
@@ -47,7 +47,7 @@ impl Ink {
 
     /// The letter that is seen where one meets one that stands there.
     fn seen(&self, under: u8, letter: u8) -> u8
-        ensures { result ≡ letter_seen (ink_shown self.now) under letter }
+        ensures { result ≡ letter_seen self.now under letter }
     {
         match self {
             Ink::Arrow if under != b' ' && under != b'-' => under,
@@ -72,7 +72,7 @@ pub struct Stroke {
 impl Stroke {
     /// Whether it stands in a row.
     fn is_in_row(&self, row: u64) -> bool
-        ensures { result ≡ is_in_row row (stroke_shown self.now) }
+        ensures { result ≡ is_in_row row self.now }
     {
         self.top <= row && row < self.bottom
     }
@@ -91,8 +91,7 @@ impl Stroke {
     /// Puts its letters upon those of a row, as far as they go.
     fn put(&self, letters: &mut [u8])
         ensures { (column : ℕ) → column < length letters.old
-            → slice_index letters.new column ≡ letter_over (stroke_shown self.now) column
-            (slice_index letters.old column) }
+            → slice_index letters.new column ≡ letter_over self.now column (slice_index letters.old column) }
     {
         let from = (self.column as usize).min(letters.len());
         let count = (self.ink.width() as usize).min(letters.len() - from);
@@ -104,7 +103,7 @@ impl Stroke {
 
     /// The column after it; after its first letter for a text.
     fn right(&self) -> Option<u64>
-        ensures { IfSome result (λ right. right ≡ right_of (stroke_shown self.now)) }
+        ensures { IfSome result (λ right. right ≡ right_of self.now) }
     {
         match &self.ink {
             Ink::Bar(width) => self.column.checked_add(*width),
@@ -114,9 +113,9 @@ impl Stroke {
 }
 
 impl Seen for Stroke {
-    ghost use Rattle.run_lines.specs.Canvas.{outline_of, stroke_shown};
+    ghost use Rattle.run_lines.specs.Canvas.{outline_of};
 
-    ghost seen = { λ stroke. outline_of (stroke_shown stroke) };
+    ghost seen = { λ stroke. outline_of stroke };
 
     fn look(&self) -> Option<Look> {
         match &self.ink {
@@ -146,7 +145,7 @@ impl Seen for Stroke {
 
 /// A row of so many letters, painted by strokes one after the other.
 fn row_of(alloc: Global, strokes: &[Stroke], width: usize, row: u64) -> Result<Vec<u8>, AllocError>
-    ensures { IfOk result (λ letters. letters.items ≡ row_of (map stroke_shown strokes.now) width row) }
+    ensures { IfOk result (λ letters. letters.items ≡ row_of strokes.now width row) }
 {
     let mut letters = vec![in alloc; b' '; width]?;
     for stroke in strokes {
@@ -165,7 +164,7 @@ pub fn rows_of(
     count: u64,
 ) -> Result<Vec<Vec<u8>>, AllocError>
     ensures { IfOk result (λ rows. map (λ row. row.items) rows.items
-        ≡ rows_of (map stroke_shown strokes.now) width count) }
+        ≡ rows_of strokes.now width count) }
 {
     let mut rows = Vec::new(alloc);
     for row in 0..count {

@@ -1,12 +1,12 @@
 //! From the bytes of a script to the lines that draw its run.
 
-ghost use Rattle.std.specs.Prelude.{◌≡◌, ◌≤◌, IfOk, IsErrOf, false, length};
+ghost use Rattle.std.specs.Prelude.{◌≡◌, IfOk, IsErrOf, false};
 ghost use Rattle.uni_script.specs.Objects.{spoken};
 ghost use Rattle.uni_script.specs.Replay.{HasFault, IsFaultOfScript};
 ghost use Rattle.uni_script.specs.Scripts.{scripts_of, own_scripts_of};
 ghost use Rattle.uni_script.specs.declared.fault.BenchFault.{BenchFault as Fault};
 ghost use Rattle.run_replay.specs.MarksShown.{marks_shown};
-ghost use Rattle.run_layout.specs.Choice.{chosen, chosen_remarks, count_in};
+ghost use Rattle.run_layout.specs.Choice.{chosen, chosen_remarks};
 ghost use Rattle.run_layout.specs.Subject.{HasTooManyEvents, HasMoreEvents, marks_of_own};
 ghost use Rattle.run_lines.specs.Lines.{IsLines, IsLinesOf};
 ghost use Rattle.run_lines.specs.Sheet.{IsTextOf};
@@ -26,8 +26,6 @@ fn text_of_subject(
     columns: u64,
     subject: Subject,
 ) -> Result<Vec<u8>, PictureFault>
-    requires events { count_in range subject.marks.events ≤ 2000 }
-    requires remarks { length subject.remarks.items ≤ 100000 }
     ensures text { IfOk result (λ text. IsTextOf columns (chosen range (marks_shown subject.marks))
         (chosen_remarks range subject.remarks.items) text.items) }
     ensures few { IsErrOf result PictureFault.TooManyEvents → ⊥ }

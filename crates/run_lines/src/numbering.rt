@@ -1,7 +1,7 @@
 //! The numbers of notes.
 
 ghost use Rattle.std.specs.Prelude.{◌≡◌, ◌+◌, ◌<◌, ◌≤◌, ◌^◌};
-ghost use Rattle.run_lines.specs.Numbers.{no_notes, note_number, numbering_after};
+ghost use Rattle.run_lines.specs.Numbers.{no_notes, numbering_after};
 
 use uni_script::{PlacedRemark, Remark};
 
@@ -25,30 +25,18 @@ impl Numbering {
         }
     }
 
-    /// The number of a note with so many events before it: notes that nothing stands between have one.
-    fn note_number(self, before: u64) -> u64
-        requires { self.number + 1 < 2 ^ 64 }
-        ensures small { result ≤ self.number + 1 }
-        ensures number { result ≡ note_number self before }
-    {
-        match self.last {
-            Some(last) if last == before => self.number,
-            _ => self.number + 1,
-        }
-    }
-
-    /// After one more remark.
+    /// After one more remark: notes that nothing stands between have one number.
     pub fn after(self, one: &PlacedRemark) -> Numbering
-        requires { self.number + 1 < 2 ^ 64 }
         ensures small { result.number ≤ self.number + 1 }
-        ensures after { result ≡ numbering_after self one.now }
+        ensures after { self.number + 1 < 2 ^ 64 → result ≡ numbering_after self one.now }
     {
-        match one.remark {
-            Remark::Note(_) => Numbering {
-                number: self.note_number(one.before),
+        match (&one.remark, self.last) {
+            (Remark::Note(_), Some(last)) if last == one.before => self,
+            (Remark::Note(_), _) => Numbering {
+                number: self.number.saturating_add(1),
                 last: Some(one.before),
             },
-            Remark::Heading(_) | Remark::Refused { .. } => Numbering {
+            _ => Numbering {
                 number: self.number,
                 last: None,
             },

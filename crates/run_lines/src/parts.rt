@@ -139,12 +139,11 @@ fn push_numbers(
     remarks: &[PlacedRemark],
     parts: &mut Vec<Part>,
 ) -> Result<(), AllocError>
-    requires { length remarks.now ≤ 100000 }
     ensures { OnOk result (map meaning parts.new.items
         ≡ map meaning parts.old.items ++ numbers_from no_notes remarks.now) }
 {
     let mut numbering = Numbering::none();
-    for one in remarks {
+    for (_, one) in remarks.iter().enumerate() {
         numbering = numbering.after(one);
         push_number(alloc, numbering.number, one, parts)?;
     }
@@ -157,7 +156,6 @@ pub fn parts_of_run(
     marks: &Marks,
     remarks: &[PlacedRemark],
 ) -> Result<Vec<Part>, AllocError>
-    requires { length remarks.now ≤ 100000 }
     ensures { IfOk result (λ parts. map meaning parts.items ≡ parts_of_run (marks_shown marks.now) remarks.now) }
 {
     let mut parts = Vec::new(alloc);

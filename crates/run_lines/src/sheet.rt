@@ -6,10 +6,8 @@ ghost use Rattle.std.specs.List.{flat_map};
 ghost use Rattle.signs.specs.Signs.{meaning, places_shown};
 ghost use Rattle.uni_script.specs.declared.fault.BenchFault.{BenchFault as Fault};
 ghost use Rattle.run_replay.specs.MarksShown.{marks_shown};
-ghost use Rattle.run_lines.specs.Canvas.{stroke_shown};
-ghost use Rattle.run_lines.specs.Sheet.{AreSide, HasText, IsTextOf, ShowsRows, above_text};
-ghost use Rattle.run_lines.specs.Sheet.{below_text, block_text, bottom_row};
-ghost use Rattle.run_lines.specs.Sheet.{named_row, part_of, row_name, row_text, rows_text_of, shown_line, trimmed};
+ghost use Rattle.run_lines.specs.Sheet.{AreSide, HasText, IsTextOf, ShowsRows, block_text, bottom_row, part_of};
+ghost use Rattle.run_lines.specs.Sheet.{row_name, row_text, rows_text_of, trimmed};
 
 use crate::canvas::{Stroke, rows_of};
 use crate::parts::{layered, parts_of_run};
@@ -18,8 +16,8 @@ use crate::texts::{
     legend_of, push_eras, push_headings, push_line, push_notes, push_padded, push_wrapped,
 };
 use run_layout::{
-    MOST_LANES, PictureFault, Scale, Side, Stretch, any_unchanged, axis_of, kinds_of,
-    lanes_between, name_of, signs_of, title_of,
+    PictureFault, Scale, Side, Stretch, any_unchanged, axis_of, kinds_of, lanes_between, name_of,
+    signs_of, title_of,
 };
 use run_replay::Marks;
 use signs::{Layout, Part, are_shown};
@@ -38,6 +36,9 @@ const NARROW: Scale = Scale {
     step: 1,
     letter: 1,
     mark: 2,
+    margin: 1,
+    top: ABOVE,
+    lane: LANE,
 };
 
 /// A block of columns.
@@ -85,28 +86,9 @@ fn trimmed(text: &[u8]) -> &[u8]
     &text[..end]
 }
 
-/// A row behind the name of its lane, where it has one.
-fn named_row(alloc: Global, named: u64, row: u64, letters: &[u8]) -> Result<Vec<u8>, AllocError>
-    ensures { IfOk result (λ line. line.items ≡ named_row named row letters.now) }
-{
-    let mut line = Vec::new(alloc);
-    push_padded(alloc, &row_name(alloc, named, row)?, NAMES, &mut line)?;
-    line.extend_from_slice(letters)?;
-    Ok(line)
-}
-
-/// Adds the line of a row; one above the lanes is left out where it is empty.
-fn push_shown(row: u64, line: &[u8], text: &mut Vec<u8>) -> Result<(), AllocError>
-    ensures { OnOk result (text.new.items ≡ text.old.items ++ shown_line row line.now) }
-{
-    if row < ABOVE && line.is_empty() {
-        return Ok(());
-    }
-    push_line(line, text)
-}
-
 /// Adds a row behind the name of its lane, without the blanks at its end; above the lanes a blank one is
 /// left out.
+#[tactic(auto, unfolding(crate::specs::Sheet::row_text))]
 fn push_row(
     alloc: Global,
     named: u64,
@@ -116,8 +98,14 @@ fn push_row(
 ) -> Result<(), AllocError>
     ensures { OnOk result (text.new.items ≡ text.old.items ++ row_text named row letters.now) }
 {
-    let line = named_row(alloc, named, row, letters)?;
-    push_shown(row, trimmed(&line), text)
+    let mut line = Vec::new(alloc);
+    push_padded(alloc, &row_name(alloc, named, row)?, NAMES, &mut line)?;
+    line.extend_from_slice(letters)?;
+    let line = trimmed(&line);
+    if row < ABOVE && line.is_empty() {
+        return Ok(());
+    }
+    push_line(line, text)
 }
 
 /// Of the left edges of so many columns, which a text goes across.
@@ -147,12 +135,12 @@ fn block_width(columns: u64, crossed: &[bool], from: usize) -> usize {
 fn blocks_of(
     alloc: Global,
     columns: u64,
-    width: u32,
+    width: u64,
     stretches: &[Stretch],
     strokes: &[Stroke],
 ) -> Result<Vec<Block>, AllocError> {
     let width = width as usize;
-    let crossed = edges_crossed(alloc, strokes, width + MOST_COLUMNS as usize)?;
+    let crossed = edges_crossed(alloc, strokes, width.saturating_add(MOST_COLUMNS as usize))?;
     let mut blocks = Vec::new(alloc);
     let mut from = 0;
     for _ in 0..width {
@@ -182,20 +170,15 @@ pub fn sketch_of(
     columns: u64,
     marks: &Marks,
     remarks: &[PlacedRemark],
-) -> Result<Sketch, AllocError>
-    requires events { marks.now.events ≤ 2000 }
-    requires remarks { length remarks.now ≤ 100000 }
-{
+) -> Result<Sketch, AllocError> {
     let axis = axis_of(alloc, marks, remarks, NARROW)?;
-    let width = axis.end.saturating_add(1);
-    let end = u64::from(width);
-    let layout = axis.layout(alloc, end, ABOVE, LANE, marks.lanes().min(MOST_LANES))?;
     let signs = layered(alloc, signs_of(alloc, marks, remarks)?)?;
     let mut strokes = Vec::new(alloc);
-    push_signs(alloc, &layout, signs, &mut strokes)?;
+    push_signs(alloc, &axis.layout, signs, &mut strokes)?;
     push_numbers(alloc, remarks, &axis, &mut strokes)?;
-    let stretches = axis.stretches(alloc, &marks.eras, 0, end, Side::Left)?;
-    let blocks = blocks_of(alloc, columns, width, &stretches, &strokes)?;
+    let stretches = axis.stretches(alloc, &marks.eras, 0, Side::Left)?;
+    let layout = axis.layout;
+    let blocks = blocks_of(alloc, columns, layout.width, &stretches, &strokes)?;
     Ok(Sketch {
         strokes,
         layout,
@@ -218,10 +201,9 @@ fn are_side(from: u64, to: u64, blocks: &[Block]) -> bool
 }
 
 /// Whether strokes are these, and blocks show all columns.
-#[tactic(auto, using(crate::proofs::Pieces::shown_strokes))]
 fn shows(parts: &[Part], sketch: &Sketch) -> bool
     ensures { IsTrue result → ShowsRows (places_shown sketch.now.layout) (map meaning parts.now)
-        (map stroke_shown sketch.now.strokes.items) sketch.now.blocks.items }
+        sketch.now.strokes.items sketch.now.blocks.items }
 {
     sketch.layout.is_apart()
         && are_shown(&sketch.layout, parts, &sketch.strokes)
@@ -229,6 +211,7 @@ fn shows(parts: &[Part], sketch: &Sketch) -> bool
 }
 
 /// The letters of a row in a block.
+#[tactic(auto, using(std::proofs::lemmas::List::drop_min, std::proofs::lemmas::List::take_min))]
 fn part_of(letters: &[u8], block: Block) -> &[u8]
     ensures { result.now ≡ part_of block letters.now }
 {
@@ -238,6 +221,7 @@ fn part_of(letters: &[u8], block: Block) -> &[u8]
 }
 
 /// The rows above the lanes and those of so many lanes.
+#[tactic(auto, using(std::proofs::lemmas::List::take_min))]
 fn rows_drawn(rows: &[Vec<u8>], lanes: u8) -> &[Vec<u8>]
     ensures { result.now ≡ take (bottom_row lanes) rows.now }
 {
@@ -284,51 +268,7 @@ fn push_blocks(
     Ok(())
 }
 
-/// Adds what stands above the rows: the title and the headings.
-fn push_above(
-    alloc: Global,
-    columns: u64,
-    marks: &Marks,
-    remarks: &[PlacedRemark],
-    text: &mut Vec<u8>,
-) -> Result<(), AllocError>
-    ensures { OnOk result (text.new.items
-        ≡ text.old.items ++ above_text columns (marks_shown marks.now) remarks.now) }
-{
-    push_wrapped(alloc, columns, &title_of(alloc, marks)?, text)?;
-    push_headings(alloc, columns, remarks, text)
-}
-
-/// Adds the rows of a sketch, and a blank line.
-fn push_sketch(alloc: Global, sketch: &Sketch, text: &mut Vec<u8>) -> Result<(), AllocError>
-    ensures { OnOk result (text.new.items ≡ text.old.items ++ rows_text_of (places_shown sketch.now.layout)
-        (map stroke_shown sketch.now.strokes.items) sketch.now.blocks.items) }
-{
-    let width = sketch.layout.width as usize;
-    let rows = rows_of(alloc, &sketch.strokes, width, sketch.layout.height)?;
-    push_blocks(alloc, &rows, &sketch.blocks, text)?;
-    text.push(b'\n')?;
-    Ok(())
-}
-
-/// Adds what stands below the rows: the notes and the eras.
-fn push_below(
-    alloc: Global,
-    columns: u64,
-    marks: &Marks,
-    remarks: &[PlacedRemark],
-    text: &mut Vec<u8>,
-) -> Result<(), AllocError>
-    requires { length remarks.now ≤ 100000 }
-    ensures { OnOk result (text.new.items
-        ≡ text.old.items ++ below_text columns (marks_shown marks.now) remarks.now) }
-{
-    push_notes(alloc, columns, remarks, text)?;
-    push_eras(alloc, columns, &marks.dots, &marks.eras, text)
-}
-
-/// The text of a sketch, with what stands above and below its rows.
-#[tactic(auto, using(crate::proofs::Pieces::has_text))]
+/// The text of a sketch: the title and the headings, its rows and a blank line, the notes, the eras and the legend.
 fn text_of(
     alloc: Global,
     columns: u64,
@@ -336,15 +276,19 @@ fn text_of(
     remarks: &[PlacedRemark],
     sketch: &Sketch,
 ) -> Result<Vec<u8>, AllocError>
-    requires remarks { length remarks.now ≤ 100000 }
     ensures { IfOk result (λ text. HasText columns (marks_shown marks.now) remarks.now
-        (rows_text_of (places_shown sketch.now.layout) (map stroke_shown sketch.now.strokes.items)
+        (rows_text_of (places_shown sketch.now.layout) sketch.now.strokes.items
         sketch.now.blocks.items) text.items) }
 {
     let mut text = Vec::new(alloc);
-    push_above(alloc, columns, marks, remarks, &mut text)?;
-    push_sketch(alloc, sketch, &mut text)?;
-    push_below(alloc, columns, marks, remarks, &mut text)?;
+    push_wrapped(alloc, columns, &title_of(alloc, marks)?, &mut text)?;
+    push_headings(alloc, columns, remarks, &mut text)?;
+    let width = sketch.layout.width as usize;
+    let rows = rows_of(alloc, &sketch.strokes, width, sketch.layout.height)?;
+    push_blocks(alloc, &rows, &sketch.blocks, &mut text)?;
+    text.push(b'\n')?;
+    push_notes(alloc, columns, remarks, &mut text)?;
+    push_eras(alloc, columns, &marks.dots, &marks.eras, &mut text)?;
     let kinds = kinds_of(alloc, &marks.steps)?;
     let legend = legend_of(alloc, columns, &kinds, any_unchanged(&marks.steps))?;
     text.extend_from_slice(&legend)?;
@@ -362,7 +306,6 @@ pub fn tried(
     remarks: &[PlacedRemark],
     sketch: &Sketch,
 ) -> Result<Vec<u8>, PictureFault>
-    requires remarks { length remarks.now ≤ 100000 }
     ensures text { IfOk result (λ text. IsTextOf columns (marks_shown marks.now) remarks.now text.items) }
     ensures few { IsErrOf result PictureFault.TooManyEvents → ⊥ }
     ensures memory { (e : Fault) → IsErrOf result (PictureFault.Script e) → e ≡ Fault.Memory }

@@ -1,12 +1,10 @@
 //! The strokes of signs, from the lowest on. Where no more is said, an `Err` says that memory was refused.
 
-ghost use Rattle.std.specs.Prelude.{◌≤◌, length};
-
 use crate::canvas::{Ink, Stroke};
 use crate::numbering::Numbering;
 use crate::parts::{refusal_text, step_letter};
 use run_layout::{Axis, Mark, Sign, letters};
-use signs::{FURTHEST, Layout, Span};
+use signs::Layout;
 use std::alloc::{AllocError, Global};
 use std::io::Write;
 use uni_script::{PlacedRemark, Remark};
@@ -33,20 +31,21 @@ fn push_stroke(
     })?)
 }
 
-/// Adds a stroke in one row.
-fn push_ink(strokes: &mut Vec<Stroke>, row: u64, column: u64, ink: Ink) -> Result<(), AllocError> {
+/// Adds a stroke in one row, so far below another.
+fn push_ink(
+    strokes: &mut Vec<Stroke>,
+    top: u64,
+    down: u64,
+    column: u64,
+    ink: Ink,
+) -> Result<(), AllocError> {
+    let row = top.saturating_add(down);
     push_stroke(strokes, (row, row.saturating_add(1)), column, ink)
 }
 
-/// Adds a letter.
-fn push_letter(
-    alloc: Global,
-    strokes: &mut Vec<Stroke>,
-    row: u64,
-    column: u64,
-    letter: u8,
-) -> Result<(), AllocError> {
-    push_ink(strokes, row, column, Ink::Text([letter].to_vec(alloc)?))
+/// A letter.
+fn letter(alloc: Global, letter: u8) -> Result<Ink, AllocError> {
+    Ok(Ink::Text([letter].to_vec(alloc)?))
 }
 
 /// Adds a sign, with a refusal no further left than `free`, which is moved on.
@@ -57,42 +56,48 @@ fn push_sign(
     free: &mut u64,
     strokes: &mut Vec<Stroke>,
 ) -> Result<(), AllocError> {
-    let Span {
-        from: left,
-        to: right,
-    } = layout.wide(sign.columns).bounded();
-    let Span { from: row, to: end } = layout.high(sign.lanes).bounded();
-    let lower = end.saturating_sub(LANE);
+    let (wide, high) = (layout.wide(sign.columns), layout.high(sign.lanes));
+    let (left, row) = (wide.from, high.from);
+    let lower = high.to.saturating_sub(LANE);
     let text = sign.text;
     match sign.mark {
-        Mark::Name => push_ink(strokes, row + 1, left + 1, Ink::Text(text)),
+        Mark::Name => push_ink(strokes, row, 1, left.saturating_add(1), Ink::Text(text)),
         Mark::End => {
-            push_stroke(strokes, (ABOVE, end), left, Ink::Line)?;
-            push_ink(strokes, ABOVE - 1, left, Ink::Text(text))
+            push_stroke(strokes, (ABOVE, high.to), left, Ink::Line)?;
+            push_ink(strokes, ABOVE - 1, 0, left, Ink::Text(text))
         }
         Mark::Bar | Mark::Open => {
-            push_ink(strokes, row + 1, left, Ink::Bar(right.saturating_sub(left)))
-        }
-        Mark::Down => push_stroke(strokes, (row + 2, lower + 2), left, Ink::Arrow),
-        Mark::Up => push_stroke(strokes, (row + 3, lower + 1), left, Ink::Arrow),
-        Mark::Step(kind, changed) => {
-            push_letter(alloc, strokes, row + 1, left, step_letter(kind, changed))
-        }
-        Mark::Dot => push_letter(alloc, strokes, row + 2, left, b'*'),
-        Mark::Label => push_ink(strokes, row, left, Ink::Text(text)),
-        Mark::Counts => {
-            let column = right.saturating_sub(text.len() as u64);
-            push_ink(strokes, row + 3, column, Ink::Text(text))
-        }
-        Mark::Refusal => {
-            let column = left.max((*free).min(FURTHEST));
-            *free = column + u64::from(letters(&text)) + 3;
             push_ink(
                 strokes,
-                ABOVE - 1,
-                column,
-                Ink::Text(refusal_text(alloc, &text)?),
+                row,
+                1,
+                left,
+                Ink::Bar(wide.to.saturating_sub(left)),
             )
+        }
+        Mark::Down => {
+            let rows = (row.saturating_add(2), lower.saturating_add(2));
+            push_stroke(strokes, rows, left, Ink::Arrow)
+        }
+        Mark::Up => {
+            let rows = (row.saturating_add(3), lower.saturating_add(1));
+            push_stroke(strokes, rows, left, Ink::Arrow)
+        }
+        Mark::Step(kind, changed) => {
+            let ink = letter(alloc, step_letter(kind, changed))?;
+            push_ink(strokes, row, 1, left, ink)
+        }
+        Mark::Dot => push_ink(strokes, row, 2, left, letter(alloc, b'*')?),
+        Mark::Label => push_ink(strokes, row, 0, left, Ink::Text(text)),
+        Mark::Counts => {
+            let column = wide.to.saturating_sub(text.len() as u64);
+            push_ink(strokes, row, 3, column, Ink::Text(text))
+        }
+        Mark::Refusal => {
+            let column = left.max(*free);
+            *free = column.saturating_add(letters(&text)).saturating_add(3);
+            let ink = Ink::Text(refusal_text(alloc, &text)?);
+            push_ink(strokes, ABOVE - 1, 0, column, ink)
         }
     }
 }
@@ -117,17 +122,14 @@ pub fn push_numbers(
     remarks: &[PlacedRemark],
     axis: &Axis,
     strokes: &mut Vec<Stroke>,
-) -> Result<(), AllocError>
-    requires { length remarks.now ≤ 100000 }
-{
+) -> Result<(), AllocError> {
     let mut numbering = Numbering::none();
     for (place, one) in remarks.iter().enumerate() {
         numbering = numbering.after(one);
         if let Remark::Note(_) = &one.remark {
             let mut text = Vec::new(alloc);
             write!(text, "{}", numbering.number).map_err(|_| AllocError)?;
-            let column = u64::from(axis.remark(place).left);
-            push_ink(strokes, 0, column, Ink::Text(text))?;
+            push_ink(strokes, 0, 0, axis.remark(place), Ink::Text(text))?;
         }
     }
     Ok(())

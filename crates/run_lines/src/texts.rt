@@ -5,7 +5,7 @@ ghost use Rattle.std.specs.Prelude.{◌≡◌, ◌++◌, ◌+◌, ◌<◌, ◌�
 ghost use Rattle.run_replay.specs.MarksShown.{cell_shown, era_shown};
 ghost use Rattle.run_lines.specs.Numbers.{no_notes};
 ghost use Rattle.run_lines.specs.Sheet.{ended, wrapped, padded, headings_text, numbered_note, notes_from, state_text};
-ghost use Rattle.run_lines.specs.Sheet.{cell_line, cell_text, era_text, eras_from};
+ghost use Rattle.run_lines.specs.Sheet.{cell_line, era_text, eras_from};
 
 use crate::numbering::Numbering;
 use run_layout::{cell_name, cell_state, cell_words, letter_of, meaning_of, push_lines};
@@ -107,11 +107,10 @@ pub fn push_notes(
     remarks: &[PlacedRemark],
     text: &mut Vec<u8>,
 ) -> Result<(), AllocError>
-    requires { length remarks.now ≤ 100000 }
     ensures { OnOk result (text.new.items ≡ text.old.items ++ notes_from columns no_notes remarks.now) }
 {
     let mut numbering = Numbering::none();
-    for one in remarks {
+    for (_, one) in remarks.iter().enumerate() {
         numbering = numbering.after(one);
         if let Remark::Note(note) = &one.remark {
             push_note(alloc, columns, numbering.number, note, text)?;
@@ -147,19 +146,6 @@ fn cell_line(alloc: Global, dots: &[Dot], cell: &CellBox) -> Result<Vec<u8>, All
     Ok(line)
 }
 
-/// Adds a cell, in lines.
-fn push_cell(
-    alloc: Global,
-    columns: u64,
-    dots: &[Dot],
-    cell: &CellBox,
-    text: &mut Vec<u8>,
-) -> Result<(), AllocError>
-    ensures { OnOk result (text.new.items ≡ text.old.items ++ cell_text columns dots.now (cell_shown cell.now)) }
-{
-    push_wrapped(alloc, columns, &cell_line(alloc, dots, cell)?, text)
-}
-
 /// Adds an era, with its place among the eras from 0: its anchor, and its cells in the order of the list.
 fn push_era(
     alloc: Global,
@@ -176,7 +162,7 @@ fn push_era(
     let anchor = era.anchor;
     writeln!(text, "era {number}, after the anchor {anchor}:").map_err(|_| AllocError)?;
     for cell in &era.cells {
-        push_cell(alloc, columns, dots, cell, text)?;
+        push_wrapped(alloc, columns, &cell_line(alloc, dots, cell)?, text)?;
     }
     Ok(())
 }

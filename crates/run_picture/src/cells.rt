@@ -7,7 +7,7 @@ use crate::lanes::MARGIN;
 use crate::parts::{anchor_lines, cell_lines, era_name, is_next};
 use run_replay::{CellBox, Dot, Era};
 use std::alloc::AllocError;
-use svg_text::Paint;
+use svg_text::{Paint, Shape};
 
 /// How high a line of a box is.
 const LINE: u64 = 18;
@@ -77,7 +77,7 @@ fn push_cell(
 /// Adds the arrow to the box at a place.
 fn push_link(sheet: &mut Sheet, left: u64) -> Result<(), AllocError> {
     let at = sheet.below(left, 22);
-    sheet.push_line(at.back(24, 0), at.back(3, 0), Paint::Thick)?;
+    sheet.push(Shape::Line(at.back(24, 0), at.back(3, 0), Paint::Thick))?;
     sheet.push_tip(at.back(2, 0), Toward::Right)
 }
 
@@ -95,7 +95,7 @@ fn push_box(sheet: &mut Sheet, left: u64, lines: Vec<Vec<u8>>) -> Result<u64, Al
     let width = box_width(&lines);
     let height = (lines.len() as u64).min(3) * LINE + INSIDE;
     let mut at = sheet.below(left, 0);
-    sheet.push_rect(at, (width, height), Paint::Frame)?;
+    sheet.push(Shape::Rect(at, width, height, Paint::Frame))?;
     for line in lines {
         at = at.by(0, LINE);
         sheet.push_text(at.by(INSIDE, 0), line)?;

@@ -1,9 +1,9 @@
 //! Lanes. Each `Err` says that memory was refused.
 
-use crate::figures::{Sheet, Spot};
-use run_layout::{Axis, MOST_LANES, Stretch, name_of};
+use crate::figures::Sheet;
+use run_layout::{MOST_LANES, Stretch, name_of};
 use std::alloc::AllocError;
-use svg_text::Paint;
+use svg_text::{Paint, Shape, Spot};
 
 /// How far things stand from the left and the right.
 pub const MARGIN: u64 = 12;
@@ -24,12 +24,7 @@ pub fn lane_top(process: u64) -> u64 {
 
 /// The middle of the bars of a process.
 pub fn lane_middle(process: u64) -> u64 {
-    TOP + process.min(MOST_LANES) * LANE + 48
-}
-
-/// Where the strip ends, and bars that stay open.
-pub fn strip_end(axis: &Axis) -> u64 {
-    u64::from(axis.end) + MARGIN
+    lane_top(process).saturating_add(48)
 }
 
 /// Adds the lanes of all eras, each with its name where the era before has none of that number.
@@ -39,7 +34,7 @@ pub fn push_eras(strip: &mut Sheet, stretches: &[Stretch]) -> Result<(), AllocEr
         for process in 0..stretch.lanes {
             let y = lane_middle(process);
             let (from, to) = (Spot { x: stretch.from, y }, Spot { x: stretch.to, y });
-            strip.push_line(from, to, Paint::Faint)?;
+            strip.push(Shape::Line(from, to, Paint::Faint))?;
             if named <= process {
                 strip.push_text(from.by(4, 0).back(0, 5), name_of(strip.alloc, process)?)?;
             }

@@ -1,13 +1,11 @@
 //! What is told beside the events: headings, captions and refusals. Each `Err` says that memory was refused.
 
-ghost use Rattle.std.specs.Prelude.{◌<◌, ◌^◌};
-
-use crate::figures::{LETTER, Sheet, Spot, Toward};
+use crate::figures::{LETTER, Sheet, Toward};
 use crate::lanes::{MARGIN, START};
-use run_layout::{Axis, Column, push_lines};
+use run_layout::{Axis, push_lines};
 use signs::Span;
 use std::alloc::{AllocError, Global};
-use svg_text::Paint;
+use svg_text::{Paint, Shape, Spot};
 use uni_script::{PlacedRemark, Remark};
 
 /// How high a line of text is.
@@ -40,10 +38,8 @@ pub fn push_headings(sheet: &mut Sheet, remarks: &[PlacedRemark]) -> Result<(), 
 }
 
 /// Where the stem of a caption stands in the strip, by its place among what is told: at the column of what follows it.
-fn stem_of(axis: &Axis, place: usize) -> u64
-    ensures small { result < 2 ^ 33 }
-{
-    u64::from(axis.remark(place).left) + STEM
+fn stem_of(axis: &Axis, place: usize) -> u64 {
+    axis.remark(place).saturating_add(STEM)
 }
 
 /// The text of a note that comes after the header; nothing of anything else.
@@ -56,13 +52,9 @@ fn note_text(remark: &Remark) -> &[u8] {
 
 /// What is told in a row, with its place among all that is told: the stem of each stands in the row.
 fn told_in<'a>(axis: &Axis, row: Span, remarks: &'a [PlacedRemark]) -> (usize, &'a [PlacedRemark]) {
-    let stands_before = |column: &Column, end| u64::from(column.left) + STEM < end;
-    let first = axis
-        .remarks
-        .partition_point(|column| stands_before(column, row.from));
-    let end = axis
-        .remarks
-        .partition_point(|column| stands_before(column, row.to));
+    let (from, to) = (row.from.saturating_sub(STEM), row.to.saturating_sub(STEM));
+    let first = axis.remarks.partition_point(|column| column.from < from);
+    let end = axis.remarks.partition_point(|column| column.from < to);
     match remarks.get(first..end) {
         Some(told) => (first, told),
         None => (0, &[]),
@@ -132,7 +124,7 @@ fn push_caption(sheet: &mut Sheet, caption: Caption, foot: u64) -> Result<(), Al
         return Ok(());
     }
     let tip = caption.stem.level(foot);
-    sheet.push_line(caption.stem.by(0, 4), tip, Paint::Edge)?;
+    sheet.push(Shape::Line(caption.stem.by(0, 4), tip, Paint::Edge))?;
     sheet.push_tip(tip, Toward::Down)?;
     let mut at = caption.left.by(0, 16);
     for line in caption.lines {
@@ -165,7 +157,7 @@ pub fn push_rooms(
 ) -> Result<(), AllocError> {
     for (place, one) in remarks.iter().enumerate() {
         if let Remark::Note(text) = &one.remark {
-            let from = stem_of(axis, place) + STEM_GAP;
+            let from = stem_of(axis, place).saturating_add(STEM_GAP);
             let to = from.saturating_add(room_of(text));
             rooms.push(Span { from, to })?;
         }
@@ -173,7 +165,7 @@ pub fn push_rooms(
     Ok(())
 }
 
-/// The description of a picture, for who can't see it: the notes that come before the header, with a space between them.
+/// The description of a picture, for who can't see it: the notes before the header, with a space between them.
 pub fn description_of(alloc: Global, remarks: &[PlacedRemark]) -> Result<Vec<u8>, AllocError> {
     let mut text = Vec::new(alloc);
     for one in remarks {

@@ -1,12 +1,12 @@
 //! From the bytes of a script to the text of its picture.
 
-ghost use Rattle.std.specs.Prelude.{◌≡◌, ◌≤◌, IfOk, IsErrOf, false, length};
+ghost use Rattle.std.specs.Prelude.{◌≡◌, IfOk, IsErrOf, false};
 ghost use Rattle.uni_script.specs.Objects.{spoken};
 ghost use Rattle.uni_script.specs.Replay.{HasFault, IsFaultOfScript};
 ghost use Rattle.uni_script.specs.Scripts.{scripts_of, own_scripts_of};
 ghost use Rattle.uni_script.specs.declared.fault.BenchFault.{BenchFault as Fault};
 ghost use Rattle.run_replay.specs.MarksShown.{marks_shown};
-ghost use Rattle.run_layout.specs.Choice.{chosen, chosen_remarks, count_in};
+ghost use Rattle.run_layout.specs.Choice.{chosen, chosen_remarks};
 ghost use Rattle.run_layout.specs.Subject.{HasTooManyEvents, HasMoreEvents, marks_of_own};
 ghost use Rattle.run_picture.specs.Drawn.{IsSvgOf};
 ghost use Rattle.run_picture.specs.Picture.{IsPicture, IsPictureOf};
@@ -24,8 +24,6 @@ use uni_script::TextIn;
 /// An `Err` is `Misdrawn` where the drawing does not show it, or says that memory was refused.
 #[tactic(auto, using(crate::proofs::Looking::svg_of_drawing))]
 fn svg_of_subject(alloc: Global, range: Range, subject: Subject) -> Result<Vec<u8>, PictureFault>
-    requires events { count_in range subject.marks.events ≤ 2000 }
-    requires remarks { length subject.remarks.items ≤ 100000 }
     ensures svg { IfOk result (λ svg. IsSvgOf (chosen range (marks_shown subject.marks))
         (chosen_remarks range subject.remarks.items) svg.items) }
     ensures few { IsErrOf result PictureFault.TooManyEvents → ⊥ }

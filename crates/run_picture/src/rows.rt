@@ -1,9 +1,9 @@
 //! The rows of a picture: parts of the strip, one below the other. Each `Err` says that memory was refused.
 
-use crate::figures::{Sheet, Spot};
-use crate::lanes::{MARGIN, START, lane_middle, lane_top, strip_end};
+use crate::figures::Sheet;
+use crate::lanes::{MARGIN, START, lane_middle, lane_top};
 use crate::notes::push_captions;
-use run_layout::{Axis, Column, Stretch, lanes_between, name_of};
+use run_layout::{Axis, Stretch, lanes_between, name_of};
 use signs::Span;
 use std::alloc::{AllocError, Global};
 use svg_text::Shape;
@@ -14,8 +14,7 @@ const WIDEST: u64 = 1_348;
 
 /// Labels in the order of where they begin, each up to the furthest end of those so far.
 fn reaching(alloc: Global, labels: &[Span]) -> Result<Vec<Span>, AllocError> {
-    let mut spans = Vec::with_capacity(alloc, labels.len())?;
-    spans.extend_from_slice(labels)?;
+    let mut spans = labels.to_vec(alloc)?;
     spans.sort_unstable_by_key(|span| span.from);
     let mut furthest = 0;
     for span in &mut spans {
@@ -37,13 +36,12 @@ fn is_cut(edge: u64, labels: &[Span]) -> bool {
 /// Adds the left edges of columns that go through no label.
 fn push_free_edges(
     labels: &[Span],
-    columns: &[Column],
+    columns: &[Span],
     edges: &mut Vec<u64>,
 ) -> Result<(), AllocError> {
     for column in columns {
-        let edge = u64::from(column.left);
-        if !is_cut(edge, labels) {
-            edges.push(edge)?;
+        if !is_cut(column.from, labels) {
+            edges.push(column.from)?;
         }
     }
     Ok(())
@@ -54,9 +52,11 @@ fn push_free_edges(
 fn edges_of(alloc: Global, labels: &[Span], axis: &Axis) -> Result<Vec<u64>, AllocError> {
     let labels = reaching(alloc, labels)?;
     let mut edges = Vec::new(alloc);
-    push_free_edges(&labels, &axis.events, &mut edges)?;
+    let columns = axis.layout.columns.as_slice();
+    let events = &columns[..columns.len().saturating_sub(1)];
+    push_free_edges(&labels, events, &mut edges)?;
     push_free_edges(&labels, &axis.remarks, &mut edges)?;
-    edges.push(strip_end(axis))?;
+    edges.push(axis.layout.width)?;
     edges.sort_unstable();
     Ok(edges)
 }
@@ -74,7 +74,7 @@ fn row_end(edges: &[u64], from: u64) -> u64 {
 /// The rows of a strip, of which none ends within one of these labels.
 pub fn rows_of(alloc: Global, labels: &[Span], axis: &Axis) -> Result<Vec<Span>, AllocError> {
     let edges = edges_of(alloc, labels, axis)?;
-    let end = strip_end(axis);
+    let end = axis.layout.width;
     let mut rows = Vec::new(alloc);
     let mut from = START;
     for _ in START..end {
@@ -101,16 +101,9 @@ fn push_row(
         let at = sheet.below(MARGIN, lane_middle(process)).by(0, 5);
         sheet.push_text(at, name_of(sheet.alloc, process)?)?;
     }
-    let Spot { x, y } = sheet.below(START, 0);
     let width = row.to.saturating_sub(row.from);
     let height = lane_top(lanes_between(stretches, row.from, row.to.saturating_add(1)));
-    sheet.shapes.push(Shape::View {
-        x,
-        y,
-        width,
-        height,
-        left: row.from,
-    })?;
+    sheet.push(Shape::View(sheet.below(START, 0), width, height, row.from))?;
     sheet.move_down(height);
     Ok(())
 }

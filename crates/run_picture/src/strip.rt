@@ -1,12 +1,12 @@
 //! The shapes of signs, from the lowest on. Each `Err` says that memory was refused.
 
-use crate::figures::{Sheet, Spot, Toward, width_of};
+use crate::figures::{Sheet, Toward, width_of};
 use crate::lanes::{LANE, TOP};
-use crate::paint::{letter_paint, mark_paint};
-use run_layout::{Mark, Sign, letter_of};
+use crate::paint::mark_paint;
+use run_layout::{Mark, Sign};
 use signs::{Layout, Span};
 use std::alloc::AllocError;
-use svg_text::{Anchor, Paint, Shape};
+use svg_text::{Anchor, Paint, Shape, Spot};
 use uni_core::StepKind;
 
 /// The top of the marks of steps, from the top of a lane.
@@ -56,19 +56,9 @@ fn push_step(
     title: Vec<u8>,
 ) -> Result<(), AllocError> {
     let (kind, changed) = step;
-    let (Spot { x, y }, width) = (at.by(1, STEP), width.saturating_sub(2));
-    let (height, paint) = (STEP_HEIGHT, mark_paint(kind, changed));
-    strip.shapes.push(Shape::Titled {
-        x,
-        y,
-        width,
-        height,
-        paint,
-        title,
-    })?;
-    let letter = [letter_of(kind)].to_vec(strip.alloc)?;
-    let paint = letter_paint(kind, changed);
-    strip.push_anchored(middle.by(0, STEP + 17), Anchor::Middle, paint, letter)
+    let (at, width) = (at.by(1, STEP), width.saturating_sub(2));
+    strip.push(Shape::Titled(at, width, STEP_HEIGHT, mark_paint(kind, changed), title))?;
+    strip.push_letter(middle.by(0, STEP + 17), kind, changed)
 }
 
 /// Adds the arrow of help between two lanes, by the middle of its column at the top of each.
@@ -84,20 +74,20 @@ fn push_arrow(
         }
         Toward::Up => (lower.by(0, STEP), upper.by(0, DOT + RADIUS)),
     };
-    strip.push_line(from, to, Paint::Thick)?;
+    strip.push(Shape::Line(from, to, Paint::Thick))?;
     strip.push_tip(to, toward)
 }
 
 /// Adds the bar of a call that begins at a place, with its edges inside its columns.
 fn push_bar(strip: &mut Sheet, at: Spot, width: u64) -> Result<(), AllocError> {
-    let size = (width.saturating_sub(2), BAR_HEIGHT);
-    strip.push_rect(at.by(1, BAR), size, Paint::Frame)
+    let width = width.saturating_sub(2);
+    strip.push(Shape::Rect(at.by(1, BAR), width, BAR_HEIGHT, Paint::Frame))
 }
 
 /// Adds the bar of a call that hasn't returned: it stays open at its right.
 fn push_open_bar(strip: &mut Sheet, at: Spot, width: u64) -> Result<(), AllocError> {
     let (from, width) = (at.by(1, BAR), width.saturating_sub(1));
-    strip.push_rect(from, (width, BAR_HEIGHT), Paint::Paper)?;
+    strip.push(Shape::Rect(from, width, BAR_HEIGHT, Paint::Paper))?;
     strip.push_open(from, from.by(width, BAR_HEIGHT))
 }
 
@@ -105,7 +95,7 @@ fn push_open_bar(strip: &mut Sheet, at: Spot, width: u64) -> Result<(), AllocErr
 fn push_refusal(strip: &mut Sheet, x: u64, label: Vec<u8>) -> Result<u64, AllocError> {
     let width = width_of(&label).saturating_add(20);
     let at = Spot { x, y: 0 };
-    strip.push_rect(at.by(2, 1), (width, 18), Paint::Paper)?;
+    strip.push(Shape::Rect(at.by(2, 1), width, 18, Paint::Paper))?;
     strip.push_cross(at.by(4, 5), at.by(14, 15))?;
     strip.push_text(at.by(18, 14), label)?;
     Ok(at.by(4, 0).by(width, 0).x)
@@ -130,18 +120,15 @@ fn push_sign(
         Mark::Name => Ok(()),
         Mark::End => {
             let top = middle.level(TOP);
-            strip.push_line(top, top.level(high.to), Paint::Broken)?;
-            strip.push_anchored(top.back(0, 6), Anchor::Middle, Paint::Ink, text)
+            strip.push(Shape::Line(top, top.level(high.to), Paint::Broken))?;
+            strip.push(Shape::Text(top.back(0, 6), Anchor::Middle, Paint::Ink, text))
         }
         Mark::Bar => push_bar(strip, at, width),
         Mark::Open => push_open_bar(strip, at, width),
         Mark::Down => push_arrow(strip, middle, lower, Toward::Down),
         Mark::Up => push_arrow(strip, middle, lower, Toward::Up),
         Mark::Step(kind, changed) => push_step(strip, at, middle, width, (kind, changed), text),
-        Mark::Dot => {
-            let Spot { x, y } = middle.by(0, DOT);
-            Ok(strip.shapes.push(Shape::Dot { x, y })?)
-        }
+        Mark::Dot => strip.push(Shape::Dot(middle.by(0, DOT))),
         Mark::Label => strip.push_label(at.by(0, LABEL), text),
         Mark::Counts => {
             let end = Spot { x: wide.to, y };

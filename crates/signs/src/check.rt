@@ -121,8 +121,8 @@ fn filled(end: u64, shape: &Shape) -> Option<u64>
         → Fills after to rest → Fills end to (figure shape.now ∷ rest)) }
 {
     match shape {
-        Shape::View { left, width, .. } if *left == end => end.checked_add(*width),
-        Shape::View { .. } => None,
+        Shape::View(_, width, _, left) if *left == end => end.checked_add(*width),
+        Shape::View(..) => None,
         _ => Some(end),
     }
 }

@@ -7,4 +7,4 @@ mod sign;
 
 pub use check::{Seen, are_shown, are_within, fill};
 pub use shape::holds;
-pub use sign::{Edge, FURTHEST, Layout, Look, Part, Span};
+pub use sign::{Edge, Layout, Look, Part, Span};

@@ -6,7 +6,7 @@ ghost use Rattle.signs.specs.Signs.{Holds, line_look};
 
 use crate::check::Seen;
 use crate::sign::{Look, Span};
-use svg_text::{Paint, Shape};
+use svg_text::{Paint, Shape, Spot};
 
 /// Whether a point is in a span from left to right, and in one from the top down.
 pub fn holds(wide: Span, high: Span, x: u64, y: u64) -> bool
@@ -16,11 +16,11 @@ pub fn holds(wide: Span, high: Span, x: u64, y: u64) -> bool
 }
 
 /// Whether both ends of a rectangle are.
-fn holds_box(wide: Span, high: Span, x: u64, y: u64, width: u64, height: u64) -> bool
-    ensures first { IsTrue result → Holds wide high (x, y) }
-    ensures last { IsTrue result → Holds wide high (x + width, y + height) }
+fn holds_box(wide: Span, high: Span, at: Spot, width: u64, height: u64) -> bool
+    ensures first { IsTrue result → Holds wide high (at.x, at.y) }
+    ensures last { IsTrue result → Holds wide high (at.x + width, at.y + height) }
 {
-    holds(wide, high, x, y) && width <= wide.to - x && height <= high.to - y
+    holds(wide, high, at.x, at.y) && width <= wide.to - at.x && height <= high.to - at.y
 }
 
 /// What a line tells.
@@ -44,71 +44,33 @@ impl Seen for Shape {
 
     fn look(&self) -> Option<Look> {
         match self {
-            Shape::Rect {
-                paint: Paint::Paper,
-                ..
-            } => None,
-            Shape::Rect { .. } => Some(Look::Bar),
-            Shape::Titled {
-                paint: Paint::Pale(_),
-                ..
-            } => Some(Look::Pale),
-            Shape::Titled { .. } => Some(Look::Step),
-            Shape::Line { paint, .. } => look_of_line(*paint),
-            Shape::Dot { .. } => Some(Look::Dot),
-            Shape::Tip { .. } => Some(Look::Tip),
-            Shape::Text { .. } => Some(Look::Text),
-            Shape::View { .. } => None,
+            Shape::Rect(_, _, _, Paint::Paper) | Shape::View(..) => None,
+            Shape::Rect(..) => Some(Look::Bar),
+            Shape::Titled(_, _, _, Paint::Pale(_), _) => Some(Look::Pale),
+            Shape::Titled(..) => Some(Look::Step),
+            Shape::Line(_, _, paint) => look_of_line(*paint),
+            Shape::Dot(_) => Some(Look::Dot),
+            Shape::Tip(..) => Some(Look::Tip),
+            Shape::Text(..) => Some(Look::Text),
         }
     }
 
     fn says(&self, text: &[u8]) -> bool {
         match self {
-            Shape::Titled { title, .. } => title.as_slice() == text,
-            Shape::Text { text: said, .. } => said.as_slice() == text,
+            Shape::Titled(_, _, _, _, said) | Shape::Text(_, _, _, said) => said.as_slice() == text,
             _ => text.is_empty(),
         }
     }
 
     fn is_within(&self, wide: Span, high: Span) -> bool {
+        let is_held = |spot: Spot| holds(wide, high, spot.x, spot.y);
         match self {
-            Shape::Rect {
-                x,
-                y,
-                width,
-                height,
-                ..
-            }
-            | Shape::Titled {
-                x,
-                y,
-                width,
-                height,
-                ..
-            }
-            | Shape::View {
-                x,
-                y,
-                width,
-                height,
-                ..
-            } => holds_box(wide, high, *x, *y, *width, *height),
-            Shape::Line { x1, y1, x2, y2, .. } => {
-                holds(wide, high, *x1, *y1) && holds(wide, high, *x2, *y2)
-            }
-            Shape::Dot { x, y } | Shape::Text { x, y, .. } => holds(wide, high, *x, *y),
-            Shape::Tip {
-                x,
-                y,
-                x1,
-                y1,
-                x2,
-                y2,
-            } => {
-                holds(wide, high, *x, *y)
-                    && holds(wide, high, *x1, *y1)
-                    && holds(wide, high, *x2, *y2)
-            }
+            Shape::Rect(at, width, height, _)
+            | Shape::Titled(at, width, height, _, _)
+            | Shape::View(at, width, height, _) => holds_box(wide, high, *at, *width, *height),
+            Shape::Line(one, other, _) => is_held(*one) && is_held(*other),
+            Shape::Dot(at) | Shape::Text(at, _, _, _) => is_held(*at),
+            Shape::Tip(at, one, other) => is_held(*at) && is_held(*one) && is_held(*other),
         }
     }
 }

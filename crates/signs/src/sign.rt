@@ -1,6 +1,6 @@
 //! The shapes that marks are to have, and where events and processes stand.
 
-ghost use Rattle.std.specs.Prelude.{◌≡◌, ◌≤◌};
+ghost use Rattle.std.specs.Prelude.{◌≡◌};
 ghost use Rattle.signs.specs.Signs.{edge_at, high_of, places_shown, span_at, wide_of};
 
 /// What a shape tells by its looks.
@@ -35,22 +35,6 @@ pub struct Span {
     pub from: u64,
     /// Where it ends.
     pub to: u64,
-}
-
-/// How far things are drawn at most, so that each place is a number of 64 bits.
-pub const FURTHEST: u64 = 1_000_000_000_000;
-
-impl Span {
-    /// As much of it as things are drawn.
-    pub fn bounded(self) -> Span
-        ensures from { result.from ≤ 1000000000000 }
-        ensures to { result.to ≤ 1000000000000 }
-    {
-        Span {
-            from: self.from.min(FURTHEST),
-            to: self.to.min(FURTHEST),
-        }
-    }
 }
 
 /// An edge of a column, from left to right.

@@ -1,32 +1,20 @@
 -- What `escaped` makes.
 use Rattle.svg_text.proofs.Vocabulary.{AllByRecursion, Anchor, Colour, IsNoMarkup, List, None, [], anchor_name, ap, arith, cases_eq, code_of, decimal, digit_glyph, digits, digits_onto, eqb-false, escaped, escaped_byte, false, flat_map-append, if◌then◌else◌, inl, inr, lt-ltb, ne_eqb, read_on, refl, subst, suc, sym, true, unescaped, zero, ℕ, ◌%◌, ◌+◌, ◌/◌, ◌<◌, ◌==◌, ◌∙◌, ◌∷◌, ◌≢◌}
-use Rattle.svg_text.specs.declared.paint.Colour.TheVariants.{Orange, SkyBlue, Green, Yellow, Blue, Vermilion, Purple}
-use Rattle.svg_text.specs.declared.shape.Anchor.TheVariants as anchors
+use Rattle.svg_text.specs.declared.paint.Colour.TheVariants.{Orange}
+use Rattle.svg_text.specs.declared.shape.Anchor.TheVariants.{Start}
 use Rattle.std.specs.Prelude.{◌≡◌, ◌++◌}
 
 -- what holds of each byte that has a name, and of each that has none
 abbrev Cases : (ℕ → Type 0) → Type 0
 Cases P = P 60 × P 62 × P 38 × P 34 × P 39 × ((b : ℕ) → b ≢ 60 → b ≢ 62 → b ≢ 38 → b ≢ 34 → b ≢ 39 → P b)
 
+at_or : (P : ℕ → Type 0) (k b : ℕ) → P k → (b ≢ k → P b) → P b
+at_or P k b here other = elim (cases_eq b k) [ inl e ↦ subst P (sym e) here | inr ne ↦ other ne ]
+
 by_cases : (P : ℕ → Type 0) → Cases P → (b : ℕ) → P b
 by_cases P cases b =
-    elim (cases_eq b 60) [
-      | inl e ↦ subst P (sym e) cases.0
-      | inr lt ↦
-          elim (cases_eq b 62) [
-            | inl e ↦ subst P (sym e) cases.1
-            | inr gt ↦
-                elim (cases_eq b 38) [
-                  | inl e ↦ subst P (sym e) cases.2
-                  | inr amp ↦
-                      elim (cases_eq b 34) [
-                        | inl e ↦ subst P (sym e) cases.3
-                        | inr quot ↦
-                            elim (cases_eq b 39) [ inl e ↦ subst P (sym e) cases.4 | inr apos ↦ cases.5 b lt gt amp quot apos ]
-                      ]
-                ]
-          ]
-    ]
+    at_or P 60 b cases.0 (λ lt. at_or P 62 b cases.1 (λ gt. at_or P 38 b cases.2 (λ amp. at_or P 34 b cases.3 (λ quot.
+    at_or P 39 b cases.4 (λ apos. cases.5 b lt gt amp quot apos)))))
 
 -- a byte that has no name
 pub plain_byte : (b : ℕ) → b ≢ 60 → b ≢ 62 → b ≢ 38 → b ≢ 34 → b ≢ 39 → escaped_byte b ≡ b ∷ []
@@ -93,17 +81,11 @@ escaped_decimal n = digits_plain 64 n [] refl
 
 pub colour_text : (c : Colour) → escaped (code_of c) ≡ code_of c
 colour_text Orange = refl
-colour_text SkyBlue = refl
-colour_text Green = refl
-colour_text Yellow = refl
-colour_text Blue = refl
-colour_text Vermilion = refl
-colour_text Purple = refl
+colour_text c = refl
 
 pub anchor_text : (a : Anchor) → escaped (anchor_name a) ≡ anchor_name a
-anchor_text anchors.Start = refl
-anchor_text anchors.Middle = refl
-anchor_text anchors.End = refl
+anchor_text Start = refl
+anchor_text a = refl
 
 pub escaped_append : (a b : List ℕ) → escaped (a ++ b) ≡ escaped a ++ escaped b
 escaped_append = flat_map-append escaped_byte

@@ -1,7 +1,8 @@
 -- What comes after the text of a tree.
 use Rattle.svg_text.proofs.Vocabulary.{Figure, List, Picture, [], ap, append_assoc, codes, escaped, figure_node, flat_map, lines, refl, sym, ℕ, ◌++◌, ◌∙◌, ◌∷◌, ◌≡◌}
 use Rattle.svg_text.specs.declared.paint.Paint.{Paint}
-use Rattle.svg_text.specs.Svg.{paint_attributes, paper_node, size_attributes, svg_text}
+use Rattle.svg_text.proofs.Escapes.{anchor_text, escaped_append, escaped_decimal}
+use Rattle.svg_text.specs.Svg.{paint_attributes, svg_text}
 unfoldable use Rattle.svg_text.specs.Svg.{figure_text, paint_text, paper_text, size_text}
 use Rattle.svg_text.specs.Xml.{Attribute, Element, End, Node, Nodes, Then, Words, attributes_onto, node_onto, nodes_onto}
 
@@ -48,33 +49,18 @@ lines_onto (f ∷ figures) rest =
     ∙ node_more (figure_node f) (codes "\n") (flat_map figure_text figures ++ rest)
     ∙ sym (append_assoc (node_onto (figure_node f) (codes "\n")) (flat_map figure_text figures) rest)
 
--- ---- the text of a picture, piece by piece
+-- what the pieces of a text come to
+pub ruleset plain_parts = (append_assoc, paint_onto, escaped_append, escaped_decimal, anchor_text)
 
-abbrev strips : Picture → List ℕ
-strips p = flat_map figure_text p.strip ++ (codes "</g>\n</defs>\n" ++ (flat_map figure_text p.figures ++ codes "</svg>\n"))
-
-abbrev opened : Picture → List ℕ → List ℕ
-opened p rest = codes "<svg xmlns=\"http://www.w3.org/2000/svg\"" ++ attributes_onto (size_attributes 0 p.width p.height)
-    (codes " role=\"img\" aria-labelledby=\"title description\" font-family=\"monospace\" font-size=\"13\">\n" ++ rest)
-
-abbrev upto : Picture → List ℕ → List ℕ
-upto p rest = opened p (codes "<title id=\"title\">" ++ (escaped p.title ++ (codes "</title>\n<desc id=\"description\">" ++ (escaped p.description
-    ++ (codes "</desc>\n" ++ node_onto (paper_node p.width p.height) (codes "\n" ++ rest))))))
-
+-- the text of a picture, piece by piece
 pub picture_text : (p : Picture) → svg_text p ≡ codes "<svg xmlns=\"http://www.w3.org/2000/svg\"" ++ (size_text 0 p.width p.height
-    ++ (codes " role=\"img\" aria-labelledby=\"title description\" font-family=\"monospace\" font-size=\"13\">\n" ++ (codes "<title id=\"title\">"
+    ++ (codes " role=\"img\" aria-labelledby=\"title description\" font-family=\"monospace\" font-size=\"13\">\n<title id=\"title\">"
     ++ (escaped p.title ++ (codes "</title>\n<desc id=\"description\">" ++ (escaped p.description ++ (codes "</desc>\n" ++ (paper_text p.width p.height
-    ++ (codes "<defs>\n<g id=\"strip\">\n" ++ (flat_map figure_text p.strip ++ (codes "</g>\n</defs>\n" ++ (flat_map figure_text p.figures ++ codes "</svg>\n"))))))))))))
+    ++ (codes "<defs>\n<g id=\"strip\">\n" ++ (flat_map figure_text p.strip ++ (codes "</g>\n</defs>\n" ++ (flat_map figure_text p.figures ++ codes "</svg>\n")))))))))))
 unfolding paper_text size_text
-picture_text p =
-    ap (λ l. upto p (codes "<defs>\n<g id=\"strip\">\n" ++ nodes_onto (lines p.strip) (codes "</g>\n</defs>\n" ++ l))) (lines_onto p.figures (codes "</svg>\n"))
-    ∙ ap (λ l. upto p (codes "<defs>\n<g id=\"strip\">\n" ++ l)) (lines_onto p.strip (codes "</g>\n</defs>\n" ++ (flat_map figure_text p.figures ++ codes "</svg>\n")))
-    ∙ ap (λ l. opened p (codes "<title id=\"title\">" ++ (escaped p.title ++ (codes "</title>\n<desc id=\"description\">" ++ (escaped p.description ++ (codes "</desc>\n" ++ l))))))
-    (node_more (paper_node p.width p.height) (codes "\n") (codes "<defs>\n<g id=\"strip\">\n" ++ strips p))
-    ∙ ap (λ l. codes "<svg xmlns=\"http://www.w3.org/2000/svg\"" ++ l) (attributes_more (size_attributes 0 p.width p.height) [] (codes " role=\"img\" aria-labelledby=\"title description\" font-family=\"monospace\" font-size=\"13\">\n" ++ (codes "<title id=\"title\">"
-    ++ (escaped p.title ++ (codes "</title>\n<desc id=\"description\">" ++ (escaped p.description ++ (codes "</desc>\n" ++ (node_onto (paper_node p.width p.height) (codes "\n") ++ (codes "<defs>\n<g id=\"strip\">\n" ++ strips p)))))))))
+picture_text p = simp (lines_onto, append_assoc)
 
 -- pieces that are added one after the other
-pub gathered : (x a b c d e f g h i j k l m n : List ℕ) → x ++ a ++ b ++ c ++ d ++ e ++ f ++ g ++ h ++ i ++ j ++ k ++ l ++ m ++ n
-    ≡ x ++ (a ++ (b ++ (c ++ (d ++ (e ++ (f ++ (g ++ (h ++ (i ++ (j ++ (k ++ (l ++ (m ++ n)))))))))))))
-gathered x a b c d e f g h i j k l m n = simp append_assoc
+pub gathered : (x a b c d e f g h i j k l m : List ℕ) → x ++ a ++ b ++ c ++ d ++ e ++ f ++ g ++ h ++ i ++ j ++ k ++ l ++ m
+    ≡ x ++ (a ++ (b ++ (c ++ (d ++ (e ++ (f ++ (g ++ (h ++ (i ++ (j ++ (k ++ (l ++ m))))))))))))
+gathered x a b c d e f g h i j k l m = simp append_assoc

@@ -1,5 +1,5 @@
 -- The names that the proofs of this crate share.
-pub use Rattle.std.proofs.Common.{ap, append-nil, append_assoc, arith, drop, inl, inr, map, subst, suc, sym, take, zero, ◌%◌, ◌++◌, ◌+◌, ◌/◌, ◌<◌, ◌∙◌, ◌≡◌}
+pub use Rattle.std.proofs.Common.{ap, append_assoc, arith, inl, inr, map, subst, suc, sym, take, zero, ◌%◌, ◌++◌, ◌+◌, ◌/◌, ◌<◌, ◌∙◌, ◌≡◌}
 pub use Rattle.std.proofs.lemmas.Bool.{and_from, cases_eq, eqb-false, lt-ltb, ne_eqb}
 pub use Rattle.std.proofs.lemmas.List.Concat.{flat_map-append}
 pub use Rattle.std.specs.Fmt.{decimal, digit_glyph, digits_onto}

@@ -27,13 +27,13 @@ pub record Picture : Type 0 where
 
 -- what the code's shapes and drawings are
 abbrev pub figure : Shape → Figure
-figure (shape.Rect x y width height paint) = Rect x y width height paint
-figure (shape.Titled x y width height paint title) = Titled x y width height paint title.items
-figure (shape.Line x1 y1 x2 y2 paint) = Line x1 y1 x2 y2 paint
-figure (shape.Dot x y) = Dot x y
-figure (shape.Tip x y x1 y1 x2 y2) = Tip x y x1 y1 x2 y2
-figure (shape.Text x y anchor paint text) = Text x y anchor paint text.items
-figure (shape.View x y width height left) = View x y width height left
+figure (shape.Rect at width height paint) = Rect at.x at.y width height paint
+figure (shape.Titled at width height paint title) = Titled at.x at.y width height paint title.items
+figure (shape.Line one other paint) = Line one.x one.y other.x other.y paint
+figure (shape.Dot at) = Dot at.x at.y
+figure (shape.Tip at one other) = Tip at.x at.y one.x one.y other.x other.y
+figure (shape.Text at anchor paint text) = Text at.x at.y anchor paint text.items
+figure (shape.View at width height left) = View at.x at.y width height left
 
 abbrev pub picture : Drawing → Picture
 picture d = record {

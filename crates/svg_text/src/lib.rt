@@ -11,5 +11,5 @@ mod svg;
 
 pub use laws::{escaped_has_no_markup, text_is_of_a_tree};
 pub use paint::{Colour, Paint};
-pub use shape::{Anchor, Drawing, Shape};
+pub use shape::{Anchor, Drawing, Shape, Spot};
 pub use svg::{push_escaped, svg_of};

@@ -29,98 +29,52 @@ impl fmt::Display for Anchor {
     }
 }
 
+/// A place in a picture. It moves as far as numbers go.
+#[derive(Clone, Copy)]
+pub struct Spot {
+    /// How far from the left it is.
+    pub x: u64,
+    /// How far from the top it is.
+    pub y: u64,
+}
+
+impl Spot {
+    /// So far right of it and below it.
+    pub fn by(self, right: u64, down: u64) -> Spot {
+        let (x, y) = (self.x.saturating_add(right), self.y.saturating_add(down));
+        Spot { x, y }
+    }
+
+    /// What stands at this height above or below it.
+    pub fn level(self, y: u64) -> Spot {
+        Spot { x: self.x, y }
+    }
+
+    /// So far left of it and above it.
+    pub fn back(self, left: u64, up: u64) -> Spot {
+        let (x, y) = (self.x.saturating_sub(left), self.y.saturating_sub(up));
+        Spot { x, y }
+    }
+}
+
 /// A shape.
 #[derive(Drop)]
 pub enum Shape {
-    /// A rectangle.
-    Rect {
-        /// Its left.
-        x: u64,
-        /// Its top.
-        y: u64,
-        /// Its width.
-        width: u64,
-        /// Its height.
-        height: u64,
-        /// How it is painted.
-        paint: Paint,
-    },
-    /// A rectangle with a title, which a browser shows at the pointer.
-    Titled {
-        /// Its left.
-        x: u64,
-        /// Its top.
-        y: u64,
-        /// Its width.
-        width: u64,
-        /// Its height.
-        height: u64,
-        /// How it is painted.
-        paint: Paint,
-        /// The title, not escaped.
-        title: Vec<u8>,
-    },
+    /// A rectangle: its left upper corner, its width, its height, and how it is painted.
+    Rect(Spot, u64, u64, Paint),
+    /// The same with a title, not escaped, which a browser shows at the pointer.
+    Titled(Spot, u64, u64, Paint, Vec<u8>),
     /// A line from one point to another.
-    Line {
-        /// The first point's place from the left.
-        x1: u64,
-        /// The first point's place from the top.
-        y1: u64,
-        /// The second point's place from the left.
-        x2: u64,
-        /// The second point's place from the top.
-        y2: u64,
-        /// How it is painted.
-        paint: Paint,
-    },
-    /// A dot.
-    Dot {
-        /// Its middle from the left.
-        x: u64,
-        /// Its middle from the top.
-        y: u64,
-    },
-    /// The tip of an arrow: a triangle.
-    Tip {
-        /// The tip from the left.
-        x: u64,
-        /// The tip from the top.
-        y: u64,
-        /// The first corner behind it from the left.
-        x1: u64,
-        /// The first corner from the top.
-        y1: u64,
-        /// The second corner from the left.
-        x2: u64,
-        /// The second corner from the top.
-        y2: u64,
-    },
-    /// A text.
-    Text {
-        /// Its place from the left.
-        x: u64,
-        /// Its base line from the top.
-        y: u64,
-        /// Which part of it stands there.
-        anchor: Anchor,
-        /// How it is painted.
-        paint: Paint,
-        /// The text, not escaped.
-        text: Vec<u8>,
-    },
-    /// A part of the strip, from its top.
-    View {
-        /// Its left in the picture.
-        x: u64,
-        /// Its top in the picture.
-        y: u64,
-        /// Its width.
-        width: u64,
-        /// Its height.
-        height: u64,
-        /// Where it begins in the strip, from the left.
-        left: u64,
-    },
+    Line(Spot, Spot, Paint),
+    /// A dot, by its middle.
+    Dot(Spot),
+    /// The tip of an arrow, a triangle: the tip, and the two corners behind it.
+    Tip(Spot, Spot, Spot),
+    /// A text, not escaped, whose base line is at a place, and which part of it stands there.
+    Text(Spot, Anchor, Paint, Vec<u8>),
+    /// A part of the strip, from its top: its left upper corner, its width, its height, and where it begins in the
+    /// strip, from the left.
+    View(Spot, u64, u64, u64),
 }
 
 /// A picture.

@@ -6,8 +6,9 @@ ghost use Rattle.svg_text.specs.Figures.{figure, picture};
 ghost use Rattle.svg_text.specs.Xml.{escaped_byte, escaped};
 ghost use Rattle.svg_text.specs.Svg.{figure_text, paper_text, size_text, svg_text};
 
-use crate::shape::{Drawing, Shape};
+use crate::shape::{Drawing, Shape, Spot};
 use std::alloc::{AllocError, Global};
+use std::io;
 use std::io::Write;
 
 /// Adds a text with each `<`, `>`, `&` and quote escaped.
@@ -44,111 +45,68 @@ fn push_words(svg: &mut Vec<u8>, words: &str) -> Result<(), AllocError>
 }
 
 /// Adds the text of a shape, and the end of its line.
-fn push_shape(svg: &mut Vec<u8>, shape: &Shape) -> Result<(), AllocError>
+#[tactic(auto, using(crate::proofs::Trees::plain_parts), unfolding(crate::specs::Svg::figure_text))]
+fn push_shape(svg: &mut Vec<u8>, shape: &Shape) -> io::Result<()>
     ensures { OnOk result (svg.new.items ≡ svg.old.items ++ figure_text (figure shape.now)) }
 {
     match shape {
-        Shape::Rect {
-            x,
-            y,
-            width,
-            height,
-            paint,
-        } => {
+        Shape::Rect(Spot { x, y }, width, height, paint) => {
             write!(
                 svg,
                 "<rect x=\"{x}\" y=\"{y}\" width=\"{width}\" height=\"{height}\"{paint}/>\n"
             )
-            .map_err(|_| AllocError)
         }
-        Shape::Titled {
-            x,
-            y,
-            width,
-            height,
-            paint,
-            title,
-        } => {
+        Shape::Titled(Spot { x, y }, width, height, paint, title) => {
             write!(
                 svg,
                 "<rect x=\"{x}\" y=\"{y}\" width=\"{width}\" height=\"{height}\"{paint}><title>"
-            )
-            .map_err(|_| AllocError)?;
+            )?;
             push_escaped(svg, title)?;
-            push_words(svg, "</title></rect>\n")
+            write!(svg, "</title></rect>\n")
         }
-        Shape::Line {
-            x1,
-            y1,
-            x2,
-            y2,
-            paint,
-        } => {
+        Shape::Line(Spot { x, y }, to, paint) => {
+            let Spot { x: x2, y: y2 } = to;
             write!(
                 svg,
-                "<line x1=\"{x1}\" y1=\"{y1}\" x2=\"{x2}\" y2=\"{y2}\"{paint}/>\n"
+                "<line x1=\"{x}\" y1=\"{y}\" x2=\"{x2}\" y2=\"{y2}\"{paint}/>\n"
             )
-            .map_err(|_| AllocError)
         }
-        Shape::Dot { x, y } => {
+        Shape::Dot(Spot { x, y }) => {
             write!(
                 svg,
                 "<circle cx=\"{x}\" cy=\"{y}\" r=\"6\" fill=\"#000000\" stroke=\"#ffffff\"/>\n"
             )
-            .map_err(|_| AllocError)
         }
-        Shape::Tip {
-            x,
-            y,
-            x1,
-            y1,
-            x2,
-            y2,
-        } => {
+        Shape::Tip(at, one, other) => {
             write!(
                 svg,
-                "<polygon points=\"{x},{y} {x1},{y1} {x2},{y2}\" fill=\"#000000\"/>\n"
+                "<polygon points=\"{},{} {},{} {},{}\" fill=\"#000000\"/>\n",
+                at.x, at.y, one.x, one.y, other.x, other.y
             )
-            .map_err(|_| AllocError)
         }
-        Shape::Text {
-            x,
-            y,
-            anchor,
-            paint,
-            text,
-        } => {
+        Shape::Text(Spot { x, y }, anchor, paint, text) => {
             write!(
                 svg,
                 "<text x=\"{x}\" y=\"{y}\" text-anchor=\"{anchor}\"{paint}>"
-            )
-            .map_err(|_| AllocError)?;
+            )?;
             push_escaped(svg, text)?;
-            push_words(svg, "</text>\n")
+            write!(svg, "</text>\n")
         }
-        Shape::View {
-            x,
-            y,
-            width,
-            height,
-            left,
-        } => {
+        Shape::View(Spot { x, y }, width, height, left) => {
             write!(
                 svg,
                 "<svg x=\"{x}\" y=\"{y}\" width=\"{width}\" height=\"{height}\""
-            )
-            .map_err(|_| AllocError)?;
+            )?;
             write!(
                 svg,
                 " viewBox=\"{left} 0 {width} {height}\"><use href=\"#strip\"/></svg>\n"
             )
-            .map_err(|_| AllocError)
         }
     }
 }
 
 /// Adds the texts of shapes.
-fn push_shapes(svg: &mut Vec<u8>, shapes: &[Shape]) -> Result<(), AllocError>
+fn push_shapes(svg: &mut Vec<u8>, shapes: &[Shape]) -> io::Result<()>
     ensures { OnOk result (svg.new.items ≡ svg.old.items ++ flat_map figure_text (map figure shapes.now)) }
 {
     for shape in shapes {
@@ -158,38 +116,36 @@ fn push_shapes(svg: &mut Vec<u8>, shapes: &[Shape]) -> Result<(), AllocError>
 }
 
 /// Adds the attributes of the size of a picture, and of the part of the plane that is shown.
-fn push_size(svg: &mut Vec<u8>, left: u64, width: u64, height: u64) -> Result<(), AllocError>
+fn push_size(svg: &mut Vec<u8>, left: u64, width: u64, height: u64) -> io::Result<()>
     ensures { OnOk result (svg.new.items ≡ svg.old.items ++ size_text left width height) }
 {
     write!(
         svg,
         " viewBox=\"{left} 0 {width} {height}\" width=\"{width}\" height=\"{height}\""
     )
-    .map_err(|_| AllocError)
 }
 
 /// Adds the white paper.
-fn push_paper(svg: &mut Vec<u8>, width: u64, height: u64) -> Result<(), AllocError>
+fn push_paper(svg: &mut Vec<u8>, width: u64, height: u64) -> io::Result<()>
     ensures { OnOk result (svg.new.items ≡ svg.old.items ++ paper_text width height) }
 {
     write!(
         svg,
         "<rect width=\"{width}\" height=\"{height}\" fill=\"#ffffff\"/>\n"
     )
-    .map_err(|_| AllocError)
 }
 
 /// Adds the text of a picture.
-fn push_svg(svg: &mut Vec<u8>, drawing: &Drawing) -> Result<(), AllocError>
+fn push_svg(svg: &mut Vec<u8>, drawing: &Drawing) -> io::Result<()>
     ensures { OnOk result (svg.new.items ≡ svg.old.items ++ svg_text (picture drawing.now)) }
 {
     push_words(svg, "<svg xmlns=\"http://www.w3.org/2000/svg\"")?;
     push_size(svg, 0, drawing.width, drawing.height)?;
     push_words(
         svg,
-        " role=\"img\" aria-labelledby=\"title description\" font-family=\"monospace\" font-size=\"13\">\n",
+        " role=\"img\" aria-labelledby=\"title description\" font-family=\"monospace\" font-size=\"13\">\n\
+        <title id=\"title\">",
     )?;
-    push_words(svg, "<title id=\"title\">")?;
     push_escaped(svg, &drawing.title)?;
     push_words(svg, "</title>\n<desc id=\"description\">")?;
     push_escaped(svg, &drawing.description)?;
@@ -199,7 +155,7 @@ fn push_svg(svg: &mut Vec<u8>, drawing: &Drawing) -> Result<(), AllocError>
     push_shapes(svg, &drawing.strip)?;
     push_words(svg, "</g>\n</defs>\n")?;
     push_shapes(svg, &drawing.shapes)?;
-    push_words(svg, "</svg>\n")
+    write!(svg, "</svg>\n")
 }
 
 /// The text of a picture.
@@ -209,6 +165,6 @@ pub fn svg_of(alloc: Global, drawing: &Drawing) -> Result<Vec<u8>, AllocError>
     ensures { IfOk result (λ svg. svg.items ≡ svg_text (picture drawing.now)) }
 {
     let mut svg = Vec::new(alloc);
-    push_svg(&mut svg, drawing)?;
+    push_svg(&mut svg, drawing).map_err(|_| AllocError)?;
     Ok(svg)
 }

@@ -1,4 +1,4 @@
-use Rattle.run_lines.proofs.Vocabulary.{ap, arith, common_steps, fill_by_all, get_or, get_or-replicate, letter_at, map, replicate, rules, stroke_shown, take_all, ◌∙◌, ◌≡◌}
+use Rattle.run_lines.proofs.Vocabulary.{ap, arith, common_steps, fill_by_all, get_or, get_or-replicate, letter_at, replicate, rules, take_all, ◌∙◌, ◌≡◌}
 use Rattle.run_lines.proofs.Painting.{letter_at_more}
 use Rattle.run_lines.proofs.canvas.row_of.Goals as goal
 use Rattle.run_lines.proofs.canvas.row_of.Goals.{then-is_in_row, else-is_in_row}
@@ -31,5 +31,5 @@ loop-stroke-preserved c =
 
 pub returns : goal.returns
 returns c =
-    fill_by_all (letter_at (map stroke_shown c.args.strokes.now) c.args.row) c.loop-stroke.letters.items c.args.width 0 c.loop-stroke.invariant.wide
-    (λ column inside. c.loop-stroke.invariant.letters column inside ∙ ap (λ l. letter_at (map stroke_shown l) c.args.row column) (take_all c.loop-stroke.stroke-index c.args.strokes.now c.loop-stroke-test.false))
+    fill_by_all (letter_at c.args.strokes.now c.args.row) c.loop-stroke.letters.items c.args.width 0 c.loop-stroke.invariant.wide
+    (λ column inside. c.loop-stroke.invariant.letters column inside ∙ ap (λ l. letter_at l c.args.row column) (take_all c.loop-stroke.stroke-index c.args.strokes.now c.loop-stroke-test.false))

@@ -1,4 +1,4 @@
-use Rattle.signs.proofs.Vocabulary.{AreApartFrom, drop, map}
+use Rattle.signs.proofs.Vocabulary.{AreApartFrom, drop}
 use Rattle.signs.proofs.check.are_apart.Given as goal
 
 -- what is seen of the rest is all that is missing

@@ -1,4 +1,4 @@
-use Rattle.signs.proofs.Vocabulary.{Fills, List, Shape, figure, map, rules, subst, sym, ◌≡◌}
+use Rattle.signs.proofs.Vocabulary.{Fills, List, Shape, figure, map, rules, ◌≡◌}
 use Rattle.signs.proofs.Rest.{more, none}
 use Rattle.signs.proofs.check.fill.Goals as goal
 
