@@ -1,34 +1,26 @@
 -- Numbers in texts, and the first values of options.
-use Rattle.std.proofs.Common.{◌≡◌, ◌∙◌, ℕ, ◌≤◌, Option, option_map, option_and_then, sym, ap, ◌&&◌, Bool, true, false, List, [], ◌∷◌, None, Some, length, if◌then◌else◌, nat_le, nat_lt, refl, arith}
+use Rattle.std.proofs.Common.{◌≡◌, ◌∙◌, ℕ, ◌≤◌, Option, option_map, option_and_then, sym, ap, ◌&&◌, Bool, true, false, List, None, Some, length, if◌then◌else◌, nat_le, nat_lt, refl, arith}
 use Rattle.std.proofs.lemmas.Bool.Decides.{nat_tests}
-use Rattle.std.specs.List.{list_all}
-use Rattle.std.specs.Char.{digit_value}
-use Rattle.std.specs.Str.Parse.{AllDigits, IsNumeral, digits_value}
+use Rattle.std.proofs.lemmas.Str.Parse.{IsNumeralModel, numerals_by_value, tells_all_ascii_digits}
+use Rattle.std.specs.Str.{all_ascii_digits}
+use Rattle.std.specs.Str.Parse.{IsNumeral, digits_value}
 use Rattle.std.specs.Borrow.{Bor}
 use Rattle.clap.proofs.WalkLemmas.{first_value-rows}
 use Rattle.clap.specs.Words.{Text, first_value, rows_of}
 use Rattle.clap.specs.declared.parser.matches.Found.{Found}
 use Rattle.command_line.specs.Numbers.{are_digits, value_in, value_of}
 
-digits_pass : (ds : List ℕ) → AllDigits 10 ds → list_all (λ d. nat_lt (digit_value d) 10) ds ≡ true
-digits_pass [] all = refl
-digits_pass (d ∷ ds) all = let first : nat_lt (digit_value d) 10 ≡ true = (let small = all.0 in grind (arith, nat_tests)) in rw first (digits_pass ds all.1)
-
-passed_digits : (ds : List ℕ) → list_all (λ d. nat_lt (digit_value d) 10) ds ≡ true → AllDigits 10 ds
-passed_digits [] pass = tt
-passed_digits (d ∷ ds) pass = by_first (λ h. passed_digits ds h) (nat_lt (digit_value d) 10) refl pass where
-  by_first : (list_all (λ c. nat_lt (digit_value c) 10) ds ≡ true → AllDigits 10 ds) → (b : Bool) → nat_lt (digit_value d) 10 ≡ b
-      → (b && list_all (λ c. nat_lt (digit_value c) 10) ds) ≡ true → AllDigits 10 (d ∷ ds)
-  by_first others true small rest = ((grind (arith, nat_tests)), others rest)
-  by_first others false large rest = absurd (let bad : false ≡ true = rest in cc)
+-- the digits of numerals
+digits : IsNumeralModel (λ ds. all_ascii_digits ds ≡ true) (digits_value 10)
+digits = numerals_by_value _ tells_all_ascii_digits
 
 are_digits-numeral : (ds : List ℕ) → IsNumeral 10 ds → are_digits ds ≡ true
-are_digits-numeral ds numeral = let some : nat_lt 0 (length ds) ≡ true = (let more = numeral.0 in grind (arith, nat_tests)) in rw some (digits_pass ds numeral.1)
+are_digits-numeral ds numeral = let some : nat_lt 0 (length ds) ≡ true = (let more = numeral.0 in grind (arith, nat_tests)) in rw some (digits.from ds numeral.1)
 
 numeral_of_digits : (ds : List ℕ) → are_digits ds ≡ true → IsNumeral 10 ds
 numeral_of_digits ds are = by_length (nat_lt 0 (length ds)) refl are where
-  by_length : (b : Bool) → nat_lt 0 (length ds) ≡ b → (b && list_all (λ d. nat_lt (digit_value d) 10) ds) ≡ true → IsNumeral 10 ds
-  by_length true some pass = ((grind (arith, nat_tests)), passed_digits ds pass)
+  by_length : (b : Bool) → nat_lt 0 (length ds) ≡ b → (b && all_ascii_digits ds) ≡ true → IsNumeral 10 ds
+  by_length true some pass = ((grind (arith, nat_tests)), digits.to ds pass)
   by_length false none pass = absurd (let bad : false ≡ true = pass in cc)
 
 pub value_in-some : (least most : ℕ) (ds : List ℕ) → IsNumeral 10 ds → least ≤ digits_value 10 ds → digits_value 10 ds ≤ most → value_in least most ds ≡ Some (digits_value 10 ds)

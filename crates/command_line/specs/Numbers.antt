@@ -1,8 +1,7 @@
 -- Options whose values are numbers.
 use Rattle.std.specs.Prelude.{◌≡◌, ℕ, ◌&&◌, Bool, List, [], ◌∷◌, Option, None, Some, map, option_and_then}
 use Rattle.std.specs.Prelude.{codes, if◌then◌else◌, nat_lt, nat_le, length, refl}
-use Rattle.std.specs.List.{list_all}
-use Rattle.std.specs.Char.{digit_value}
+use Rattle.std.specs.Str.{all_ascii_digits}
 use Rattle.std.specs.Str.Parse.{digits_value, without_leading_plus}
 use Rattle.clap.specs.Words.{Row, Rule, Text, first_of}
 use Rattle.clap.specs.declared.builder.value_parser.ValueParser.TheVariants.{Unsigned}
@@ -13,7 +12,7 @@ in_range number least most = record number { parser = Some (Unsigned least most)
 
 -- one decimal digit or more, and nothing else
 abbrev pub are_digits : List ℕ → Bool
-are_digits ds = nat_lt 0 (length ds) && list_all (λ d. nat_lt (digit_value d) 10) ds
+are_digits ds = nat_lt 0 (length ds) && all_ascii_digits ds
 
 -- the number that digits write, if it is one of a range
 abbrev pub value_in : (least most : ℕ) → List ℕ → Option ℕ

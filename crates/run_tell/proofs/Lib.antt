@@ -1,10 +1,8 @@
 pub mod Vocabulary
-pub mod JsonPieces
 pub mod Writing
 pub mod ToldOn
 pub mod TraceIs
 pub mod Tellings
-pub mod TracePieces
 pub mod StepPieces
 pub mod Observed
 pub mod Escapes

@@ -1,5 +1,5 @@
 -- The run of a script, told, by its record.
-use Rattle.run_tell.proofs.Vocabulary.{Err, IfOk, IsLinearizableSession, IsScriptRun, IsToldBy, List, Ok, OnOk, Option, PlacedRemark, Result, ap, events_of_record, length, refl, session_of_record, subst, sym, ℕ, ◌∙◌, ◌≡◌, ◌≤◌}
+use Rattle.run_tell.proofs.Vocabulary.{Err, IfOk, IsLinearizableSession, IsScriptRun, IsToldBy, List, Ok, OnOk, Option, PlacedRemark, Result, ap, events_of_record, session_of_record, subst, sym, ℕ, ◌∙◌, ◌≡◌, ◌≤◌}
 use Rattle.uni_record.specs.Recorded.{Recording}
 use Rattle.uni_script.specs.Objects.{SpokenObject}
 use Rattle.run_tell.specs.Order.{Wording}

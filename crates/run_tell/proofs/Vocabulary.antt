@@ -1,6 +1,6 @@
 -- The names that the proofs of this crate share.
 pub use Rattle.std.proofs.Common.{Err, IfOk, List, None, Ok, OnOk, Option, Result, Some, [], ap, append-nil, append_assoc, arith, codes, drop, false, get_or, inl, inr, length, length-append, map, option_and_then, option_map, refl, slice_get, subst, sym, take, ℕ, ◌++◌, ◌+◌, ◌-◌, ◌<◌, ◌∙◌, ◌∷◌, ◌≡◌, ◌≤◌}
-pub use Rattle.std.proofs.lemmas.List.{map-append, take_more}
+pub use Rattle.std.proofs.lemmas.List.{length-map, map-append}
 pub use Rattle.std.proofs.lemmas.List.Concat.{flat_map-append}
 pub use Rattle.std.proofs.lemmas.Result.{IfOk-weaker, on_ok_weaker}
 pub use Rattle.std.specs.List.{AllByRecursion, flat_map}
@@ -16,9 +16,8 @@ pub use Rattle.run_tell.specs.Page.{IsPlain, escaped, escaped_byte, page_between
 unfoldable pub use Rattle.run_tell.specs.Page.{IsPage}
 pub use Rattle.run_tell.specs.Sentences.{change_words, indented, number_words}
 pub use Rattle.run_tell.specs.Told.{IsLinearizableRun, IsLinearizableSession, IsTold, IsToldBy, text_of_session, trace_of_events, trace_of_session}
-pub use Rattle.run_tell.specs.TraceLines.{line_text, scene_line}
-pub use Rattle.run_tell.specs.TraceMembers.{change_members, field_text, frame_members, held_fields, memory_members, step_members}
-unfoldable pub use Rattle.run_tell.specs.TraceMembers.{step_call, step_place, step_start}
+pub use Rattle.run_tell.specs.TraceLines.{change_members, field_text, held_fields, line_text}
+unfoldable pub use Rattle.run_tell.specs.TraceLines.{step_members}
 pub use Rattle.uni_script.specs.Objects.{SpokenObject, spoken_of}
 pub use Rattle.uni_script.specs.ScriptRun.{IsScriptRun, session_of_record}
 pub use Rattle.uni_script.specs.declared.remarks.PlacedRemark.{PlacedRemark}

@@ -1,5 +1,5 @@
 -- What is written of a text that comes piece by piece.
-use Rattle.run_tell.proofs.Vocabulary.{List, None, Ok, Err, Option, Result, Some, [], ap, append-nil, append_assoc, arith, inl, inr, length, refl, subst, sym, ℕ, ◌++◌, ◌<◌, ◌∙◌, ◌≡◌, ◌≤◌}
+use Rattle.run_tell.proofs.Vocabulary.{List, Ok, Err, Option, Result, [], ap, append-nil, append_assoc, arith, inl, inr, length, refl, subst, sym, ℕ, ◌++◌, ◌<◌, ◌∙◌, ◌≡◌, ◌≤◌}
 use Rattle.std.proofs.Common.{IfErr, IsErrOf, OnErr, OnOk, ◌↔◌, ◌⊎◌, ◌≢◌}
 use Rattle.std.proofs.lemmas.Result.{IfErr-at_err, MatchResult-from_err}
 use Rattle.std.specs.Result.{IsErr}

@@ -35,12 +35,13 @@ text_or_null (Some text) = quoted text
 
 -- ---- values
 
--- a number, a string, `true` or `false`, a number or else `null`, or a value whose text is there already
+-- a number, a string, `true` or `false`, a number or else `null`, a string or else `null`, or a value whose text is there already
 pub data Value : Type 0 where
   Number : ℕ → Value
   Text : List ℕ → Value
   Flag : Bool → Value
   MaybeNumber : Option ℕ → Value
+  MaybeText : Option (List ℕ) → Value
   Json : List ℕ → Value
 
 pub record Member : Type 0 where
@@ -57,6 +58,7 @@ value_text (Flag true) = codes "true"
 value_text (Flag false) = codes "false"
 value_text (MaybeNumber None) = codes "null"
 value_text (MaybeNumber (Some n)) = decimal n
+value_text (MaybeText text) = text_or_null text
 value_text (Json text) = text
 
 abbrev pub member_text : Member → List ℕ
@@ -100,7 +102,7 @@ unfolding object_text list_text digits
 each_value = refl
 
 values_that_may_be_missing : object_text (named (codes "a") (MaybeNumber None) ∷ named (codes "b") (MaybeNumber (Some 7))
-    ∷ named (codes "c") (Json (text_or_null None)) ∷ named (codes "d") (Json (text_or_null (Some (codes "e")))) ∷ [])
+    ∷ named (codes "c") (MaybeText None) ∷ named (codes "d") (MaybeText (Some (codes "e"))) ∷ [])
     ≡ codes "{\"a\":null,\"b\":7,\"c\":null,\"d\":\"e\"}"
 unfolding object_text digits
 values_that_may_be_missing = refl

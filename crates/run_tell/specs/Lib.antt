@@ -5,7 +5,6 @@ pub mod Opened
 pub mod Order
 pub mod Told
 pub mod Written
-pub mod TraceMembers
 pub mod TraceLines
 pub mod Sentences
 pub mod Steps

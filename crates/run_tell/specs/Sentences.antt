@@ -1,5 +1,5 @@
 -- The sentences of a run.
-use Rattle.std.specs.Prelude.{◌≡◌, ℕ, nat_le, if◌then◌else◌, List, [], ◌∷◌, ◌++◌, length, take, Option, Some, None}
+use Rattle.std.specs.Prelude.{◌≡◌, ℕ, nat_le, if◌then◌else◌, List, [], ◌∷◌, ◌++◌, length, Option, Some, None}
 use Rattle.std.specs.Prelude.{codes, refl}
 use Rattle.std.specs.Fmt.{decimal, digits}
 use Rattle.std.specs.List.{flat_map}
@@ -43,16 +43,9 @@ changes_text changes = flat_map (λ c. line_text (codes "    " ++ change_words c
 
 -- ---- events
 
--- an event of a process
-abbrev pub event_start : (event process : ℕ) → List ℕ
-event_start k p = decimal k ++ codes "  P" ++ decimal p ++ codes "  "
-
 -- a call that begins
 abbrev pub begun_sentence : Begun → List ℕ
 begun_sentence b = codes "calls " ++ b.words ++ codes ": its cell is " ++ cell_text (Some b.call) ++ codes "."
-
-abbrev pub begun_words : (event : ℕ) → Begun → List ℕ
-begun_words k b = event_start k b.call.process ++ begun_sentence b
 
 -- what the place of a step that reads or writes is to its process
 abbrev pub role_of : StepKind → List ℕ
@@ -112,9 +105,6 @@ sentence_by (Some proposed) s = proposed_words proposed ++ outcome_words (change
 abbrev pub sentence : Stepped → List ℕ
 sentence s = sentence_by s.proposed s
 
-abbrev pub step_words : (event : ℕ) → Stepped → List ℕ
-step_words k s = event_start k s.call.process ++ (letter_of s.kind ∷ []) ++ codes "  " ++ sentence s
-
 -- the end of an era
 abbrev pub end_word : Option ℕ → List ℕ
 end_word None = codes "trim"
@@ -129,14 +119,29 @@ left_words number anchor = number_words number ++ anchor.field.text ++ codes "."
 abbrev pub end_sentence : Ended → List ℕ
 end_sentence e = end_word e.reshaped ++ left_words e.number e.anchor
 
-abbrev pub end_words : (event : ℕ) → Ended → List ℕ
-end_words k e = decimal k ++ codes "  " ++ end_sentence e
+-- what an event did, whose event it is with the letter of its kind, and both with its number
+abbrev pub frame_sentence : Frame → List ℕ
+frame_sentence (Begins b) = begun_sentence b
+frame_sentence (Steps s) = sentence s
+frame_sentence (Ends e) = end_sentence e
+
+abbrev pub frame_start : Frame → List ℕ
+frame_start (Begins b) = codes "P" ++ decimal b.call.process ++ codes "  "
+frame_start (Steps s) = (codes "P" ++ decimal s.call.process ++ codes "  ") ++ (letter_of s.kind ∷ []) ++ codes "  "
+frame_start (Ends e) = []
+
+abbrev pub frame_words : (event : ℕ) → Frame → List ℕ
+frame_words k f = decimal k ++ codes "  " ++ frame_start f ++ frame_sentence f
+
+-- the places that it changed
+abbrev pub changes_in : Frame → List Change
+changes_in (Begins b) = changes_between b.before b.after
+changes_in (Steps s) = changes_between s.before s.after
+changes_in (Ends e) = []
 
 -- an event, and under it what it changed
 abbrev pub frame_text : (event : ℕ) → Frame → List ℕ
-frame_text k (Begins b) = line_text (begun_words k b) ++ changes_text (changes_between b.before b.after)
-frame_text k (Steps s) = line_text (step_words k s) ++ changes_text (changes_between s.before s.after)
-frame_text k (Ends e) = line_text (end_words k e)
+frame_text k f = line_text (frame_words k f) ++ changes_text (changes_in f)
 
 -- ---- what is told beside the events
 
@@ -185,12 +190,12 @@ link_step kind before after proposed =
       reply = None;
     }
 
-lost_proposal : step_words 10 (link_step DecideAfter (codes "0.0") (codes "0.0") (Some (alone (codes "anchor.after") (codes "1.0"))))
+lost_proposal : frame_words 10 (Steps (link_step DecideAfter (codes "0.0") (codes "0.0") (Some (alone (codes "anchor.after") (codes "1.0")))))
     ≡ codes "10  P1  L  proposes 1.0 for anchor.after; 0.0 is there already: lost."
 unfolding digits
 lost_proposal = refl
 
-won_proposal : step_words 10 (link_step DecideAfter (codes "?") (codes "1.0") (Some (alone (codes "anchor.after") (codes "1.0"))))
+won_proposal : frame_words 10 (Steps (link_step DecideAfter (codes "?") (codes "1.0") (Some (alone (codes "anchor.after") (codes "1.0")))))
     ≡ codes "10  P1  L  proposes 1.0 for anchor.after: won."
 unfolding digits
 won_proposal = refl

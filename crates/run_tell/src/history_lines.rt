@@ -9,7 +9,7 @@ ghost use Rattle.run_tell.specs.Opened.{opening_shown};
 ghost use Rattle.run_tell.specs.HistoryLines.{call_members, observed_line, opening_line, replied_line};
 
 use crate::opened::Opened;
-use crate::trace_lines::push_line;
+use crate::trace::push_line;
 use crate::value::{Member, Value};
 use run_replay::{Frame, cell_text};
 use seq_object::CallId;

@@ -1,15 +1,15 @@
 //! The text of objects and lists.
 
-ghost use Rattle.std.specs.Prelude.{◌≡◌, ◌++◌, ◌<◌, OnOk, map, option_map};
+ghost use Rattle.std.specs.Prelude.{◌≡◌, ◌++◌, ◌<◌, IfOk, OnOk, map, option_map};
 ghost use Rattle.std.specs.Fmt.{decimal};
 ghost use Rattle.std.specs.List.{flat_map};
 ghost use Rattle.run_tell.specs.Json.{after_comma, code_text, escaped, escaped_byte, hex_digit, list_text};
-ghost use Rattle.run_tell.specs.Json.{MaybeNumber, text_or_null};
-ghost use Rattle.run_tell.specs.Json.{member_text, object_text, quoted, separated, value_text};
+ghost use Rattle.run_tell.specs.Json.{member_text, object_text, quoted, separated, text_or_null};
+ghost use Rattle.run_tell.specs.Json.{value_text};
 ghost use Rattle.run_tell.specs.JsonShown.{member_shown, value_shown};
 
 use crate::value::{Member, Value};
-use std::alloc::AllocError;
+use std::alloc::{AllocError, Global};
 use std::io::Write;
 
 /// Adds an object with these members, in order.
@@ -23,6 +23,17 @@ pub fn push_object(text: &mut Vec<u8>, members: &[Member<'_>]) -> Result<(), All
     push_members(text, members)?;
     text.push(b'}')?;
     Ok(())
+}
+
+/// The text of an object with these members.
+///
+/// An `Err` says that memory was refused.
+pub fn object_of(alloc: Global, members: &[Member<'_>]) -> Result<Vec<u8>, AllocError>
+    ensures { IfOk result (λ text. text.items ≡ object_text (map member_shown members.now)) }
+{
+    let mut text = Vec::new(alloc);
+    push_object(&mut text, members)?;
+    Ok(text)
 }
 
 /// Adds members with commas between them.
@@ -47,19 +58,21 @@ pub fn push_more_members(text: &mut Vec<u8>, members: &[Member<'_>]) -> Result<(
         ≡ text.old.items ++ flat_map after_comma (map member_text (map member_shown members.now))) }
 {
     for one in members {
-        push_after_comma(text, one)?;
+        text.push(b',')?;
+        push_member(text, one)?;
     }
     Ok(())
 }
 
-/// Adds a member with a comma before it.
+/// The text of a list whose elements have these texts, which are to be JSON.
 ///
 /// An `Err` says that memory was refused.
-fn push_after_comma(text: &mut Vec<u8>, one: &Member<'_>) -> Result<(), AllocError>
-    ensures { OnOk result (text.new.items ≡ text.old.items ++ after_comma (member_text (member_shown one.now))) }
+pub fn list_of(alloc: Global, elements: &[Vec<u8>]) -> Result<Vec<u8>, AllocError>
+    ensures { IfOk result (λ text. text.items ≡ list_text (map (λ e. e.items) elements.now)) }
 {
-    text.push(b',')?;
-    push_member(text, one)
+    let mut text = Vec::new(alloc);
+    push_list(&mut text, elements)?;
+    Ok(text)
 }
 
 /// Adds a list whose elements have these texts, which are to be JSON.
@@ -124,7 +137,9 @@ fn push_value(text: &mut Vec<u8>, value: Value<'_>) -> Result<(), AllocError>
         Value::Text(words) => push_quoted(text, words),
         Value::Flag(true) => text.extend_from_slice(b"true"),
         Value::Flag(false) => text.extend_from_slice(b"false"),
-        Value::MaybeNumber(number) => push_maybe_number(text, number),
+        Value::MaybeNumber(Some(number)) => push_number(text, number),
+        Value::MaybeText(Some(words)) => push_quoted(text, words),
+        Value::MaybeNumber(None) | Value::MaybeText(None) => text.extend_from_slice(b"null"),
         Value::Json(json) => text.extend_from_slice(json),
     }
 }
@@ -138,18 +153,6 @@ fn push_number(text: &mut Vec<u8>, number: u64) -> Result<(), AllocError>
     write!(text, "{number}").map_err(|_| AllocError)
 }
 
-/// Adds a number, or `null` where there is none.
-///
-/// An `Err` says that memory was refused.
-fn push_maybe_number(text: &mut Vec<u8>, number: Option<u64>) -> Result<(), AllocError>
-    ensures { OnOk result (text.new.items ≡ text.old.items ++ value_text (MaybeNumber number)) }
-{
-    match number {
-        Some(number) => push_number(text, number),
-        None => text.extend_from_slice(b"null"),
-    }
-}
-
 /// Adds a string, or `null` where there is none.
 ///
 /// An `Err` says that memory was refused.
@@ -157,10 +160,7 @@ pub fn push_text_or_null(text: &mut Vec<u8>, words: &Option<Vec<u8>>) -> Result<
     ensures { OnOk result (text.new.items
         ≡ text.old.items ++ text_or_null (option_map (λ w. w.items) words.now)) }
 {
-    match words {
-        Some(words) => push_quoted(text, words),
-        None => text.extend_from_slice(b"null"),
-    }
+    push_value(text, Value::MaybeText(words))
 }
 
 /// Adds a string: its text, escaped, between quotes.

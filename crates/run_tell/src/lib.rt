@@ -17,31 +17,26 @@ mod page;
 mod page_laws;
 mod rows;
 mod sentences;
-mod step_lines;
 mod steps;
 mod told;
 mod trace;
-mod trace_lines;
 mod trace_members;
-mod trace_memory;
 mod value;
 mod viewer;
 
 pub use access::access_of;
 pub use history::{InHistory, tell_history};
-pub use json::{push_list, push_members, push_more_members, push_object, push_text_or_null};
+pub use json::{
+    list_of, object_of, push_list, push_members, push_more_members, push_object, push_text_or_null,
+};
 pub use opened::Opened;
 pub use order::Telling;
 pub use page::{page_of, page_text};
 pub use page_laws::trace_ends_no_element;
 pub use rows::InRows;
-pub use sentences::{
-    opening_words, push_begun_sentence, push_end_sentence, push_step_sentence, remark_words,
-};
-pub use step_lines::push_change_words;
-pub use steps::InWords;
+pub use sentences::{changes_in, frame_words, opening_words, push_sentence, remark_words};
+pub use steps::{InWords, push_change_words};
 pub use told::{tell_record, tell_script};
-pub use trace::{InJson, InWholeJson};
-pub use trace_lines::push_line;
+pub use trace::{InJson, InLines, InWholeJson, push_line};
 pub use value::{Member, Value};
 pub use viewer::{END, MIDDLE, START};

@@ -1,7 +1,7 @@
 //! The pieces of a run, told in order.
 
-ghost use Rattle.std.specs.Prelude.{◌≡◌, ◌⊎◌, ◌↔◌, ◌+◌, ◌++◌, ◌<◌, ◌≤◌, ◌^◌, [], IfErr, IsErrOf, OnErr, OnOk, false};
-ghost use Rattle.std.specs.Prelude.{length, slice_get, true};
+ghost use Rattle.std.specs.Prelude.{◌≡◌, ◌⊎◌, ◌↔◌, ◌+◌, ◌++◌, ◌<◌, ◌≤◌, ◌^◌, []};
+ghost use Rattle.std.specs.Prelude.{IfErr, IsErrOf, OnErr, OnOk, false, length, slice_get, true};
 ghost use Rattle.std.specs.List.{flat_map};
 ghost use Rattle.uni_script.specs.Ends.{AppendsPrefix, Moves};
 ghost use Rattle.run_replay.specs.ScenesShown.{scene_shown};

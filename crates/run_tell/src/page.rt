@@ -84,7 +84,8 @@ fn text_of_run<T: Telling>(
         ≡ text_of_session T.wording range (session_of_record version run.now.record)
         run.now.lines.items run.now.remarks.items) }
     ensures linearizable { (version : Version) → IsLinearizableSession (session_of_record version run.now.record) }
-    ensures many { IsErrOf result PictureFault.TooManyEvents → 2000 < count_in range (events_of_record run.now.record) }
+    ensures many { IsErrOf result PictureFault.TooManyEvents
+        → 2000 < count_in range (events_of_record run.now.record) }
     ensures memory { (e : Fault) → IsErrOf result (PictureFault.Script e) → e ≡ Fault.Memory }
 {
     let mut text = Checked::new(Vec::new(alloc));
@@ -108,7 +109,8 @@ fn page_of_run(
         ≡ page_between START.now MIDDLE.now END.now range (session_of_record version run.now.record)
         run.now.lines.items run.now.remarks.items) }
     ensures linearizable { (version : Version) → IsLinearizableSession (session_of_record version run.now.record) }
-    ensures many { IsErrOf result PictureFault.TooManyEvents → 2000 < count_in range (events_of_record run.now.record) }
+    ensures many { IsErrOf result PictureFault.TooManyEvents
+        → 2000 < count_in range (events_of_record run.now.record) }
     ensures memory { (e : Fault) → IsErrOf result (PictureFault.Script e) → e ≡ Fault.Memory }
 {
     let rows = text_of_run::<InRows>(alloc, range, run)?;

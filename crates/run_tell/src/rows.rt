@@ -3,18 +3,15 @@
 ghost use Rattle.std.specs.Prelude.{◌≡◌, ◌++◌, [], IfOk, OnOk, decimal, map, option_map};
 ghost use Rattle.std.specs.List.{flat_map};
 ghost use Rattle.std.specs.Option.{option_map_or};
-ghost use Rattle.run_replay.specs.ScenesShown.{begun_shown, change_shown, end_shown, frame_shown, step_shown};
-ghost use Rattle.run_tell.specs.Rows.{begun_cells, cell, changed_words, end_cells, frame_cells};
-ghost use Rattle.run_tell.specs.Rows.{reply_words, row_text, stage_words, step_cells, told_cells};
+ghost use Rattle.run_replay.specs.ScenesShown.{change_shown, step_shown};
+ghost use Rattle.run_tell.specs.Rows.{cell, changed_words, reply_words, row_text, stage_words, told_cells};
 
 use crate::opened::Opened;
 use crate::order::Telling;
-use crate::sentences::{
-    opening_words, push_begun_sentence, push_end_sentence, push_step_sentence, remark_words,
-};
-use crate::step_lines::push_change_words;
+use crate::sentences::{changes_in, opening_words, push_sentence, remark_words};
+use crate::steps::push_change_words;
 use run_layout::{letter_of, name_of, push_counted};
-use run_replay::{Begun, Change, EndedEra, Frame, Scene, Step, cell_text, changes_of};
+use run_replay::{Change, Frame, Scene, Step, cell_text};
 use std::alloc::{AllocError, Global};
 use std::io::Write;
 use svg_text::push_escaped;
@@ -109,73 +106,6 @@ fn stage_words(alloc: Global, step: &Step) -> Result<Vec<u8>, AllocError>
     Ok(words)
 }
 
-/// Adds the row of a call that begins.
-///
-/// An `Err` says that memory was refused.
-fn push_begun_row(
-    alloc: Global,
-    event: u64,
-    begun: &Begun,
-    rows: &mut Vec<u8>,
-) -> Result<(), AllocError>
-    ensures { OnOk result (rows.new.items ≡ rows.old.items ++ row_text (begun_cells event (begun_shown begun.now))) }
-{
-    let number = number_text(alloc, event)?;
-    let process = name_of(alloc, u64::from(begun.call.process))?;
-    let call = cell_text(alloc, Some(begun.call))?;
-    let mut happened = Vec::new(alloc);
-    push_begun_sentence(alloc, begun, &mut happened)?;
-    let changes = changes_of(alloc, &begun.before, &begun.after)?;
-    let changed = changed_words(alloc, &changes)?;
-    push_row(
-        rows,
-        &[&number, &process, &call, b"", &happened, &changed, b""],
-    )
-}
-
-/// Adds the row of a step.
-///
-/// An `Err` says that memory was refused.
-fn push_step_row(
-    alloc: Global,
-    event: u64,
-    step: &Step,
-    rows: &mut Vec<u8>,
-) -> Result<(), AllocError>
-    ensures { OnOk result (rows.new.items ≡ rows.old.items ++ row_text (step_cells event (step_shown step.now))) }
-{
-    let number = number_text(alloc, event)?;
-    let process = name_of(alloc, u64::from(step.call.process))?;
-    let call = cell_text(alloc, Some(step.call))?;
-    let kind = [letter_of(step.kind)];
-    let changes = changes_of(alloc, &step.before, &step.after)?;
-    let mut happened = Vec::new(alloc);
-    push_step_sentence(&mut happened, step, &changes)?;
-    let changed = changed_words(alloc, &changes)?;
-    let stage = stage_words(alloc, step)?;
-    push_row(
-        rows,
-        &[&number, &process, &call, &kind, &happened, &changed, &stage],
-    )
-}
-
-/// Adds the row of the end of an era.
-///
-/// An `Err` says that memory was refused.
-fn push_end_row(
-    alloc: Global,
-    event: u64,
-    end: &EndedEra,
-    rows: &mut Vec<u8>,
-) -> Result<(), AllocError>
-    ensures { OnOk result (rows.new.items ≡ rows.old.items ++ row_text (end_cells event (end_shown end.now))) }
-{
-    let number = number_text(alloc, event)?;
-    let mut happened = Vec::new(alloc);
-    push_end_sentence(&mut happened, end)?;
-    push_row(rows, &[&number, b"", b"", b"", &happened, b"", b""])
-}
-
 /// Tells a run in rows of a table.
 pub struct InRows;
 
@@ -204,10 +134,31 @@ impl Telling for InRows {
         scene: &Scene,
         text: &mut Vec<u8>,
     ) -> Result<(), AllocError> {
+        let number = number_text(alloc, event)?;
+        let changes = changes_in(alloc, &scene.frame)?;
+        let changed = changed_words(alloc, &changes)?;
+        let mut happened = Vec::new(alloc);
+        push_sentence(alloc, &scene.frame, &changes, &mut happened)?;
         match &scene.frame {
-            Frame::Call(begun) => push_begun_row(alloc, event, begun, text),
-            Frame::Step(step) => push_step_row(alloc, event, step, text),
-            Frame::End(end) => push_end_row(alloc, event, end, text),
+            Frame::Call(begun) => {
+                let process = name_of(alloc, u64::from(begun.call.process))?;
+                let call = cell_text(alloc, Some(begun.call))?;
+                push_row(
+                    text,
+                    &[&number, &process, &call, b"", &happened, &changed, b""],
+                )
+            }
+            Frame::Step(step) => {
+                let process = name_of(alloc, u64::from(step.call.process))?;
+                let call = cell_text(alloc, Some(step.call))?;
+                let kind = [letter_of(step.kind)];
+                let stage = stage_words(alloc, step)?;
+                push_row(
+                    text,
+                    &[&number, &process, &call, &kind, &happened, &changed, &stage],
+                )
+            }
+            Frame::End(_) => push_row(text, &[&number, b"", b"", b"", &happened, b"", b""]),
         }
     }
 

@@ -1,42 +1,29 @@
 //! The sentences of a run.
 
-ghost use Rattle.std.specs.Prelude.{◌≡◌, ◌++◌, IfOk, OnOk, [], map, option_map};
+ghost use Rattle.std.specs.Prelude.{◌≡◌, ◌++◌, IfOk, OnOk, [], codes, decimal, map, option_map};
 ghost use Rattle.run_replay.specs.Held.{changes_between};
-ghost use Rattle.run_replay.specs.ScenesShown.{begun_shown, change_shown, end_shown, field_shown};
+ghost use Rattle.run_replay.specs.ScenesShown.{begun_shown, change_shown, end_shown, field_shown, frame_shown};
 ghost use Rattle.run_replay.specs.ScenesShown.{held_shown, start_shown, step_shown};
 ghost use Rattle.run_tell.specs.Opened.{opening_shown};
-ghost use Rattle.run_tell.specs.Sentences.{begun_sentence, begun_words, end_sentence, end_word, end_words};
-ghost use Rattle.run_tell.specs.Sentences.{event_start, holds_words, kept_words, left_out_words, left_words};
-ghost use Rattle.run_tell.specs.Sentences.{note_words, number_words, opening_words, outcome_words, plain_words};
-ghost use Rattle.run_tell.specs.Sentences.{proposed_words, refused_words, remark_words, reply_words, return_words};
-ghost use Rattle.run_tell.specs.Sentences.{role_of, run_words, sentence, spent_words, step_words};
+ghost use Rattle.run_tell.specs.Sentences.{begun_sentence, changes_in, end_sentence, end_word, frame_sentence};
+ghost use Rattle.run_tell.specs.Sentences.{frame_start, frame_words, holds_words, kept_words, left_out_words};
+ghost use Rattle.run_tell.specs.Sentences.{left_words, note_words, number_words, opening_words, outcome_words};
+ghost use Rattle.run_tell.specs.Sentences.{plain_words, proposed_words, refused_words, remark_words, reply_words};
+ghost use Rattle.run_tell.specs.Sentences.{return_words, role_of, run_words, sentence, spent_words};
 
 use crate::access::access_of;
 use crate::opened::Opened;
 use run_layout::{letter_of, push_counted, refused_text};
-use run_replay::{Begun, Change, EndedEra, Field, Held, Start, Step, cell_text};
+use run_replay::{Begun, Change, EndedEra, Field, Frame, Held, Start, Step, cell_text, changes_of};
 use std::alloc::{AllocError, Global};
 use std::io::Write;
 use uni_core::StepKind;
 use uni_script::{Refusal, Remark};
 
-/// Adds the number of an event, and its process.
-///
-/// An `Err` says that memory was refused.
-fn push_event_start(words: &mut Vec<u8>, event: u64, process: u32) -> Result<(), AllocError>
-    ensures { OnOk result (words.new.items ≡ words.old.items ++ event_start event process) }
-{
-    write!(words, "{event}  P{process}  ").map_err(|_| AllocError)
-}
-
 /// Adds the sentence of a call that begins.
 ///
 /// An `Err` says that memory was refused.
-pub fn push_begun_sentence(
-    alloc: Global,
-    begun: &Begun,
-    words: &mut Vec<u8>,
-) -> Result<(), AllocError>
+fn push_begun_sentence(alloc: Global, begun: &Begun, words: &mut Vec<u8>) -> Result<(), AllocError>
     ensures { OnOk result (words.new.items ≡ words.old.items ++ begun_sentence (begun_shown begun.now)) }
 {
     let cell = cell_text(alloc, Some(begun.call))?;
@@ -46,18 +33,6 @@ pub fn push_begun_sentence(
     words.extend_from_slice(&cell)?;
     words.push(b'.')?;
     Ok(())
-}
-
-/// The line of a call that begins.
-///
-/// An `Err` says that memory was refused.
-pub fn begun_words(alloc: Global, event: u64, begun: &Begun) -> Result<Vec<u8>, AllocError>
-    ensures { IfOk result (λ words. words.items ≡ begun_words event (begun_shown begun.now)) }
-{
-    let mut words = Vec::new(alloc);
-    push_event_start(&mut words, event, begun.call.process)?;
-    push_begun_sentence(alloc, begun, &mut words)?;
-    Ok(words)
 }
 
 /// What the place of a step that reads or writes is to its process, as the end of a sentence.
@@ -200,7 +175,7 @@ fn push_outcome(words: &mut Vec<u8>, changes: &[Change], after: &Held) -> Result
 /// Adds the sentence of a step, which made these changes.
 ///
 /// An `Err` says that memory was refused.
-pub fn push_step_sentence(
+fn push_step_sentence(
     words: &mut Vec<u8>,
     step: &Step,
     changes: &[Change],
@@ -216,27 +191,6 @@ pub fn push_step_sentence(
         }
         None => push_kept(words, step),
     }
-}
-
-/// The line of a step, which made these changes.
-///
-/// An `Err` says that memory was refused.
-pub fn step_words(
-    alloc: Global,
-    event: u64,
-    step: &Step,
-    changes: &[Change],
-) -> Result<Vec<u8>, AllocError>
-    requires { map change_shown changes.now
-        ≡ changes_between (held_shown step.now.before) (held_shown step.now.after) }
-    ensures { IfOk result (λ words. words.items ≡ step_words event (step_shown step.now)) }
-{
-    let mut words = Vec::new(alloc);
-    push_event_start(&mut words, event, step.call.process)?;
-    words.push(letter_of(step.kind))?;
-    words.extend_from_slice(b"  ")?;
-    push_step_sentence(&mut words, step, changes)?;
-    Ok(words)
 }
 
 /// Adds how an era ended.
@@ -283,23 +237,88 @@ fn push_left(words: &mut Vec<u8>, number: u64, anchor: &Held) -> Result<(), Allo
 /// Adds the sentence of the end of an era.
 ///
 /// An `Err` says that memory was refused.
-pub fn push_end_sentence(words: &mut Vec<u8>, end: &EndedEra) -> Result<(), AllocError>
+fn push_end_sentence(words: &mut Vec<u8>, end: &EndedEra) -> Result<(), AllocError>
     ensures { OnOk result (words.new.items ≡ words.old.items ++ end_sentence (end_shown end.now)) }
 {
     push_end_word(words, end.reshaped)?;
     push_left(words, end.number, &end.anchor)
 }
 
-/// The line of the end of an era.
+/// Adds what an event did, which made these changes, in a sentence.
 ///
 /// An `Err` says that memory was refused.
-pub fn end_words(alloc: Global, event: u64, end: &EndedEra) -> Result<Vec<u8>, AllocError>
-    ensures { IfOk result (λ words. words.items ≡ end_words event (end_shown end.now)) }
+pub fn push_sentence(
+    alloc: Global,
+    frame: &Frame,
+    changes: &[Change],
+    words: &mut Vec<u8>,
+) -> Result<(), AllocError>
+    requires { map change_shown changes.now ≡ changes_in (frame_shown frame.now) }
+    ensures { OnOk result (words.new.items ≡ words.old.items ++ frame_sentence (frame_shown frame.now)) }
+{
+    match frame {
+        Frame::Call(begun) => push_begun_sentence(alloc, begun, words),
+        Frame::Step(step) => push_step_sentence(words, step, changes),
+        Frame::End(end) => push_end_sentence(words, end),
+    }
+}
+
+/// Adds the number of a process.
+///
+/// An `Err` says that memory was refused.
+fn push_process(words: &mut Vec<u8>, process: u32) -> Result<(), AllocError>
+    ensures { OnOk result (words.new.items ≡ words.old.items ++ (codes "P" ++ decimal process ++ codes "  ")) }
+{
+    write!(words, "P{process}  ").map_err(|_| AllocError)
+}
+
+/// Adds whose event it is, with the letter of its kind.
+///
+/// An `Err` says that memory was refused.
+fn push_frame_start(words: &mut Vec<u8>, frame: &Frame) -> Result<(), AllocError>
+    ensures { OnOk result (words.new.items ≡ words.old.items ++ frame_start (frame_shown frame.now)) }
+{
+    match frame {
+        Frame::Call(begun) => push_process(words, begun.call.process),
+        Frame::Step(step) => {
+            push_process(words, step.call.process)?;
+            words.push(letter_of(step.kind))?;
+            words.extend_from_slice(b"  ")
+        }
+        Frame::End(_) => Ok(()),
+    }
+}
+
+/// The words of an event, which made these changes.
+///
+/// An `Err` says that memory was refused.
+pub fn frame_words(
+    alloc: Global,
+    event: u64,
+    frame: &Frame,
+    changes: &[Change],
+) -> Result<Vec<u8>, AllocError>
+    requires { map change_shown changes.now ≡ changes_in (frame_shown frame.now) }
+    ensures { IfOk result (λ words. words.items ≡ frame_words event (frame_shown frame.now)) }
 {
     let mut words = Vec::new(alloc);
     write!(words, "{event}  ").map_err(|_| AllocError)?;
-    push_end_sentence(&mut words, end)?;
+    push_frame_start(&mut words, frame)?;
+    push_sentence(alloc, frame, changes, &mut words)?;
     Ok(words)
+}
+
+/// The places that an event changed.
+///
+/// An `Err` says that memory was refused.
+pub fn changes_in(alloc: Global, frame: &Frame) -> Result<Vec<Change>, AllocError>
+    ensures { IfOk result (λ changes. map change_shown changes.items ≡ changes_in (frame_shown frame.now)) }
+{
+    match frame {
+        Frame::Call(begun) => changes_of(alloc, &begun.before, &begun.after),
+        Frame::Step(step) => changes_of(alloc, &step.before, &step.after),
+        Frame::End(_) => Ok(Vec::new(alloc)),
+    }
 }
 
 /// The sentence of a refusal.

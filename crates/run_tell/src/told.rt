@@ -1,6 +1,7 @@
 //! From the bytes of a script to its run, told.
 
-ghost use Rattle.std.specs.Prelude.{◌≡◌, ◌≢◌, ◌⊎◌, ◌↔◌, ◌<◌, IfErr, IfOk, IsErrOf, false, length, option_map, true};
+ghost use Rattle.std.specs.Prelude.{◌≡◌, ◌≢◌, ◌⊎◌, ◌↔◌, ◌<◌, IfErr, IfOk, IsErrOf, false};
+ghost use Rattle.std.specs.Prelude.{length, option_map, true};
 ghost use Rattle.uni_record.specs.Event.{events_shown};
 ghost use Rattle.uni_script.specs.Objects.{spoken};
 ghost use Rattle.uni_script.specs.Replay.{HasFault, IsFaultOfScript};

@@ -1,26 +1,18 @@
 //! The values of a line's members.
 
-ghost use Rattle.std.specs.Prelude.{◌≡◌, IfOk, map, option_map};
-ghost use Rattle.run_tell.specs.Json.{object_text, text_or_null};
-ghost use Rattle.run_replay.specs.Held.{changes_between};
-ghost use Rattle.run_replay.specs.ScenesShown.{change_shown, held_shown};
-ghost use Rattle.run_tell.specs.TraceMembers.{change_members, changes_text, is_any, letter_text, proposed_text};
+ghost use Rattle.std.specs.Prelude.{◌≡◌, ◌++◌, ◌∷◌, [], IfOk, OnOk, map, option_map};
+ghost use Rattle.run_replay.specs.ScenesShown.{change_shown, field_shown, held_shown, start_shown};
+ghost use Rattle.run_tell.specs.Json.{object_text};
+ghost use Rattle.run_tell.specs.JsonShown.{member_shown};
+ghost use Rattle.run_tell.specs.TraceLines.{changes_text, field_text, held_fields, is_any, letter_text};
+ghost use Rattle.run_tell.specs.TraceLines.{memory_text, start_text};
 
-use crate::json::{push_list, push_object, push_text_or_null};
+use crate::json::{list_of, object_of};
 use crate::value::{Member, Value};
 use run_layout::letter_of;
-use run_replay::{Change, Held, changes_of};
+use run_replay::{Change, Field, Held, Start};
 use std::alloc::{AllocError, Global};
 use uni_core::StepKind;
-
-/// The letter of a kind of step, as a text.
-///
-/// An `Err` says that memory was refused.
-pub fn letter_text(alloc: Global, kind: StepKind) -> Result<Vec<u8>, AllocError>
-    ensures { IfOk result (λ text. text.items ≡ letter_text kind) }
-{
-    Vec::from_slice(alloc, &[letter_of(kind)])
-}
 
 /// The letter of a kind of step, where there is one.
 ///
@@ -29,92 +21,116 @@ pub fn next_letter(alloc: Global, next: Option<StepKind>) -> Result<Option<Vec<u
     ensures { IfOk result (λ text. option_map (λ t. t.items) text ≡ option_map letter_text next) }
 {
     match next {
-        Some(kind) => Ok(Some(letter_text(alloc, kind)?)),
+        Some(kind) => Ok(Some(Vec::from_slice(alloc, &[letter_of(kind)])?)),
         None => Ok(None),
     }
 }
 
-/// The text of a string, or `null` where there is none.
+/// The text of what a step proposed, where it proposed something.
 ///
 /// An `Err` says that memory was refused.
-pub fn text_or_null(alloc: Global, words: &Option<Vec<u8>>) -> Result<Vec<u8>, AllocError>
-    ensures { IfOk result (λ text. text.items ≡ text_or_null (option_map (λ w. w.items) words.now)) }
-{
-    let mut text = Vec::new(alloc);
-    push_text_or_null(&mut text, words)?;
-    Ok(text)
-}
-
-/// Places that have changed, and their text.
-#[derive(Drop)]
-pub struct ChangeList {
-    /// Whether there is any.
-    pub is_any: bool,
-    /// Their text: a list of JSON.
-    pub json: Vec<u8>,
-}
-
-/// The places that have changed, from what a place held to what it holds.
-///
-/// An `Err` says that memory was refused.
-pub fn change_list(alloc: Global, before: &Held, after: &Held) -> Result<ChangeList, AllocError>
-    ensures any { IfOk result (λ changed. changed.is_any
-        ≡ is_any (changes_between (held_shown before.now) (held_shown after.now))) }
-    ensures json { IfOk result (λ changed. changed.json.items
-        ≡ changes_text (changes_between (held_shown before.now) (held_shown after.now))) }
-{
-    let changes = changes_of(alloc, before, after)?;
-    let json = changes_json(alloc, &changes)?;
-    let is_any = is_any(&changes);
-    Ok(ChangeList { is_any, json })
-}
-
-/// The text of what a step proposed, or `null` where it proposed nothing.
-///
-/// An `Err` says that memory was refused.
-pub fn proposed_json(alloc: Global, proposed: &Option<Held>) -> Result<Vec<u8>, AllocError>
-    ensures { IfOk result (λ text. text.items ≡ proposed_text (option_map held_shown proposed.now)) }
+pub fn proposed_text(alloc: Global, proposed: &Option<Held>) -> Result<Option<Vec<u8>>, AllocError>
+    ensures { IfOk result (λ text. option_map (λ t. t.items) text
+        ≡ option_map (λ h. h.field.text) (option_map held_shown proposed.now)) }
 {
     match proposed {
-        Some(held) => text_or_null(alloc, &Some(Vec::from_slice(alloc, &held.field.text)?)),
-        None => text_or_null(alloc, &None),
+        Some(held) => Ok(Some(Vec::from_slice(alloc, &held.field.text)?)),
+        None => Ok(None),
     }
 }
 
 /// Whether there is any change.
-fn is_any(changes: &[Change]) -> bool
+pub fn is_any(changes: &[Change]) -> bool
     ensures { result ≡ is_any (map change_shown changes.now) }
 {
     !changes.is_empty()
 }
 
+/// Adds the text of an object with these members.
+///
+/// An `Err` says that memory was refused.
+fn push_element(
+    alloc: Global,
+    members: &[Member<'_>],
+    elements: &mut Vec<Vec<u8>>,
+) -> Result<(), AllocError>
+    ensures { OnOk result (map (λ e. e.items) elements.new.items
+        ≡ map (λ e. e.items) elements.old.items ++ object_text (map member_shown members.now) ∷ []) }
+{
+    elements.push(object_of(alloc, members)?)?;
+    Ok(())
+}
+
 /// The text of changes.
 ///
 /// An `Err` says that memory was refused.
-fn changes_json(alloc: Global, changes: &[Change]) -> Result<Vec<u8>, AllocError>
+pub fn changes_json(alloc: Global, changes: &[Change]) -> Result<Vec<u8>, AllocError>
     ensures { IfOk result (λ text. text.items ≡ changes_text (map change_shown changes.now)) }
 {
     let mut elements = Vec::new(alloc);
     for change in changes {
-        elements.push(change_json(alloc, change)?)?;
+        let members = [
+            Member("place", Value::Text(&change.name)),
+            Member("before", Value::Text(&change.before)),
+            Member("after", Value::Text(&change.after)),
+        ];
+        push_element(alloc, &members, &mut elements)?;
     }
-    let mut text = Vec::new(alloc);
-    push_list(&mut text, &elements)?;
-    Ok(text)
+    list_of(alloc, &elements)
 }
 
-/// The text of a change.
+/// Adds the text of a field, and of what it holds.
 ///
 /// An `Err` says that memory was refused.
-fn change_json(alloc: Global, change: &Change) -> Result<Vec<u8>, AllocError>
-    ensures { IfOk result (λ text. text.items ≡ object_text (change_members (change_shown change.now))) }
+fn push_field(alloc: Global, field: &Field, elements: &mut Vec<Vec<u8>>) -> Result<(), AllocError>
+    ensures { OnOk result (map (λ e. e.items) elements.new.items
+        ≡ map (λ e. e.items) elements.old.items ++ field_text (field_shown field.now) ∷ []) }
 {
-    let mut text = Vec::new(alloc);
     let members = [
-        Member("place", Value::Text(&change.name)),
-        Member("before", Value::Text(&change.before)),
-        Member("after", Value::Text(&change.after)),
+        Member("place", Value::Text(&field.name)),
+        Member("content", Value::Text(&field.text)),
     ];
-    push_object(&mut text, &members)?;
-    Ok(text)
+    push_element(alloc, &members, elements)
+}
+
+/// Adds the texts of the fields of a place.
+///
+/// An `Err` says that memory was refused.
+fn push_fields(alloc: Global, held: &Held, elements: &mut Vec<Vec<u8>>) -> Result<(), AllocError>
+    ensures { OnOk result (map (λ e. e.items) elements.new.items
+        ≡ map (λ e. e.items) elements.old.items ++ map field_text (held_fields (held_shown held.now))) }
+{
+    push_field(alloc, &held.field, elements)?;
+    match &held.reply {
+        Some(reply) => push_field(alloc, reply, elements),
+        None => Ok(()),
+    }
+}
+
+/// The text of a memory.
+///
+/// An `Err` says that memory was refused.
+pub fn memory_json(alloc: Global, memory: &[Held]) -> Result<Vec<u8>, AllocError>
+    ensures { IfOk result (λ text. text.items ≡ memory_text (map held_shown memory.now)) }
+{
+    let mut elements = Vec::new(alloc);
+    for held in memory {
+        push_fields(alloc, held, &mut elements)?;
+    }
+    list_of(alloc, &elements)
+}
+
+/// The text of where events begin.
+///
+/// An `Err` says that memory was refused.
+pub fn start_json(alloc: Global, start: &Start) -> Result<Vec<u8>, AllocError>
+    ensures { IfOk result (λ text. text.items ≡ start_text (start_shown start.now)) }
+{
+    let memory = memory_json(alloc, &start.memory)?;
+    let members = [
+        Member("events", Value::Number(start.events)),
+        Member("processes", Value::Number(start.processes)),
+        Member("memory", Value::Json(&memory)),
+    ];
+    object_of(alloc, &members)
 }

@@ -11,6 +11,8 @@ pub enum Value<'a> {
     Flag(bool),
     /// A number, or `null` where there is none.
     MaybeNumber(Option<u64>),
+    /// A string, not escaped, or `null` where there is none.
+    MaybeText(&'a Option<Vec<u8>>),
     /// A value whose text is JSON.
     Json(&'a [u8]),
 }

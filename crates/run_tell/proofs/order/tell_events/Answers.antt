@@ -1,11 +1,11 @@
-use Rattle.run_tell.proofs.Vocabulary.{Err, Some, [], ap, inr, arith, drop, event_text, flat_map, length, remark_told, scene_shown, slice_get, subst, sym, take, told_from, told_text, ◌++◌, ◌+◌, ◌∙◌, ◌∷◌, ◌≡◌}
+use Rattle.run_tell.proofs.Vocabulary.{Err, Some, [], ap, inr, arith, length, scene_shown, subst, sym, told_from, told_text, ◌++◌, ◌∙◌, ◌∷◌, ◌≡◌}
 use Rattle.std.proofs.Common.{rules}
 use Rattle.std.proofs.lemmas.Result.{IfErr-weaker, err_from_is_err_and}
 use Rattle.uni_script.specs.Ends.{Moves}
 use Rattle.uni_script.proofs.RunningOn.{stays_false}
 use Rattle.uni_script.proofs.Written.{AppendsPrefix-nil}
 use Rattle.run_tell.specs.Opened.{opening_shown, trace_with}
-use Rattle.run_tell.proofs.ToldOn.{told_on}
+use Rattle.run_tell.proofs.ToldOn.{Moves-told_on}
 use Rattle.run_tell.proofs.Writing.{Moves-failed, Moves-more, Moves-part, Moves-start, WritesText-err, WritesText-last}
 use Rattle.run_tell.proofs.order.tell_events.Goals as goal
 
@@ -35,79 +35,34 @@ overflow_add-event g c =
 pub loop-text-preserved : goal.loop-text-preserved
 loop-text-preserved g c =
     let words = g.T.Telling.wording in
-    let range = c.args.range in
-    let lines = c.args.lines.now in
-    let here = c.loop-text in
-    let scene = c.in-Some.scene in
-    let rest = here.rest.now in
-    let left = c.next_scene.new.self in
-    let before = c.told_before.result in
-    let text = here.text.items in
-    let told = c.push_scene.new.text.items in
-    let split : here.scenes ≡ Some (scene_shown scene) ∷ left = rw c.in-Some.is at c.in_ok-scene.ensures.next in
-    let beside : c.push_remarks.new.text.items ≡ text ++ flat_map (remark_told words range) (take before rest) =
-    c.in_ok-push_remarks.ensures ∙ ap (λ some. text ++ flat_map (remark_told words range) some) c.split_at.ensures.front in
-    let scene_told : told ≡ c.push_remarks.new.text.items ++ words.event here.event (slice_get lines here.event) (scene_shown scene) =
-    c.in_ok-push_scene.ensures ∙ ap (λ line. c.push_remarks.new.text.items ++ words.event here.event line (scene_shown scene)) c.line_of.ensures in
-    let on : text ++ told_from words range lines here.event here.scenes rest ≡ told ++ told_from words range lines (here.event + 1) left c.split_at.result.1.now =
-    told_on words range lines here.event here.scenes left (Some (scene_shown scene)) rest before text c.push_remarks.new.text.items told c.told_before.ensures.count split beside scene_told
-    ∙ ap (λ later. told ++ told_from words range lines (here.event + 1) left later) (sym c.split_at.ensures.back) in
-    let whole = told_text words (trace_with range c.args.opened.now c.args.scenes) lines c.args.remarks.now in
+    let whole = told_text words (trace_with c.args.range c.args.opened.now c.args.scenes) c.args.lines.now c.args.remarks.now in
+    let split : c.loop-text.scenes ≡ Some (scene_shown c.in-Some.scene) ∷ c.next_scene.new.self = rw c.in-Some.is at c.in_ok-scene.ensures.next in
+    let told = Moves-told_on words c.args.range c.args.lines.now (g.W.TextOut.contents c.args.out.now) (g.W.TextOut.contents c.loop-text.out) whole c.loop-text.event c.loop-text.scenes c.next_scene.new.self (scene_shown c.in-Some.scene) c.loop-text.rest.now _ _ _ _ _ _ c.push_scene.new.text.items split c.told_before.ensures.count c.split_at.ensures.front c.split_at.ensures.back c.line_of.ensures c.in_ok-push_remarks.ensures c.in_ok-push_scene.ensures c.loop-text.invariant.moves in
     record {
-      moves = Moves-more _ _ _ whole told _ _ (subst (Moves (g.W.TextOut.contents c.args.out.now) (g.W.TextOut.contents here.out) whole) on here.invariant.moves) c.in_ok-write_from.ensures.moved;
+      moves = Moves-more _ _ _ whole c.push_scene.new.text.items _ _ told c.in_ok-write_from.ensures.moved;
       good = stays_false _ _ c.in_ok-write_from.ensures.out (λ e. cc);
-      numbers = omega (arith, ap length split, here.invariant.numbers);
+      numbers = omega (arith, ap length split, c.loop-text.invariant.numbers);
     }
 
 pub loop-text-preserved-in_ok-write_from : goal.loop-text-preserved-in_ok-write_from
 loop-text-preserved-in_ok-write_from g c =
     let words = g.T.Telling.wording in
-    let range = c.args.range in
-    let lines = c.args.lines.now in
-    let here = c.loop-text in
-    let scene = c.in-Some.scene in
-    let rest = here.rest.now in
-    let left = c.next_scene.new.self in
-    let before = c.told_before.result in
-    let text = here.text.items in
-    let told = c.push_scene.new.text.items in
-    let split : here.scenes ≡ Some (scene_shown scene) ∷ left = rw c.in-Some.is at c.in_ok-scene.ensures.next in
-    let beside : c.push_remarks.new.text.items ≡ text ++ flat_map (remark_told words range) (take before rest) =
-    c.in_ok-push_remarks.ensures ∙ ap (λ some. text ++ flat_map (remark_told words range) some) c.split_at.ensures.front in
-    let scene_told : told ≡ c.push_remarks.new.text.items ++ words.event here.event (slice_get lines here.event) (scene_shown scene) =
-    c.in_ok-push_scene.ensures ∙ ap (λ line. c.push_remarks.new.text.items ++ words.event here.event line (scene_shown scene)) c.line_of.ensures in
-    let on : text ++ told_from words range lines here.event here.scenes rest ≡ told ++ told_from words range lines (here.event + 1) left c.split_at.result.1.now =
-    told_on words range lines here.event here.scenes left (Some (scene_shown scene)) rest before text c.push_remarks.new.text.items told c.told_before.ensures.count split beside scene_told
-    ∙ ap (λ later. told ++ told_from words range lines (here.event + 1) left later) (sym c.split_at.ensures.back) in
-    let whole = told_text words (trace_with range c.args.opened.now c.args.scenes) lines c.args.remarks.now in
+    let whole = told_text words (trace_with c.args.range c.args.opened.now c.args.scenes) c.args.lines.now c.args.remarks.now in
+    let split : c.loop-text.scenes ≡ Some (scene_shown c.in-Some.scene) ∷ c.next_scene.new.self = rw c.in-Some.is at c.in_ok-scene.ensures.next in
+    let told = Moves-told_on words c.args.range c.args.lines.now (g.W.TextOut.contents c.args.out.now) (g.W.TextOut.contents c.loop-text.out) whole c.loop-text.event c.loop-text.scenes c.next_scene.new.self (scene_shown c.in-Some.scene) c.loop-text.rest.now _ _ _ _ _ _ c.push_scene.new.text.items split c.told_before.ensures.count c.split_at.ensures.front c.split_at.ensures.back c.line_of.ensures c.in_ok-push_remarks.ensures c.in_ok-push_scene.ensures c.loop-text.invariant.moves in
     record {
-      moves = Moves-more _ _ _ whole told _ _ (subst (Moves (g.W.TextOut.contents c.args.out.now) (g.W.TextOut.contents here.out) whole) on here.invariant.moves) c.in_ok-write_from.ensures.moved;
+      moves = Moves-more _ _ _ whole c.push_scene.new.text.items _ _ told c.in_ok-write_from.ensures.moved;
       good = stays_false _ _ c.in_ok-write_from.ensures.out (λ e. cc);
-      numbers = omega (arith, ap length split, here.invariant.numbers);
+      numbers = omega (arith, ap length split, c.loop-text.invariant.numbers);
     }
 
 pub returns-in_err-write_from-clause-told : goal.returns-in_err-write_from-clause-told
 returns-in_err-write_from-clause-told g c =
     let words = g.T.Telling.wording in
-    let range = c.args.range in
-    let lines = c.args.lines.now in
-    let here = c.loop-text in
-    let scene = c.in-Some.scene in
-    let rest = here.rest.now in
-    let left = c.next_scene.new.self in
-    let before = c.told_before.result in
-    let text = here.text.items in
-    let told = c.push_scene.new.text.items in
-    let split : here.scenes ≡ Some (scene_shown scene) ∷ left = rw c.in-Some.is at c.in_ok-scene.ensures.next in
-    let beside : c.push_remarks.new.text.items ≡ text ++ flat_map (remark_told words range) (take before rest) =
-    c.in_ok-push_remarks.ensures ∙ ap (λ some. text ++ flat_map (remark_told words range) some) c.split_at.ensures.front in
-    let scene_told : told ≡ c.push_remarks.new.text.items ++ words.event here.event (slice_get lines here.event) (scene_shown scene) =
-    c.in_ok-push_scene.ensures ∙ ap (λ line. c.push_remarks.new.text.items ++ words.event here.event line (scene_shown scene)) c.line_of.ensures in
-    let on : text ++ told_from words range lines here.event here.scenes rest ≡ told ++ told_from words range lines (here.event + 1) left c.split_at.result.1.now =
-    told_on words range lines here.event here.scenes left (Some (scene_shown scene)) rest before text c.push_remarks.new.text.items told c.told_before.ensures.count split beside scene_told
-    ∙ ap (λ later. told ++ told_from words range lines (here.event + 1) left later) (sym c.split_at.ensures.back) in
-    let whole = told_text words (trace_with range c.args.opened.now c.args.scenes) lines c.args.remarks.now in
-    WritesText-err _ _ _ _ (search rules) (Moves-failed _ _ _ whole told _ (subst (Moves (g.W.TextOut.contents c.args.out.now) (g.W.TextOut.contents here.out) whole) on here.invariant.moves) c.in_err-write_from.ensures.prefix)
+    let whole = told_text words (trace_with c.args.range c.args.opened.now c.args.scenes) c.args.lines.now c.args.remarks.now in
+    let split : c.loop-text.scenes ≡ Some (scene_shown c.in-Some.scene) ∷ c.next_scene.new.self = rw c.in-Some.is at c.in_ok-scene.ensures.next in
+    let told = Moves-told_on words c.args.range c.args.lines.now (g.W.TextOut.contents c.args.out.now) (g.W.TextOut.contents c.loop-text.out) whole c.loop-text.event c.loop-text.scenes c.next_scene.new.self (scene_shown c.in-Some.scene) c.loop-text.rest.now _ _ _ _ _ _ c.push_scene.new.text.items split c.told_before.ensures.count c.split_at.ensures.front c.split_at.ensures.back c.line_of.ensures c.in_ok-push_remarks.ensures c.in_ok-push_scene.ensures c.loop-text.invariant.moves in
+    WritesText-err _ _ _ _ (search rules) (Moves-failed _ _ _ whole c.push_scene.new.text.items _ told c.in_err-write_from.ensures.prefix)
 
 pub returns-in_err-write_from-clause-out : goal.returns-in_err-write_from-clause-out
 returns-in_err-write_from-clause-out g c =

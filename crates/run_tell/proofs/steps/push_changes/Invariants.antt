@@ -1,6 +1,6 @@
 use Rattle.run_tell.proofs.Vocabulary.{change_shown, change_words, codes, flat_map, map, take, ◌++◌, ◌≡◌}
 use Rattle.run_tell.specs.Sentences.{line_text}
-use Rattle.run_tell.proofs.step_lines.push_changes.Given as goal
+use Rattle.run_tell.proofs.steps.push_changes.Given as goal
 
 -- the lines so far
 abbrev pub invariant-loop-change : goal.invariant-loop-change

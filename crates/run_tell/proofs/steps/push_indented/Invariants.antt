@@ -1,5 +1,5 @@
 use Rattle.run_tell.proofs.Vocabulary.{flat_map, indented, map, take, ◌++◌, ◌≡◌}
-use Rattle.run_tell.proofs.step_lines.push_indented.Given as goal
+use Rattle.run_tell.proofs.steps.push_indented.Given as goal
 
 -- the lines so far
 abbrev pub invariant-loop-line : goal.invariant-loop-line

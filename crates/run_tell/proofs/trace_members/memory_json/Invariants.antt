@@ -1,5 +1,5 @@
 use Rattle.run_tell.proofs.Vocabulary.{field_text, flat_map, held_fields, held_shown, map, take, ◌≡◌}
-use Rattle.run_tell.proofs.trace_memory.memory_json.Given as goal
+use Rattle.run_tell.proofs.trace_members.memory_json.Given as goal
 
 -- the texts so far
 abbrev pub invariant-loop-held : goal.invariant-loop-held
