@@ -10,7 +10,6 @@ ghost use Rattle.uni_core.specs.Readers.{place_named, IsPlaceIn};
 ghost use Rattle.uni_core.specs.World.{name_in, world_of};
 ghost use Rattle.uni_log.specs.Entry.{entry_shown};
 ghost use Rattle.uni_record.specs.Event.{event_lent, event_shown, events_shown};
-ghost use Rattle.run_replay.specs.Frames.{answered};
 ghost use Rattle.run_replay.specs.Marks.{marks_of_run, bar_begun, box_of, era_of};
 ghost use Rattle.run_replay.specs.MarksShown.{bar_shown, cell_shown, end_shown, era_shown, marks_shown};
 ghost use Rattle.run_replay.specs.Marking.{marks_with, from_with, bar_ended, dot_linked};
@@ -228,7 +227,15 @@ fn replay_step<O: Spoken>(
         changed,
     })?;
     push_dot(coming, changed, place, process, &mut marks.dots)?;
-    let end = end_of(alloc, process, place, progress, replay)?;
+    let end = match progress {
+        Progress::Done(response) => Some(BarEnd {
+            event: place,
+            reply: O::resp_text(alloc, response)?,
+            steps: replay.steps(process),
+            turns: replay.turns(process),
+        }),
+        Progress::Going => None,
+    };
     end_bars(alloc, process, &end, &mut marks.bars)?;
     Ok(())
 }
@@ -251,35 +258,6 @@ fn push_dot(
         dots.push(Dot { event, call, by })?;
     }
     Ok(())
-}
-
-/// How a step that a process has taken in a replay ended its call, if it did.
-///
-/// An `Err` says that memory was refused.
-fn end_of<O: Spoken>(
-    alloc: Global,
-    process: u64,
-    place: u64,
-    progress: Progress<O::Resp>,
-    replay: &World<O>,
-) -> Result<Option<BarEnd>, AllocError>
-    requires { process < (world_of replay.now).n }
-    ensures { IfOk result (λ end. option_map end_shown end ≡ option_map (λ response. record {
-      event = place;
-      reply = O.language.resp_text response;
-      steps = (world_of replay.now).steps process;
-      turns = (world_of replay.now).turns process;
-    }) (answered progress)) }
-{
-    let Progress::Done(response) = progress else {
-        return Ok(None);
-    };
-    Ok(Some(BarEnd {
-        event: place,
-        reply: O::resp_text(alloc, response)?,
-        steps: replay.steps(process),
-        turns: replay.turns(process),
-    }))
 }
 
 /// Ends the bars of a process that haven't ended so, if its call has.
