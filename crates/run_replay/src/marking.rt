@@ -17,11 +17,11 @@ ghost use Rattle.run_replay.specs.Changes.{has_changed, presence, standing_at};
 
 use crate::marks::{Bar, BarEnd, CellBox, Dot, Era, EraEnd, EraLine, Marks, StepMark};
 use crate::opening::reopened;
-use crate::scenes::{Coming, coming_step, take_step};
+use crate::scenes::{Coming, coming_step, end_era, take_step};
 use cell_arena::CellId;
 use ready_objects::Spoken;
 use std::alloc::{AllocError, Global};
-use uni_core::{Place, Progress, StepKind, World, reshape, trim};
+use uni_core::{Place, Progress, StepKind, World};
 use uni_log::{Entry, Log};
 use uni_record::{Event, Recorded};
 
@@ -94,7 +94,7 @@ fn replay_event<O: Spoken>(
         }
         Event::Trim => {
             push_era(alloc, replay, from, Some(place), &mut marks.eras)?;
-            let number = trim(replay).map_err(|_| AllocError)?;
+            let number = end_era(alloc, None, replay)?;
             let end = EraEnd::Trim;
             let event = place;
             marks.lines.push(EraLine { event, end, number })?;
@@ -102,7 +102,7 @@ fn replay_event<O: Spoken>(
         }
         Event::Reshape(processes) => {
             push_era(alloc, replay, from, Some(place), &mut marks.eras)?;
-            let number = reshape(alloc, replay, processes).map_err(|_| AllocError)?;
+            let number = end_era(alloc, Some(processes), replay)?;
             let end = EraEnd::Reshape(processes);
             let event = place;
             marks.lines.push(EraLine { event, end, number })?;

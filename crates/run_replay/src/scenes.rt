@@ -1,12 +1,12 @@
 //! The scenes of a run, by the replay of its events.
 
-ghost use Rattle.std.specs.Prelude.{◌≡◌, ◌∷◌, ◌<◌, [], ℕ, None, Some, IfOk, IfNone, IfSome, IsSome, OnOk, drop};
-ghost use Rattle.std.specs.Prelude.{length, option_and_then, option_map, take};
+ghost use Rattle.std.specs.Prelude.{◌≡◌, ◌∷◌, [], ℕ, None, Some, IfOk, IfNone, IfSome, IsSome, OnOk, drop};
+ghost use Rattle.std.specs.Prelude.{length, option_map, take};
 ghost use Rattle.std.specs.Option.{option_map_or};
 ghost use Rattle.cell_arena.specs.Arena.{cell_of};
 ghost use Rattle.uni_model.specs.Worlds.{opened_world, world_after, world_after_all};
 ghost use Rattle.uni_model.specs.Worlds.{Event as model};
-ghost use Rattle.uni_core.specs.Readers.{call_of_name, place_named, proposed_at, IsPlaceIn};
+ghost use Rattle.uni_core.specs.Readers.{place_named, IsPlaceIn};
 ghost use Rattle.uni_core.specs.World.{name_in, world_of, IsProgress};
 ghost use Rattle.uni_core.specs.Ends.{last_number};
 ghost use Rattle.uni_record.specs.Event.{event_lent, event_shown, events_shown};
@@ -218,7 +218,7 @@ fn frame_of<O: Spoken>(
 /// anchor.
 ///
 /// An `Err` says that memory was refused, or the event.
-fn end_era<O: Spoken>(
+pub(crate) fn end_era<O: Spoken>(
     alloc: Global,
     reshaped: Option<u64>,
     replay: &mut World<O>,
@@ -229,8 +229,8 @@ fn end_era<O: Spoken>(
         (world_of replay.old) (option_map_or model.Reshape reshaped model.Trim)) }
 {
     match reshaped {
-        Some(processes) => reshape(alloc, replay, processes).map_err(|_| AllocError),
-        None => trim(replay).map_err(|_| AllocError),
+        Some(processes) => reshape(alloc, replay, processes).or(Err(AllocError)),
+        None => trim(replay).or(Err(AllocError)),
     }
 }
 
