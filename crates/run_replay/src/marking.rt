@@ -10,7 +10,6 @@ ghost use Rattle.uni_core.specs.Readers.{place_named, IsPlaceIn};
 ghost use Rattle.uni_core.specs.World.{name_in, world_of};
 ghost use Rattle.uni_log.specs.Entry.{entry_shown};
 ghost use Rattle.uni_record.specs.Event.{event_lent, event_shown, events_shown};
-ghost use Rattle.run_replay.specs.Frames.{answered};
 ghost use Rattle.run_replay.specs.Marks.{marks_of_run, bar_begun, box_of, era_of};
 ghost use Rattle.run_replay.specs.MarksShown.{bar_shown, cell_shown, end_shown, era_shown, marks_shown};
 ghost use Rattle.run_replay.specs.Marking.{marks_with, from_with, bar_ended, dot_linked};
@@ -18,11 +17,11 @@ ghost use Rattle.run_replay.specs.Changes.{has_changed, presence, standing_at};
 
 use crate::marks::{Bar, BarEnd, CellBox, Dot, Era, EraEnd, EraLine, Marks, StepMark};
 use crate::opening::reopened;
-use crate::scenes::{Coming, coming_step, take_step};
+use crate::scenes::{Coming, coming_step, end_era, take_step};
 use cell_arena::CellId;
 use ready_objects::Spoken;
 use std::alloc::{AllocError, Global};
-use uni_core::{Place, Progress, StepKind, World, reshape, trim};
+use uni_core::{Place, Progress, StepKind, World};
 use uni_log::{Entry, Log};
 use uni_record::{Event, Recorded};
 
@@ -95,7 +94,7 @@ fn replay_event<O: Spoken>(
         }
         Event::Trim => {
             push_era(alloc, replay, from, Some(place), &mut marks.eras)?;
-            let number = trim(replay).map_err(|_| AllocError)?;
+            let number = end_era(alloc, None, replay)?;
             let end = EraEnd::Trim;
             let event = place;
             marks.lines.push(EraLine { event, end, number })?;
@@ -103,7 +102,7 @@ fn replay_event<O: Spoken>(
         }
         Event::Reshape(processes) => {
             push_era(alloc, replay, from, Some(place), &mut marks.eras)?;
-            let number = reshape(alloc, replay, processes).map_err(|_| AllocError)?;
+            let number = end_era(alloc, Some(processes), replay)?;
             let end = EraEnd::Reshape(processes);
             let event = place;
             marks.lines.push(EraLine { event, end, number })?;
@@ -228,7 +227,15 @@ fn replay_step<O: Spoken>(
         changed,
     })?;
     push_dot(coming, changed, place, process, &mut marks.dots)?;
-    let end = end_of(alloc, process, place, progress, replay)?;
+    let end = match progress {
+        Progress::Done(response) => Some(BarEnd {
+            event: place,
+            reply: O::resp_text(alloc, response)?,
+            steps: replay.steps(process),
+            turns: replay.turns(process),
+        }),
+        Progress::Going => None,
+    };
     end_bars(alloc, process, &end, &mut marks.bars)?;
     Ok(())
 }
@@ -251,35 +258,6 @@ fn push_dot(
         dots.push(Dot { event, call, by })?;
     }
     Ok(())
-}
-
-/// How a step that a process has taken in a replay ended its call, if it did.
-///
-/// An `Err` says that memory was refused.
-fn end_of<O: Spoken>(
-    alloc: Global,
-    process: u64,
-    place: u64,
-    progress: Progress<O::Resp>,
-    replay: &World<O>,
-) -> Result<Option<BarEnd>, AllocError>
-    requires { process < (world_of replay.now).n }
-    ensures { IfOk result (λ end. option_map end_shown end ≡ option_map (λ response. record {
-      event = place;
-      reply = O.language.resp_text response;
-      steps = (world_of replay.now).steps process;
-      turns = (world_of replay.now).turns process;
-    }) (answered progress)) }
-{
-    let Progress::Done(response) = progress else {
-        return Ok(None);
-    };
-    Ok(Some(BarEnd {
-        event: place,
-        reply: O::resp_text(alloc, response)?,
-        steps: replay.steps(process),
-        turns: replay.turns(process),
-    }))
 }
 
 /// Ends the bars of a process that haven't ended so, if its call has.

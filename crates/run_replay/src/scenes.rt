@@ -1,17 +1,17 @@
 //! The scenes of a run, by the replay of its events.
 
-ghost use Rattle.std.specs.Prelude.{◌≡◌, ◌∷◌, ◌<◌, [], ℕ, None, Some, IfOk, IfNone, IfSome, IsSome, OnOk, drop};
-ghost use Rattle.std.specs.Prelude.{length, option_and_then, option_map, take};
+ghost use Rattle.std.specs.Prelude.{◌≡◌, ◌∷◌, [], ℕ, None, Some, IfOk, IfNone, IfSome, IsSome, OnOk, drop};
+ghost use Rattle.std.specs.Prelude.{length, option_map, take};
 ghost use Rattle.std.specs.Option.{option_map_or};
 ghost use Rattle.cell_arena.specs.Arena.{cell_of};
 ghost use Rattle.uni_model.specs.Worlds.{opened_world, world_after, world_after_all};
 ghost use Rattle.uni_model.specs.Worlds.{Event as model};
-ghost use Rattle.uni_core.specs.Readers.{call_of_name, place_named, proposed_at, IsPlaceIn};
+ghost use Rattle.uni_core.specs.Readers.{place_named, IsPlaceIn};
 ghost use Rattle.uni_core.specs.World.{name_in, world_of, IsProgress};
 ghost use Rattle.uni_core.specs.Ends.{last_number};
 ghost use Rattle.uni_record.specs.Event.{event_lent, event_shown, events_shown};
 ghost use Rattle.run_replay.specs.Changes.{IsComing};
-ghost use Rattle.run_replay.specs.Frames.{answered, begun, ended, frame_of, stepped};
+ghost use Rattle.run_replay.specs.Frames.{begun, ended, frame_of, stepped};
 ghost use Rattle.run_replay.specs.Held.{held};
 ghost use Rattle.run_replay.specs.Proposal.{proposal_told};
 ghost use Rattle.run_replay.specs.Scenes.{excerpt_of, start_of};
@@ -21,7 +21,7 @@ ghost use Rattle.run_replay.specs.ScenesShown.{scene_shown, start_shown, step_sh
 use crate::frame::{Begun, EndedEra, Frame, Held, Scene, Start, Step};
 use crate::opening::reopened;
 use crate::places::{alone, cell_text, field_held, read_place, settled_fields};
-use crate::whole::{memory_asked, whole_memory};
+use crate::whole::whole_memory;
 use cell_arena::{CellId, Cells};
 use ready_objects::Spoken;
 use seq_object::CallId;
@@ -68,7 +68,11 @@ impl<'a, O: Spoken> Scenes<'a, O> {
         };
         self.left -= 1;
         let frame = frame_of(alloc, event, &mut self.replay)?;
-        let memory = memory_asked(alloc, self.is_whole, &self.replay)?;
+        let memory = if self.is_whole {
+            Some(whole_memory(alloc, &self.replay)?)
+        } else {
+            None
+        };
         Ok(Some(Scene { frame, memory }))
     }
 }
@@ -214,7 +218,7 @@ fn frame_of<O: Spoken>(
 /// anchor.
 ///
 /// An `Err` says that memory was refused, or the event.
-fn end_era<O: Spoken>(
+pub(crate) fn end_era<O: Spoken>(
     alloc: Global,
     reshaped: Option<u64>,
     replay: &mut World<O>,
@@ -225,8 +229,8 @@ fn end_era<O: Spoken>(
         (world_of replay.old) (option_map_or model.Reshape reshaped model.Trim)) }
 {
     match reshaped {
-        Some(processes) => reshape(alloc, replay, processes).map_err(|_| AllocError),
-        None => trim(replay).map_err(|_| AllocError),
+        Some(processes) => reshape(alloc, replay, processes).or(Err(AllocError)),
+        None => trim(replay).or(Err(AllocError)),
     }
 }
 
@@ -286,22 +290,6 @@ pub fn begun_of<O: Spoken>(
     })
 }
 
-/// The text of the reply that a step answers; `None` where the call goes on.
-///
-/// An `Err` says that memory was refused.
-fn reply_of<O: Spoken>(
-    alloc: Global,
-    progress: Progress<O::Resp>,
-) -> Result<Option<Vec<u8>>, AllocError>
-    ensures { IfOk result (λ text. option_map (λ t. t.items) text ≡
-        option_map O.language.resp_text (answered progress)) }
-{
-    match progress {
-        Progress::Done(reply) => Ok(Some(O::resp_text(alloc, reply)?)),
-        Progress::Going => Ok(None),
-    }
-}
-
 /// What a step of this kind that was taken proposed for its place, by the call whose cell it proposed.
 ///
 /// An `Err` says that memory was refused.
@@ -340,18 +328,6 @@ pub(crate) struct Coming {
     pub(crate) proposed: Option<CallId>,
 }
 
-/// The call whose cell the next step of a process proposes after its head.
-fn proposed_call<O: Spoken>(world: &World<O>, process: u64) -> Option<CallId>
-    requires { process < (world_of world.now).n }
-    ensures { result ≡ option_and_then call_of_name
-        (option_and_then (λ c. proposed_at c.stage) ((world_of world.now).call process)) }
-{
-    match world.next_proposal(process) {
-        Some(cell) => world.call_of(cell),
-        None => None,
-    }
-}
-
 /// The next step of a process; `None` where it has no call pending, or there is no such process.
 pub(crate) fn coming_step<O: Spoken>(world: &World<O>, process: u64) -> Option<Coming>
     ensures coming { IfSome result (IsComing (world_of world.now) process) }
@@ -364,7 +340,10 @@ pub(crate) fn coming_step<O: Spoken>(world: &World<O>, process: u64) -> Option<C
     let call = world.current(process)?;
     let kind = world.next_kind(process)?;
     let place = world.next_place(process)?;
-    let proposed = proposed_call(world, process);
+    let proposed = match world.next_proposal(process) {
+        Some(cell) => world.call_of(cell),
+        None => None,
+    };
     Some(Coming {
         call,
         kind,
@@ -421,7 +400,10 @@ pub fn step_of<O: Spoken>(
     let progress = take_step(alloc, process, replay)?;
     let after = read_place(alloc, replay, coming.place)?;
     let proposed = proposed_of(alloc, coming.kind, coming.place, coming.proposed, replay)?;
-    let reply = reply_of::<O>(alloc, progress)?;
+    let reply = match progress {
+        Progress::Done(reply) => Some(O::resp_text(alloc, reply)?),
+        Progress::Going => None,
+    };
     Ok(Step {
         call: coming.call,
         kind: coming.kind,

@@ -1,6 +1,6 @@
 //! The whole memory of a world, as text.
 
-ghost use Rattle.std.specs.Prelude.{◌≡◌, ◌++◌, ◌∷◌, [], ◌<◌, IfOk, IsSome, OnOk, map, codes, option_map};
+ghost use Rattle.std.specs.Prelude.{◌≡◌, ◌++◌, ◌∷◌, [], ◌<◌, IfOk, IsSome, OnOk, map, codes};
 ghost use Rattle.cell_arena.specs.Arena.{cell_of};
 ghost use Rattle.std.specs.List.{flat_map, range_with_len};
 ghost use Rattle.std.specs.Option.{option_copied, option_map_or};
@@ -8,7 +8,6 @@ ghost use Rattle.ready_objects.specs.Words.{text_of_words};
 ghost use Rattle.uni_model.specs.Places.Place.{Announced, HeadOf};
 ghost use Rattle.uni_core.specs.World.{name_in, world_of};
 ghost use Rattle.run_replay.specs.Held.{held};
-ghost use Rattle.run_replay.specs.Scenes.{memory_asked};
 ghost use Rattle.run_replay.specs.ScenesShown.{held_shown};
 ghost use Rattle.run_replay.specs.Whole.{cells_below, cells_of, fields_of, whole_memory};
 
@@ -172,22 +171,4 @@ pub(crate) fn whole_memory<O: Spoken>(
     push_cell(alloc, world, CellId::anchor(), &mut memory)?;
     push_cells(alloc, world, &mut memory)?;
     Ok(memory)
-}
-
-/// The same, where it is asked for.
-///
-/// An `Err` says that memory was refused.
-pub(crate) fn memory_asked<O: Spoken>(
-    alloc: Global,
-    is_whole: bool,
-    world: &World<O>,
-) -> Result<Option<Vec<Held>>, AllocError>
-    ensures { IfOk result (λ memory. option_map (λ m. map held_shown m.items) memory
-        ≡ memory_asked O.language O.state_text is_whole (world_of world.now)) }
-{
-    if is_whole {
-        Ok(Some(whole_memory(alloc, world)?))
-    } else {
-        Ok(None)
-    }
 }
