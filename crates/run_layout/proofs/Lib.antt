@@ -1,7 +1,6 @@
 pub mod Vocabulary
 pub mod Breaking
 pub mod Pushing
-pub mod Finding
 pub mod Scripts
 pub mod Telling
 pub mod Everything
