@@ -1,14 +1,14 @@
 //! The strokes that signs are to have, from the lowest on.
 //! Where no more is said, an `Err` says that memory was refused.
 
-ghost use Rattle.std.specs.Prelude.{◌≡◌, ◌≤◌, ◌++◌, ◌∷◌, IfOk, OnOk, length, map};
+ghost use Rattle.std.specs.Prelude.{◌≡◌, ◌++◌, ◌∷◌, IfOk, OnOk, map};
 ghost use Rattle.std.specs.List.{flat_map};
 ghost use Rattle.signs.specs.Signs.{meaning};
 ghost use Rattle.run_replay.specs.MarksShown.{marks_shown};
 ghost use Rattle.run_layout.specs.Marked.{sign_shown};
 ghost use Rattle.run_lines.specs.Numbers.{no_notes};
-ghost use Rattle.run_lines.specs.Parts.{is_arrow, number_parts, numbers_from, parts_for, parts_of_run, step_letter};
-ghost use Rattle.run_lines.specs.Parts.{layered, parts_of};
+ghost use Rattle.run_lines.specs.Parts.{is_arrow, layered, number_parts, numbers_from, parts_of, parts_of_run};
+ghost use Rattle.run_lines.specs.Parts.{step_letter};
 
 use crate::numbering::Numbering;
 use run_layout::{Mark, Sign, after_events, letter_of, push_part, signs_of};

@@ -1,7 +1,6 @@
 //! The whole text. Where no more is said, an `Err` says that memory was refused.
 
-ghost use Rattle.std.specs.Prelude.{◌≡◌, ◌++◌, ◌∷◌, [], ◌+◌, ◌<◌, ◌≤◌, ◌^◌};
-ghost use Rattle.std.specs.Prelude.{IfOk, IsErrOf, IsTrue, OnOk, length, map, take};
+ghost use Rattle.std.specs.Prelude.{◌≡◌, ◌++◌, IfOk, IsErrOf, IsTrue, OnOk, map, take};
 ghost use Rattle.std.specs.List.{flat_map};
 ghost use Rattle.signs.specs.Signs.{meaning, places_shown};
 ghost use Rattle.uni_script.specs.declared.fault.BenchFault.{BenchFault as Fault};

@@ -11,7 +11,7 @@ use run_layout::{Axis, Scale, Side, Sign, any_unchanged, axis_of, kinds_of, sign
 use run_replay::Marks;
 use signs::{Layout, Span};
 use std::alloc::{AllocError, Global};
-use svg_text::{Anchor, Drawing, Paint, Shape, Spot};
+use svg_text::{Anchor, Drawing, Paint, Shape};
 use uni_script::PlacedRemark;
 
 /// How wide a picture is at least.
