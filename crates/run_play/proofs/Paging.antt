@@ -1,16 +1,11 @@
 -- From the run of a script to its page.
-use Rattle.run_play.proofs.Vocabulary.{[], AreCallsOf, AreEdges, END, Err, Event, Global, IfOk, IsGraph, IsPageOf, IsPageOfSession, IsPlayed, IsScriptRun, Language, List, MIDDLE, Ok, OnOk, Option, Result, START, Sequential, Vec, any_refused, false, graph_members, has_one_era, length, map, object_text, plan_of, page_text, session_of_record, subst, sym, true, ℕ, ◌≡◌, ◌≤◌}
+use Rattle.run_play.proofs.Vocabulary.{[], AreCallsOf, AreEdges, END, Event, Global, IsGraph, IsPageOf, IsPageOfSession, IsPlayed, IsScriptRun, Language, List, MIDDLE, Option, START, Sequential, Vec, any_refused, false, graph_members, has_one_era, length, map, object_text, plan_of, page_text, session_of_record, subst, sym, true, ℕ, ◌≡◌, ◌≤◌}
 use Rattle.uni_script.specs.Objects.{SpokenObject, spoken}
 use Rattle.uni_script.specs.declared.grammar.Version.{Version}
 use Rattle.uni_script.specs.declared.script_run.ScriptRun.{ScriptRun}
 use Rattle.uni_script.specs.declared.script_run.ScriptRecord.{ScriptRecord}
 use Rattle.uni_script.specs.declared.options.Options.{Options}
 use Rattle.uni_script.specs.declared.options.Echo.TheVariants.{Off}
-
--- two facts of an answer that is Ok
-pub IfOk-two : {A E : Type 0} (r : Result A E) (P : Type 0) (Q S : A → Type 0) → OnOk r P → IfOk r Q → ((a : A) → P → Q a → S a) → IfOk r S
-IfOk-two (Ok a) P Q S p q f = f a p q
-IfOk-two (Err e) P Q S p q f = tt
 
 pub IsPlayed-run : (goal : List ℕ) (options : Options) (left : Option (List ℕ)) (run : ScriptRun ScriptRecord) → options ≡ record { history = 1048576; echo = Off } → IsScriptRun options left run → any_refused run.remarks.items ≡ false
     → (page : List ℕ) → ((version : Version) → IsPageOfSession goal (session_of_record version run.record) page) → IsPlayed goal left page

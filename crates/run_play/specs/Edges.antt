@@ -4,7 +4,7 @@ use Rattle.std.specs.Prelude.{option_and_then}
 use Rattle.std.specs.Fmt.{digits}
 use Rattle.std.specs.Option.{option_map_or}
 use Rattle.std.specs.declared.alloc.Global.{Global}
-use Rattle.run_tell.specs.Json.{Number, Text, Json, Member, named, object_text, text_or_null}
+use Rattle.run_tell.specs.Json.{Number, Text, MaybeText, Member, named, object_text}
 use Rattle.ready_objects.specs.Spoken.{Language}
 use Rattle.run_graph.specs.Graph.{path_of}
 use Rattle.run_graph.specs.Schedule.{Plan, event_of, world_at}
@@ -15,13 +15,13 @@ use Rattle.uni_core.specs.declared.stage.StepKind.TheVariants as kinds
 
 -- What is told beside what the place of a step holds: the reply that is settled with a state, the cell that the step proposed, or
 -- what the call returns.
-abbrev pub beside : (settled : Option Field) → (proposed : Option Held) → (reply : Option (List ℕ)) → Option (List ℕ)
-beside (Some field) proposed reply = Some field.text
-beside None (Some held) reply = Some held.field.text
-beside None None reply = reply
+abbrev pub settled_or : (settled : Option Field) → (proposed : Option Held) → (reply : Option (List ℕ)) → Option (List ℕ)
+settled_or (Some field) proposed reply = Some field.text
+settled_or None (Some held) reply = Some held.field.text
+settled_or None None reply = reply
 
-abbrev pub beside_text : Stepped → List ℕ
-beside_text s = text_or_null (beside s.after.reply s.proposed s.reply)
+abbrev pub beside : Stepped → Option (List ℕ)
+beside s = settled_or s.after.reply s.proposed s.reply
 
 -- a call that leads to a node
 abbrev pub begun_members : (to : ℕ) → Begun → List Member
@@ -36,7 +36,7 @@ abbrev pub step_members : (to : ℕ) → Stepped → List Member
 step_members to s =
     named (codes "to") (Number to) ∷ named (codes "kind") (Text (letter_of s.kind ∷ []))
     ∷ named (codes "place") (Text s.after.field.name) ∷ named (codes "text") (Text s.after.field.text)
-    ∷ named (codes "beside") (Json (beside_text s)) ∷ []
+    ∷ named (codes "beside") (MaybeText (beside s)) ∷ []
 
 abbrev pub step_text : (to : ℕ) → Stepped → List ℕ
 step_text to s = object_text (step_members to s)

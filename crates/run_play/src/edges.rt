@@ -10,13 +10,13 @@ ghost use Rattle.run_graph.specs.Graph.{IsGraph};
 ghost use Rattle.run_graph.specs.Schedule.{event_of, moved, plan_of, planned};
 ghost use Rattle.run_replay.specs.Frames.{frame_of};
 ghost use Rattle.run_replay.specs.ScenesShown.{begun_shown, frame_shown, step_shown};
-ghost use Rattle.run_play.specs.Edges.{begun_text, beside_text, edge_text, frame_text, step_text, AreEdges};
+ghost use Rattle.run_play.specs.Edges.{begun_text, beside, edge_text, frame_text, step_text, AreEdges};
 
 use ready_objects::Spoken;
 use run_graph::{Graph, Plan, keep_world, no_worlds, take_world};
 use run_layout::letter_of;
 use run_replay::{Begun, Frame, Step, begun_of, cell_text, step_of};
-use run_tell::{Member, Value, push_object, push_text_or_null};
+use run_tell::{Member, Value, object_of};
 use std::alloc::{AllocError, Global};
 use uni_core::World;
 
@@ -57,23 +57,18 @@ fn frame_after<O: Spoken>(
 }
 
 /// What is told beside what the place of a step holds: the reply that is settled with a state, the cell that the
-/// step proposed, or what the call returns; `null` where there is nothing.
+/// step proposed, or what the call returns; `None` where there is nothing.
 ///
 /// An `Err` says that memory was refused.
-fn beside_text(alloc: Global, step: &Step) -> Result<Vec<u8>, AllocError>
-    ensures { IfOk result (λ text. text.items ≡ beside_text (step_shown step.now)) }
+fn beside(alloc: Global, step: &Step) -> Result<Option<Vec<u8>>, AllocError>
+    ensures { IfOk result (λ text. option_map (λ t. t.items) text ≡ beside (step_shown step.now)) }
 {
-    let mut text = Vec::new(alloc);
-    match (&step.after.reply, &step.proposed) {
-        (Some(reply), _) => {
-            push_text_or_null(&mut text, &Some(Vec::from_slice(alloc, &reply.text)?))?;
-        }
-        (None, Some(held)) => {
-            push_text_or_null(&mut text, &Some(Vec::from_slice(alloc, &held.field.text)?))?;
-        }
-        (None, None) => push_text_or_null(&mut text, &step.reply)?,
+    match (&step.after.reply, &step.proposed, &step.reply) {
+        (Some(settled), _, _) => Ok(Some(Vec::from_slice(alloc, &settled.text)?)),
+        (None, Some(held), _) => Ok(Some(Vec::from_slice(alloc, &held.field.text)?)),
+        (None, None, Some(reply)) => Ok(Some(Vec::from_slice(alloc, reply)?)),
+        (None, None, None) => Ok(None),
     }
-    Ok(text)
 }
 
 /// The text of a call that leads to a node.
@@ -83,14 +78,12 @@ fn begun_text(alloc: Global, to: usize, begun: &Begun) -> Result<Vec<u8>, AllocE
     ensures { IfOk result (λ text. text.items ≡ begun_text to (begun_shown begun.now)) }
 {
     let call = cell_text(alloc, Some(begun.call))?;
-    let mut text = Vec::new(alloc);
     let members = [
         Member("to", Value::Number(to as u64)),
         Member("call", Value::Text(&call)),
         Member("words", Value::Text(&begun.words)),
     ];
-    push_object(&mut text, &members)?;
-    Ok(text)
+    object_of(alloc, &members)
 }
 
 /// The text of a step that leads to a node.
@@ -99,18 +92,16 @@ fn begun_text(alloc: Global, to: usize, begun: &Begun) -> Result<Vec<u8>, AllocE
 fn step_text(alloc: Global, to: usize, step: &Step) -> Result<Vec<u8>, AllocError>
     ensures { IfOk result (λ text. text.items ≡ step_text to (step_shown step.now)) }
 {
-    let beside = beside_text(alloc, step)?;
+    let beside = beside(alloc, step)?;
     let kind = [letter_of(step.kind)];
-    let mut text = Vec::new(alloc);
     let members = [
         Member("to", Value::Number(to as u64)),
         Member("kind", Value::Text(&kind)),
         Member("place", Value::Text(&step.after.field.name)),
         Member("text", Value::Text(&step.after.field.text)),
-        Member("beside", Value::Json(&beside)),
+        Member("beside", Value::MaybeText(&beside)),
     ];
-    push_object(&mut text, &members)?;
-    Ok(text)
+    object_of(alloc, &members)
 }
 
 /// The text of an event that leads to a node; `null` of the end of an era, of which a graph has none.

@@ -17,7 +17,7 @@ use crate::fault::{PlayFault, of_graph};
 use crate::plan::{has_one_era, plan_of};
 use ready_objects::Spoken;
 use run_graph::{Plan, explore};
-use run_tell::{END, MIDDLE, Member, START, Value, page_text, push_list, push_object};
+use run_tell::{END, MIDDLE, Member, START, Value, list_of, object_of, page_text};
 use std::alloc::{AllocError, Global};
 use uni_record::Recorded;
 use uni_script::{
@@ -52,8 +52,7 @@ fn graph_text<O: Spoken + Copy>(
     ensures { IfOk result (λ text. text.items ≡ object_text (graph_members name.now plan.now.processes plan.now.row
         (O.state_text (O.sequential plan.now.object).initial) goal.now (map (λ e. e.items) edges.now))) }
 {
-    let mut list = Vec::new(alloc);
-    push_list(&mut list, edges)?;
+    let list = list_of(alloc, edges)?;
     let mut state = Vec::new(alloc);
     O::push_state(&mut state, &plan.object.start(alloc)?)?;
     let members = [
@@ -64,9 +63,7 @@ fn graph_text<O: Spoken + Copy>(
         Member("goal", Value::Text(goal)),
         Member("edges", Value::Json(&list)),
     ];
-    let mut text = Vec::new(alloc);
-    push_object(&mut text, &members)?;
-    Ok(text)
+    object_of(alloc, &members)
 }
 
 /// The page of the calls of a run on an object of this name, with a goal.

@@ -1,7 +1,6 @@
 //! The plan of a run: the calls of each of its processes.
 
-ghost use Rattle.std.specs.Prelude.{◌≡◌, ◌<◌, ℕ, [], IfOk, length, slice_get};
-ghost use Rattle.std.specs.Option.{option_map_or};
+ghost use Rattle.std.specs.Prelude.{◌≡◌, ◌<◌, IfOk};
 ghost use Rattle.uni_record.specs.Event.{events_shown};
 ghost use Rattle.run_play.specs.Plans.{calls_of, has_one_era, AreCallsOf};
 

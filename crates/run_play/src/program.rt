@@ -2,7 +2,6 @@
 
 ghost use Rattle.std.specs.Prelude.{◌≡◌, ◌≢◌, ◌⊎◌, ℕ, List, true, false};
 ghost use Rattle.std.specs.Io.KnownBytes.{Appends};
-ghost use Rattle.uni_script.specs.Ends.{AppendsPrefix};
 ghost use Rattle.run_play.specs.Fault.{IsStatusOfPlay, TellsPlayFault};
 ghost use Rattle.run_play.specs.Play.{IsPlayed};
 

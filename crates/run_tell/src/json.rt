@@ -1,11 +1,10 @@
 //! The text of objects and lists.
 
-ghost use Rattle.std.specs.Prelude.{◌≡◌, ◌++◌, ◌<◌, IfOk, OnOk, map, option_map};
+ghost use Rattle.std.specs.Prelude.{◌≡◌, ◌++◌, ◌<◌, IfOk, OnOk, map};
 ghost use Rattle.std.specs.Fmt.{decimal};
 ghost use Rattle.std.specs.List.{flat_map};
 ghost use Rattle.run_tell.specs.Json.{after_comma, code_text, escaped, escaped_byte, hex_digit, list_text};
-ghost use Rattle.run_tell.specs.Json.{member_text, object_text, quoted, separated, text_or_null};
-ghost use Rattle.run_tell.specs.Json.{value_text};
+ghost use Rattle.run_tell.specs.Json.{member_text, object_text, quoted, separated, value_text};
 ghost use Rattle.run_tell.specs.JsonShown.{member_shown, value_shown};
 
 use crate::value::{Member, Value};
@@ -67,25 +66,15 @@ pub fn push_more_members(text: &mut Vec<u8>, members: &[Member<'_>]) -> Result<(
 /// The text of a list whose elements have these texts, which are to be JSON.
 ///
 /// An `Err` says that memory was refused.
+#[tactic(auto, unfolding(crate::specs::Json::list_text))]
 pub fn list_of(alloc: Global, elements: &[Vec<u8>]) -> Result<Vec<u8>, AllocError>
     ensures { IfOk result (λ text. text.items ≡ list_text (map (λ e. e.items) elements.now)) }
 {
     let mut text = Vec::new(alloc);
-    push_list(&mut text, elements)?;
-    Ok(text)
-}
-
-/// Adds a list whose elements have these texts, which are to be JSON.
-///
-/// An `Err` says that memory was refused.
-#[tactic(auto, unfolding(crate::specs::Json::list_text))]
-pub fn push_list(text: &mut Vec<u8>, elements: &[Vec<u8>]) -> Result<(), AllocError>
-    ensures { OnOk result (text.new.items ≡ text.old.items ++ list_text (map (λ e. e.items) elements.now)) }
-{
     text.push(b'[')?;
-    push_elements(text, elements)?;
+    push_elements(&mut text, elements)?;
     text.push(b']')?;
-    Ok(())
+    Ok(text)
 }
 
 /// Adds texts with commas between them.
@@ -151,16 +140,6 @@ fn push_number(text: &mut Vec<u8>, number: u64) -> Result<(), AllocError>
     ensures { OnOk result (text.new.items ≡ text.old.items ++ decimal number) }
 {
     write!(text, "{number}").map_err(|_| AllocError)
-}
-
-/// Adds a string, or `null` where there is none.
-///
-/// An `Err` says that memory was refused.
-pub fn push_text_or_null(text: &mut Vec<u8>, words: &Option<Vec<u8>>) -> Result<(), AllocError>
-    ensures { OnOk result (text.new.items
-        ≡ text.old.items ++ text_or_null (option_map (λ w. w.items) words.now)) }
-{
-    push_value(text, Value::MaybeText(words))
 }
 
 /// Adds a string: its text, escaped, between quotes.

@@ -26,9 +26,7 @@ mod viewer;
 
 pub use access::access_of;
 pub use history::{InHistory, tell_history};
-pub use json::{
-    list_of, object_of, push_list, push_members, push_more_members, push_object, push_text_or_null,
-};
+pub use json::{list_of, object_of, push_members, push_more_members, push_object};
 pub use opened::Opened;
 pub use order::Telling;
 pub use page::{page_of, page_text};

@@ -1,7 +1,8 @@
 //! The pieces of a run, told in order.
 
-ghost use Rattle.std.specs.Prelude.{◌≡◌, ◌⊎◌, ◌↔◌, ◌+◌, ◌++◌, ◌<◌, ◌≤◌, ◌^◌, []};
-ghost use Rattle.std.specs.Prelude.{IfErr, IsErrOf, OnErr, OnOk, false, length, slice_get, true};
+ghost use Rattle.std.specs.Prelude.{◌≡◌, ◌⊎◌, ◌↔◌, ◌+◌, ◌++◌, ◌<◌, ◌≤◌, ◌^◌};
+ghost use Rattle.std.specs.Prelude.{[], IfErr, IfOk, IsErrOf, OnErr, OnOk, drop, false, length, slice_get};
+ghost use Rattle.std.specs.Prelude.{take, true};
 ghost use Rattle.std.specs.List.{flat_map};
 ghost use Rattle.uni_script.specs.Ends.{AppendsPrefix, Moves};
 ghost use Rattle.run_replay.specs.ScenesShown.{scene_shown};
@@ -97,6 +98,29 @@ fn line_of(event: u64, lines: &[u64]) -> Option<u64>
     lines.get(event as usize).copied()
 }
 
+/// Adds an event, by its scene, behind those of these remarks that are told before it; the answer is the rest of them.
+///
+/// An `Err` says that memory was refused.
+fn push_event<'a, T: Telling>(
+    alloc: Global,
+    range: Range,
+    event: u64,
+    lines: &[u64],
+    scene: &Scene,
+    remarks: &'a [PlacedRemark],
+    text: &mut Vec<u8>,
+) -> Result<&'a [PlacedRemark], AllocError>
+    ensures text { OnOk result (text.new.items ≡ text.old.items
+        ++ (flat_map (remark_told T.wording range) (take (told_before event remarks.now) remarks.now)
+        ++ T.wording.event event (slice_get lines.now event) (scene_shown scene.now))) }
+    ensures left { IfOk result (λ left. left.now ≡ drop (told_before event remarks.now) remarks.now) }
+{
+    let (told, left) = remarks.split_at(told_before(event, remarks));
+    push_remarks::<T>(alloc, range, told, text)?;
+    T::push_scene(alloc, event, line_of(event, lines), scene, text)?;
+    Ok(left)
+}
+
 /// Writes what was gathered, where it has so many bytes; none of it is left then.
 ///
 /// An `Err` is `Write`: the output failed.
@@ -146,11 +170,8 @@ pub(crate) fn tell_events<T: Telling, O: Spoken, W: TextOut>(
     let mut rest = remarks;
     let mut event = range.from;
     while let Some(scene) = scenes.next_scene(alloc)? {
-        let (told, later) = rest.split_at(told_before(event, rest));
-        push_remarks::<T>(alloc, range, told, &mut text)?;
-        T::push_scene(alloc, event, line_of(event, lines), &scene, &mut text)?;
+        rest = push_event::<T>(alloc, range, event, lines, &scene, rest, &mut text)?;
         write_from(MOST_TEXT, &mut text, out)?;
-        rest = later;
         event += 1;
     }
     push_remarks::<T>(alloc, range, rest, &mut text)?;

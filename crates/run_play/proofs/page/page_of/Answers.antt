@@ -1,4 +1,5 @@
-use Rattle.run_play.proofs.Paging.{IfOk-two, IsPlayed-run}
+use Rattle.run_tell.proofs.Tellings.{IfOk-two}
+use Rattle.run_play.proofs.Paging.{IsPlayed-run}
 use Rattle.run_play.proofs.page.page_of.Goals as goal
 
 pub returns-clause-page : goal.returns-clause-page

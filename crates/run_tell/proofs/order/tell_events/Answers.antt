@@ -37,9 +37,9 @@ loop-text-preserved g c =
     let words = g.T.Telling.wording in
     let whole = told_text words (trace_with c.args.range c.args.opened.now c.args.scenes) c.args.lines.now c.args.remarks.now in
     let split : c.loop-text.scenes ≡ Some (scene_shown c.in-Some.scene) ∷ c.next_scene.new.self = rw c.in-Some.is at c.in_ok-scene.ensures.next in
-    let told = Moves-told_on words c.args.range c.args.lines.now (g.W.TextOut.contents c.args.out.now) (g.W.TextOut.contents c.loop-text.out) whole c.loop-text.event c.loop-text.scenes c.next_scene.new.self (scene_shown c.in-Some.scene) c.loop-text.rest.now _ _ _ _ _ _ c.push_scene.new.text.items split c.told_before.ensures.count c.split_at.ensures.front c.split_at.ensures.back c.line_of.ensures c.in_ok-push_remarks.ensures c.in_ok-push_scene.ensures c.loop-text.invariant.moves in
+    let told = Moves-told_on words c.args.range c.args.lines.now (g.W.TextOut.contents c.args.out.now) (g.W.TextOut.contents c.loop-text.out) whole c.loop-text.event c.loop-text.scenes c.next_scene.new.self (scene_shown c.in-Some.scene) c.loop-text.rest.now _ c.loop-text.text.items c.push_event.new.text.items split c.in_ok-rest.ensures.left c.in_ok-rest.ensures.text c.loop-text.invariant.moves in
     record {
-      moves = Moves-more _ _ _ whole c.push_scene.new.text.items _ _ told c.in_ok-write_from.ensures.moved;
+      moves = Moves-more _ _ _ whole c.push_event.new.text.items _ _ told c.in_ok-write_from.ensures.moved;
       good = stays_false _ _ c.in_ok-write_from.ensures.out (λ e. cc);
       numbers = omega (arith, ap length split, c.loop-text.invariant.numbers);
     }
@@ -49,9 +49,9 @@ loop-text-preserved-in_ok-write_from g c =
     let words = g.T.Telling.wording in
     let whole = told_text words (trace_with c.args.range c.args.opened.now c.args.scenes) c.args.lines.now c.args.remarks.now in
     let split : c.loop-text.scenes ≡ Some (scene_shown c.in-Some.scene) ∷ c.next_scene.new.self = rw c.in-Some.is at c.in_ok-scene.ensures.next in
-    let told = Moves-told_on words c.args.range c.args.lines.now (g.W.TextOut.contents c.args.out.now) (g.W.TextOut.contents c.loop-text.out) whole c.loop-text.event c.loop-text.scenes c.next_scene.new.self (scene_shown c.in-Some.scene) c.loop-text.rest.now _ _ _ _ _ _ c.push_scene.new.text.items split c.told_before.ensures.count c.split_at.ensures.front c.split_at.ensures.back c.line_of.ensures c.in_ok-push_remarks.ensures c.in_ok-push_scene.ensures c.loop-text.invariant.moves in
+    let told = Moves-told_on words c.args.range c.args.lines.now (g.W.TextOut.contents c.args.out.now) (g.W.TextOut.contents c.loop-text.out) whole c.loop-text.event c.loop-text.scenes c.next_scene.new.self (scene_shown c.in-Some.scene) c.loop-text.rest.now _ c.loop-text.text.items c.push_event.new.text.items split c.in_ok-rest.ensures.left c.in_ok-rest.ensures.text c.loop-text.invariant.moves in
     record {
-      moves = Moves-more _ _ _ whole c.push_scene.new.text.items _ _ told c.in_ok-write_from.ensures.moved;
+      moves = Moves-more _ _ _ whole c.push_event.new.text.items _ _ told c.in_ok-write_from.ensures.moved;
       good = stays_false _ _ c.in_ok-write_from.ensures.out (λ e. cc);
       numbers = omega (arith, ap length split, c.loop-text.invariant.numbers);
     }
@@ -61,16 +61,16 @@ returns-in_err-write_from-clause-told g c =
     let words = g.T.Telling.wording in
     let whole = told_text words (trace_with c.args.range c.args.opened.now c.args.scenes) c.args.lines.now c.args.remarks.now in
     let split : c.loop-text.scenes ≡ Some (scene_shown c.in-Some.scene) ∷ c.next_scene.new.self = rw c.in-Some.is at c.in_ok-scene.ensures.next in
-    let told = Moves-told_on words c.args.range c.args.lines.now (g.W.TextOut.contents c.args.out.now) (g.W.TextOut.contents c.loop-text.out) whole c.loop-text.event c.loop-text.scenes c.next_scene.new.self (scene_shown c.in-Some.scene) c.loop-text.rest.now _ _ _ _ _ _ c.push_scene.new.text.items split c.told_before.ensures.count c.split_at.ensures.front c.split_at.ensures.back c.line_of.ensures c.in_ok-push_remarks.ensures c.in_ok-push_scene.ensures c.loop-text.invariant.moves in
-    WritesText-err _ _ _ _ (search rules) (Moves-failed _ _ _ whole c.push_scene.new.text.items _ told c.in_err-write_from.ensures.prefix)
+    let told = Moves-told_on words c.args.range c.args.lines.now (g.W.TextOut.contents c.args.out.now) (g.W.TextOut.contents c.loop-text.out) whole c.loop-text.event c.loop-text.scenes c.next_scene.new.self (scene_shown c.in-Some.scene) c.loop-text.rest.now _ c.loop-text.text.items c.push_event.new.text.items split c.in_ok-rest.ensures.left c.in_ok-rest.ensures.text c.loop-text.invariant.moves in
+    WritesText-err _ _ _ _ (search rules) (Moves-failed _ _ _ whole c.push_event.new.text.items _ told c.in_err-write_from.ensures.prefix)
 
 pub returns-in_err-write_from-clause-out : goal.returns-in_err-write_from-clause-out
 returns-in_err-write_from-clause-out g c =
     let p = err_from_is_err_and c.from_residual-in_err-write_from.result c.from_residual-in_err-write_from.ensures.1 in
     (λ _. c.in_err-write_from.ensures.out.0 (ap Err c.in_err-write_from.ensures.fault), λ _. p.1 ∙ ap Err (p.2 ∙ c.in_err-write_from.ensures.fault))
 
-pub returns-in_err-push_remarks-2-clause-told : goal.returns-in_err-push_remarks-2-clause-told
-returns-in_err-push_remarks-2-clause-told g c = WritesText-err _ _ _ _ (search rules) (Moves-part _ _ _ _ c.loop-text.invariant.moves)
+pub returns-in_err-push_remarks-clause-told : goal.returns-in_err-push_remarks-clause-told
+returns-in_err-push_remarks-clause-told g c = WritesText-err _ _ _ _ (search rules) (Moves-part _ _ _ _ c.loop-text.invariant.moves)
 
 pub returns-clause-fault : goal.returns-clause-fault
 returns-clause-fault g c = IfErr-weaker c.write_from-2.result _ _ (λ e write. inr write) c.write_from-2.ensures.fault
@@ -81,11 +81,8 @@ returns-in_err-push_opening-clause-told g c = WritesText-err _ _ _ _ (search rul
 pub returns-in_err-scene-clause-told : goal.returns-in_err-scene-clause-told
 returns-in_err-scene-clause-told g c = WritesText-err _ _ _ _ (search rules) (Moves-part _ _ _ _ c.loop-text.invariant.moves)
 
-pub returns-in_err-push_remarks-clause-told : goal.returns-in_err-push_remarks-clause-told
-returns-in_err-push_remarks-clause-told g c = WritesText-err _ _ _ _ (search rules) (Moves-part _ _ _ _ c.loop-text.invariant.moves)
-
-pub returns-in_err-push_scene-clause-told : goal.returns-in_err-push_scene-clause-told
-returns-in_err-push_scene-clause-told g c = WritesText-err _ _ _ _ (search rules) (Moves-part _ _ _ _ c.loop-text.invariant.moves)
+pub returns-in_err-rest-clause-told : goal.returns-in_err-rest-clause-told
+returns-in_err-rest-clause-told g c = WritesText-err _ _ _ _ (search rules) (Moves-part _ _ _ _ c.loop-text.invariant.moves)
 
 pub returns-clause-told : goal.returns-clause-told
 returns-clause-told g c =
@@ -93,7 +90,7 @@ returns-clause-told g c =
     let here = c.loop-text in
     let none : here.scenes ≡ [] = rw c.in_default.is at c.in_ok-scene.ensures.end in
     let whole = told_text words (trace_with c.args.range c.args.opened.now c.args.scenes) c.args.lines.now c.args.remarks.now in
-    let all : Moves (g.W.TextOut.contents c.args.out.now) (g.W.TextOut.contents here.out) whole c.push_remarks-2.new.text.items =
+    let all : Moves (g.W.TextOut.contents c.args.out.now) (g.W.TextOut.contents here.out) whole c.push_remarks.new.text.items =
     subst (Moves (g.W.TextOut.contents c.args.out.now) (g.W.TextOut.contents here.out) whole)
-    (ap (λ scenes. here.text.items ++ told_from words c.args.range c.args.lines.now here.event scenes here.rest.now) none ∙ sym c.in_ok-push_remarks-2.ensures) here.invariant.moves in
+    (ap (λ scenes. here.text.items ++ told_from words c.args.range c.args.lines.now here.event scenes here.rest.now) none ∙ sym c.in_ok-push_remarks.ensures) here.invariant.moves in
     WritesText-last c.write_from-2.result _ _ _ whole _ _ all c.write_from-2.ensures.moved c.write_from-2.ensures.all c.write_from-2.ensures.prefix
