@@ -9,6 +9,8 @@ pub use account::{Account, AccountObject};
 #[cfg(test)]
 mod follows;
 #[cfg(test)]
+mod machines;
+#[cfg(test)]
 mod replays;
 #[cfg(test)]
 mod scripts;

@@ -8,6 +8,3 @@ mod small_machine;
 pub use machine::{MachineFault, WordMachine, table_fault};
 pub use register::{RegisterCall, WordRegister};
 pub use small_machine::small_machine_follows_plain;
-
-#[cfg(test)]
-mod tests;

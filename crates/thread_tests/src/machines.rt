@@ -1,9 +1,9 @@
 //! A register's calls, two machines by their tables, and tables that are refused.
 
-use super::*;
 use std::process::Abort;
 use std::test::Fail;
 use uni_words::WordObject;
+use word_objects::{MachineFault, WordMachine, WordRegister};
 
 /// The calls of an object, from the start on, answer what the rows say beside each.
 fn answers<O: WordObject>(rt: &impl Abort, object: &O, rows: &[(u64, u32)]) {
