@@ -1,4 +1,4 @@
-use Rattle.std.proofs.Common.{rules}
+use Rattle.run_replay.proofs.Vocabulary.{rules}
 use Rattle.run_replay.proofs.marking.cell_of.Goals as goal
 
 pub returns : goal.returns

@@ -1,5 +1,5 @@
 use Rattle.run_replay.proofs.Vocabulary.{ap, arith, bar_ended, bar_shown, end_shown, length, map, ◌<◌, ◌∙◌, ◌≡◌, ◌≤◌}
-use Rattle.run_replay.proofs.Walked.{changed-more, changed-end, written_back}
+use Rattle.run_replay.proofs.Replayed.{changed-more, changed-end, written_back}
 use Rattle.run_replay.proofs.marking.end_bars.Goals as goal
 
 pub loop-bar-init : goal.loop-bar-init

@@ -1,5 +1,5 @@
 use Rattle.run_replay.proofs.Vocabulary.{[], ap, arith, drop, event_lent, event_shown, events_shown, length, rules, sym, take, world_after_all, world_of, ◌+◌, ◌-◌, ◌<◌, ◌∙◌, ◌∷◌, ◌≡◌}
-use Rattle.run_replay.proofs.Passing.{drop_first, none_taken, passed_more, world_more}
+use Rattle.run_replay.proofs.Telling.{drop_first, none_taken, passed_more, world_more}
 use Rattle.run_replay.proofs.scenes.pass.Goals.{else-loop-left-test, then-loop-left-test+in_default}
 use Rattle.run_replay.proofs.scenes.pass.Goals as goal
 
