@@ -18,9 +18,6 @@ reply_elsewhere : (place : ℕ) (call : CallId) (end : Option End) → IfSome en
 reply_elsewhere place call None apart = refl
 reply_elsewhere place call (Some e) apart = ap (λ t. if t then record { call = call; text = e.reply } ∷ [] else []) (ne_eqb e.event place apart)
 
-reply_here : (place : ℕ) (call : CallId) (e : End) → e.event ≡ place → reply_of place call (Some e) ≡ record { call = call; text = e.reply } ∷ []
-reply_here place call e same = ap (λ t. if t then record { call = call; text = e.reply } ∷ [] else []) (eq-eqb e.event place same)
-
 -- an open bar of a process
 abbrev open_of : (p : ℕ) → Called → List CallId
 open_of p b = option_map_or (λ (e : End). []) b.end (if p == b.call.process then b.call ∷ [] else [])
@@ -48,7 +45,7 @@ replies_of_ended place q end here (b ∷ bars) silent =
 
     by_end : (o : Option End) → reply_of place b.call o ≡ [] → (t : Bool)
         → reply_of place b.call (option_or o (if t then Some end else None)) ≡ map made (option_map_or (λ (e : End). []) o (if t then b.call ∷ [] else []))
-    by_end None none true = reply_here place b.call end here
+    by_end None none true = ap (λ t. if t then made b.call ∷ [] else []) (eq-eqb end.event place here)
     by_end None none false = refl
     by_end (Some e) none t = none
 
@@ -173,14 +170,6 @@ module _ {S I R : Type 0} (o : SpokenObject S I R) where
         | inr over ↦ rw (eq-eqb q q refl, over) refl
       ]
 
-  -- what the last step of a call completes, told
-  last_told : (w : WorldOf S I R) (q : ℕ) (r : R) → IsSome (w.call q) → response_of_step w q ≡ Some r
-      → map (λ call. record { call = call; text = o.language.resp_text r }) (option_to_list (current_of w q)) ≡ reply_texts (option_to_list (completed_by o.object w (Step q)))
-  last_told w q r some last =
-      let current = current_some w q some in
-      ap (λ x. map (λ call. let told : Reply = record { call = call; text = o.language.resp_text r } in told) (option_to_list x)) current
-      ∙ sym (ap (λ x. reply_texts (option_to_list x)) (one_completed o.object w q _ r (sym current) last))
-
   -- the bars so far, after one event more
   module _ (w : WorldOf S I R) (place : ℕ) (so_far : List Called) (is : IsSoFar w place so_far) where
     ended_more : AreSilent (place + 1) so_far
@@ -228,7 +217,9 @@ module _ {S I R : Type 0} (o : SpokenObject S I R) where
       replies_of_ended place q end here so_far (is.ended place (omega arith))
           ∙ ap (map (λ call. let told : Reply = record { call = call; text = end.reply } in told)) (is.pending q)
           ∙ ap (λ text. map (λ call. let told : Reply = record { call = call; text = text } in told) (option_to_list (current_of w q))) reply
-          ∙ last_told w q r some last,
+          ∙ (let current = current_some w q some in
+          ap (λ x. map (λ call. let told : Reply = record { call = call; text = o.language.resp_text r } in told) (option_to_list x)) current
+          ∙ sym (ap (λ x. reply_texts (option_to_list x)) (one_completed o.object w q _ r (sym current) last))),
       record {
         ended = λ k low. replies_elsewhere k q end (λ same. omega arith) so_far ∙ is.ended k (omega arith);
         pending = λ p. elim (number_cases p q) [

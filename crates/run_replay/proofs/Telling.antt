@@ -70,10 +70,6 @@ take_first k x xs some = let more : k ≡ suc (k - 1) = omega arith in ap (λ n.
 pub drop_first : {A : Type 0} (k : ℕ) (x : A) (xs : List A) → 0 < k → drop k (x ∷ xs) ≡ drop (k - 1) xs
 drop_first k x xs some = let more : k ≡ suc (k - 1) = omega arith in ap (λ n. drop n (x ∷ xs)) more
 
-pub none_taken : {A : Type 0} (k : ℕ) → (let none : List A = [] in take k none ≡ none)
-none_taken zero = refl
-none_taken (suc k) = refl
-
 -- one event fewer is left, and one more was passed
 pub passed_more : {A : Type 0} (count left all : ℕ) (x : A) (xs : List A) → 0 < left → left ≤ count → (count - left) + length (take left (x ∷ xs)) ≡ all → (count - (left - 1)) + length (take (left - 1) xs) ≡ all
 passed_more count left all x xs some fewer is =
@@ -95,10 +91,6 @@ module _ {S I R : Type 0} (object : Sequential S I R) where
 
 -- Places and what they hold, one more at a time.
 
--- the numbers from a on, one more
-range_more : (a n j : ℕ) → a + n ≡ j → range_with_len a (n + 1) ≡ range_with_len a n ++ j ∷ []
-range_more a n j e = sym (map-id (range_with_len a (n + 1))) ∙ map-range_with_len_more (λ (k : ℕ). k) a n j e ∙ ap (λ l. l ++ j ∷ []) (map-id (range_with_len a n))
-
 module _ {P H : Type 0} (h : P → H) (old : List H) where
   -- what one more of the places holds that numbers name
   pub place_more : (f : ℕ → P) (n : ℕ) → (old ++ map h (map f (range_with_len 0 n))) ++ h (f n) ∷ [] ≡ old ++ map h (map f (range_with_len 0 (n + 1)))
@@ -118,7 +110,8 @@ module _ {P H : Type 0} (h : P → H) (old : List H) where
         → (old ++ map h (flat_map fields (flat_map rows (range_with_len 0 n)))) ++ map h (flat_map fields (rows n)) ≡ old ++ map h (flat_map fields (flat_map rows (range_with_len 0 (n + 1))))
     row_more rows n =
         let cells = flat_map rows (range_with_len 0 n) in
-        rw (range_more 0 n n (omega arith), flat_map-append rows (range_with_len 0 n) (n ∷ []), append-nil (rows n), flat_map-append fields cells (rows n), map-append h (flat_map fields cells) (flat_map fields (rows n)))
+        let more : range_with_len 0 (n + 1) ≡ range_with_len 0 n ++ n ∷ [] = simp map-id at (map-range_with_len_more (λ (k : ℕ). k) 0 n n (omega arith)) in
+        rw (more, flat_map-append rows (range_with_len 0 n) (n ∷ []), append-nil (rows n), flat_map-append fields cells (rows n), map-append h (flat_map fields cells) (flat_map fields (rows n)))
         (append_assoc old (map h (flat_map fields cells)) (map h (flat_map fields (rows n))))
 
 -- all of them, kind by kind
@@ -141,14 +134,6 @@ coming_is w p coming within current kind place proposed = by_call (w.call p) ref
         → coming.proposed ≡ option_and_then call_of_name (option_and_then (λ (c : Pending). proposed_at c.stage) o) → IsComing w p coming
     by_call None is e f g h = absurd (cc)
     by_call (Some c) is e f g h = record { within = within; pending = c; is = is; call = cc; kind = cc; place = cc; proposed = h }
-
--- a call, by its process and its number
-pub call_is : (call : CallId) (p k : ℕ) → call.process ≡ p → call.nth ≡ k → call ≡ record { process = p; nth = k }
-call_is call p k process nth = λ i. record { process = process i; nth = nth i }
-
--- a field whose text has changed
-pub changed_one : (b a : Field) (same : Bool) → same ≡ bytes_eq b.text a.text → same ≡ false → record { name = a.name; before = b.text; after = a.text } ∷ [] ≡ change_of b a
-changed_one b a same is differs = rw (sym is ∙ differs) refl
 
 module _ {S I R : Type 0} where
   module _ (object : Sequential S I R) (l : Language I R) (text : S → List ℕ) where

@@ -155,9 +155,8 @@ fn replay_step<O: Spoken>(
     ensures object { replay.new.object ≡ replay.old.object }
     ensures world { OnOk result (world_of replay.new
         ≡ world_after (O.sequential replay.old.object) (world_of replay.old) (Step process)) }
-    ensures marks { OnOk result ((from : ℕ) → marks_shown marks.new
-        ≡ marks_with (spoken O.sequential O.language replay.old.object) O.state_text
-        (marks_shown marks.old) (world_of replay.old) from place (Step process)) }
+    ensures marks { OnOk result ((from : ℕ) → marks_shown marks.new ≡ marks_with (spoken O.sequential O.language
+        replay.old.object) O.state_text (marks_shown marks.old) (world_of replay.old) from place (Step process)) }
 {
     let Some(coming) = coming_step(replay, process) else {
         return Err(AllocError);
@@ -248,9 +247,8 @@ fn push_era<O: Spoken>(
     last: Option<u64>,
     eras: &mut Vec<Era>,
 ) -> Result<(), AllocError>
-    ensures { OnOk result (map era_shown eras.new.items
-        ≡ map era_shown eras.old.items ++ era_of (spoken O.sequential O.language world.now.object) O.state_text
-        (world_of world.now) from last ∷ []) }
+    ensures { OnOk result (map era_shown eras.new.items ≡ map era_shown eras.old.items ++ era_of (spoken O.sequential
+        O.language world.now.object) O.state_text (world_of world.now) from last ∷ []) }
 {
     world.shape();
     let log = Log::of(world);
@@ -295,7 +293,6 @@ fn cell_of<O: Spoken>(
     ensures { IfOk result (λ cell. cell_shown cell
         ≡ box_of O.language (option_map (λ text. text.items) state) (entry_shown entry.now)) }
 {
-    let words = O::inv_text(alloc, &entry.inv)?;
     let reply = match entry.reply {
         Some(response) => Some(O::resp_text(alloc, response)?),
         None => None,
@@ -303,7 +300,7 @@ fn cell_of<O: Spoken>(
     Ok(CellBox {
         number: entry.seq,
         call: entry.call,
-        words,
+        words: O::inv_text(alloc, &entry.inv)?,
         reply,
         state,
     })

@@ -81,10 +81,9 @@ pub fn excerpt_of<O: Spoken>(
     most: u64,
     is_whole: bool,
 ) -> Result<(Option<Start>, Scenes<'_, O>), AllocError>
-    ensures { IfOk result (λ part.
-        excerpt_of (O.sequential object) O.language O.state_text is_whole from most
-        (opened_world run.now.processes (O.sequential object).initial run.now.first) (events_shown run.now.events)
-        ≡ record { start = option_map start_shown part.0; scenes = part.1 }) }
+    ensures { IfOk result (λ part. excerpt_of (O.sequential object) O.language O.state_text is_whole from most
+        (opened_world run.now.processes (O.sequential object).initial run.now.first) (events_shown run.now.events) ≡
+        record { start = option_map start_shown part.0; scenes = part.1 }) }
 {
     let mut replay = reopened(alloc, object, run)?;
     let mut events = run.events();
@@ -242,11 +241,10 @@ fn ended_of<O: Spoken>(
 {
     let number = end_era(alloc, reshaped, replay)?;
     replay.shape();
-    let anchor = settled_fields(alloc, replay, CellId::anchor())?;
     Ok(EndedEra {
         reshaped,
         number,
-        anchor,
+        anchor: settled_fields(alloc, replay, CellId::anchor())?,
     })
 }
 
@@ -374,9 +372,8 @@ pub fn step_of<O: Spoken>(
     ensures object { replay.new.object ≡ replay.old.object }
     ensures world { OnOk result (world_of replay.new ≡
         world_after (O.sequential replay.old.object) (world_of replay.old) (model.Step process)) }
-    ensures step { IfOk result (λ step. Some (step_shown step) ≡
-        option_map (stepped (O.sequential replay.old.object) O.language O.state_text (world_of replay.old) process)
-        ((world_of replay.old).call process)) }
+    ensures step { IfOk result (λ step. Some (step_shown step) ≡ option_map (stepped (O.sequential replay.old.object)
+        O.language O.state_text (world_of replay.old) process) ((world_of replay.old).call process)) }
 {
     replay.shape();
     let Some(coming) = coming_step(replay, process) else {

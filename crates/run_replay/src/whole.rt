@@ -42,9 +42,8 @@ fn push_cell<O: Spoken>(
     memory: &mut Vec<Held>,
 ) -> Result<(), AllocError>
     requires { IsSome (cell_of world.now.shared.cells cell) }
-    ensures { OnOk result (map held_shown memory.new.items ≡ map held_shown memory.old.items
-        ++ map (held O.language O.state_text (world_of world.now).memory)
-        (fields_of (name_in (world_of world.now) cell))) }
+    ensures { OnOk result (map held_shown memory.new.items ≡ map held_shown memory.old.items ++ map (held O.language
+        O.state_text (world_of world.now).memory) (fields_of (name_in (world_of world.now) cell))) }
 {
     let asked = asked_text::<O>(alloc, world.inv(cell))?;
     let entry = field_held(alloc, world.call_of(cell), "inv", asked)?;
@@ -63,9 +62,8 @@ fn push_cells_of<O: Spoken>(
     memory: &mut Vec<Held>,
 ) -> Result<(), AllocError>
     requires { process < (world_of world.now).n }
-    ensures { OnOk result (map held_shown memory.new.items ≡ map held_shown memory.old.items
-        ++ map (held O.language O.state_text (world_of world.now).memory)
-        (flat_map fields_of (cells_of (world_of world.now) process))) }
+    ensures { OnOk result (map held_shown memory.new.items ≡ map held_shown memory.old.items ++ map (held O.language
+        O.state_text (world_of world.now).memory) (flat_map fields_of (cells_of (world_of world.now) process))) }
 {
     world.shape();
     let calls = world.calls_in_era(process);
