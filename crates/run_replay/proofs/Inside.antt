@@ -1,5 +1,5 @@
 -- Calls that are pending: which of them take effect, and which go on to be pending.
-use Rattle.run_replay.proofs.Vocabulary.{number_cases, AcceptsAll, Act, All, Announce, AreAccepted, AreCalls, Atomic, Bool, Call, CallId, Called, Contains, Content, Dot, DotsLieInBars, End, EndsAreEvents, Event, Finish, IfSome, Invariant, Invariant-opened_world, Invariant-world_after, Invoked, IsAccepted, IsSome, LiesIn, Linearize, List, Memory, Name, None, Of, Option, Pending, Reshape, Sequential, Shows, Some, SpokenObject, Stage, Step, Trim, WorldOf, [], acts_of, along, anchor_memory, ap, arith, bar_begun, bars_in, call_after, calls_of, dots_by, dots_of, end_by, end_in, end_of_step, false, if◌then◌else◌, inl, inr, invoked_at, last_cell, length, linearized_in, map, ne_eqb, new_of, open_at, opened_world, option_and_then, option_map, option_map_or, option_or, place_of, refl, response_after, response_of_step, seq_of, set_at-cases, stage_after, subst, sym, true, world_after, world_after_era, world_after_step, ℕ, ◌++◌, ◌+◌, ◌-◌, ◌<◌, ◌==◌, ◌∙◌, ◌∷◌, ◌≡◌, ◌≢◌, ◌≤◌, ◌⊎◌}
+use Rattle.run_replay.proofs.Vocabulary.{number_cases, AcceptsAll, Act, All, AreAccepted, AreCalls, Atomic, Bool, Call, CallId, Called, Contains, Content, Dot, DotsLieInBars, End, EndsAreEvents, Event, Finish, IfSome, Invariant, Invariant-opened_world, Invariant-world_after, Invoked, IsAccepted, IsSome, LiesIn, Linearize, List, Memory, Name, None, Option, Pending, Reshape, Sequential, Shows, Some, SpokenObject, Stage, Step, Trim, WorldOf, [], acts_of, along, anchor_memory, ap, arith, bar_begun, bars_in, call_after, calls_of, dots_by, dots_of, end_by, end_in, end_of_step, false, if◌then◌else◌, inl, inr, invoked_at, last_cell, length, linearized_in, map, ne_eqb, new_of, open_at, opened_world, option_and_then, option_map, option_map_or, option_or, place_of, refl, response_after, response_of_step, seq_of, set_at-cases, stage_after, subst, sym, true, world_after, world_after_era, world_after_step, ℕ, ◌++◌, ◌+◌, ◌-◌, ◌<◌, ◌==◌, ◌∙◌, ◌∷◌, ◌≡◌, ◌≢◌, ◌≤◌, ◌⊎◌}
 use Rattle.std.proofs.lemmas.List.Elements.{All-cons, All-nil, All-weaker, All-append, All-map, Contains-append_right}
 use Rattle.uni_model.proofs.LawProofs.{accepts}
 use Rattle.run_replay.proofs.Replayed.{linearized_by_step, contains_first, IfSome-either, either_way, end_of_step-none}

@@ -1,5 +1,5 @@
 -- What holds of what an option has, and of each element of a list.
-use Rattle.run_replay.proofs.Vocabulary.{calls_in_era, subst, Act, Bool, Call, CallId, Called, Coming, Contains, End, EraMarks, Event, IfSome, Invoked, IsComing, Linearize, List, Memory, Name, None, Option, Pending, Progress, Respond, RunMarks, Sequential, Some, SpokenObject, Step, WorldOf, [], acts_of, along, answered, ap, append-nil, append_assoc, arith, at_drop_more, bar_begun, bar_ended, bar_shown, bars_in, calls_of, changes_place, dots_by, drop, drop-set-lt, drop_all, end_in, end_of_step, end_shown, era_of, eras_in, event_shown, events_shown, false, flat_map, from_with, get_or, has_changed, if◌then◌else◌, invoked_at, is_some, kind_of, length, linearized_in, lines_by, map, map-append, map-id, map-map, marks_with, name_in, option_map, option_map_or, option_or, place_named, place_of, progress_of, refl, response_after, response_of_step, responses_of, slice_set, standing_at, steps_by, sym, take, take_all, take_more_set, true, world_after, world_after_step, ℕ, ◌++◌, ◌+◌, ◌-◌, ◌<◌, ◌==◌, ◌∙◌, ◌∷◌, ◌≡◌, ◌≤◌}
+use Rattle.run_replay.proofs.Vocabulary.{calls_in_era, subst, Act, Bool, Call, CallId, Called, Coming, Contains, End, Event, IfSome, Invoked, IsComing, Linearize, List, Memory, Name, None, Option, Pending, Progress, Respond, RunMarks, Sequential, Some, SpokenObject, Step, WorldOf, [], acts_of, along, answered, ap, append-nil, append_assoc, arith, at_drop_more, bar_begun, bar_ended, bar_shown, bars_in, calls_of, changes_place, dots_by, drop, drop-set-lt, drop_all, end_in, end_of_step, end_shown, era_of, eras_in, event_shown, events_shown, false, flat_map, from_with, get_or, has_changed, if◌then◌else◌, invoked_at, is_some, kind_of, length, linearized_in, lines_by, map, map-append, map-id, map-map, marks_with, name_in, option_map, option_map_or, option_or, place_named, place_of, progress_of, refl, response_after, response_of_step, responses_of, slice_set, standing_at, steps_by, sym, take, take_all, take_more_set, true, world_after, world_after_step, ℕ, ◌++◌, ◌+◌, ◌-◌, ◌<◌, ◌==◌, ◌∙◌, ◌∷◌, ◌≡◌, ◌≤◌}
 use Rattle.std.proofs.lemmas.List.Folds.{flat_map-map}
 use Rattle.run_replay.specs.declared.marks.Bar.{Bar}
 use Rattle.run_replay.specs.declared.marks.BarEnd.{BarEnd}

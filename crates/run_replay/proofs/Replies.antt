@@ -1,5 +1,5 @@
 -- The replies of the bars are the responses of the history.
-use Rattle.run_replay.proofs.Vocabulary.{Announce, AreAccepted, BarsHaveTheReplies, Bool, Call, CallId, Called, Completed, CountsSteps, End, Event, IfSome, IsAccepted, IsSome, List, None, Of, Option, Pending, Reply, Reshape, RunMarks, Some, SpokenObject, Step, Trim, WorldOf, [], ap, append-nil, arith, bar_begun, bar_ended, bars_in, call_after, completed_by, completed_in, current_of, end_in, end_of_step, eq-eqb, eqb-true, false, flat_map, flat_map-append, if◌then◌else◌, inl, inr, map, map-append, map-map, marks_with, ne_eqb, number_cases, opened_world, option_and_then, option_map, option_map_or, option_or, option_to_list, place_of, refl, replies_in_order, reply_at, reply_text, response_after, response_of_step, set_at, set_at-cases, set_at_same, stage_after, subst, sym, true, world_after, world_after_era, world_after_step, ℕ, ◌++◌, ◌+◌, ◌-◌, ◌<◌, ◌==◌, ◌∙◌, ◌∷◌, ◌≡◌, ◌≢◌, ◌≤◌}
+use Rattle.run_replay.proofs.Vocabulary.{AreAccepted, BarsHaveTheReplies, Bool, Call, CallId, Called, Completed, CountsSteps, End, Event, IfSome, IsAccepted, IsSome, List, None, Option, Pending, Reply, Reshape, RunMarks, Some, SpokenObject, Step, Trim, WorldOf, [], ap, append-nil, arith, bar_begun, bar_ended, bars_in, completed_by, completed_in, current_of, end_in, end_of_step, eq-eqb, eqb-true, false, flat_map, flat_map-append, if◌then◌else◌, inl, inr, map, map-append, map-map, marks_with, ne_eqb, number_cases, opened_world, option_and_then, option_map, option_map_or, option_or, option_to_list, place_of, refl, replies_in_order, reply_at, reply_text, response_after, response_of_step, subst, sym, true, world_after, world_after_era, world_after_step, ℕ, ◌++◌, ◌+◌, ◌-◌, ◌<◌, ◌==◌, ◌∙◌, ◌∷◌, ◌≡◌, ◌≢◌, ◌≤◌}
 use Rattle.uni_model.specs.Helping.{HelpingInvariant}
 use Rattle.uni_model.proofs.Bounded.{HelpingInvariant-opened_world, HelpingInvariant-world_after}
 use Rattle.uni_model.proofs.Counted.{CountsSteps-opened_world, CountsSteps-world_after}

@@ -1,8 +1,7 @@
 -- What a step proposes, by the call whose cell it proposes and by what its place holds afterwards; and what the cell of a call asks for.
-use Rattle.run_replay.proofs.Vocabulary.{Arena, Begun, Bool, CallId, Coming, DecideAfter, DecideNew, Event, Excerpt, Field, Frame, Held, InvOf, Invariant, Invocation, IsComing, IsSome, Language, List, Memory, Name, NewOf, None, Of, Option, Pending, Scene, Sequential, Settled, Some, Stage, Start, Step, Stepped, Steps, WorldOf, [], after_of, alone, ap, append-nil, append_assoc, arith, begun, call_of_name, calls_in_era, cell_of, change_of, codes, content_after, current_of, drop, excerpt_of, false, field_name, flat_map, flat_map-append, frame_of, held, inl, inr, inv_of, kind_of, length, made_of, map, map-append, map-id, memory_asked, memory_with, name_eq_same, name_in, new_of, option_and_then, option_map, option_or, place_named, place_of, processes_of, proposal_of, proposal_told, proposed_at, range_with_len, refl, response_of_step, scenes_from, start_of, stepped, subst, suc, sym, take, text_of_words, value_after, world_after, world_after_all, world_after_step, zero, ℕ, ◌++◌, ◌+◌, ◌-◌, ◌<◌, ◌↔◌, ◌∙◌, ◌∷◌, ◌≡◌, ◌≤◌, ◌⊎◌}
+use Rattle.run_replay.proofs.Vocabulary.{Arena, Begun, Bool, CallId, Coming, DecideAfter, DecideNew, Event, Excerpt, Frame, Held, InvOf, Invariant, Invocation, IsComing, IsSome, Language, List, Memory, Name, NewOf, None, Of, Option, Pending, Scene, Sequential, Settled, Some, Stage, Start, Step, Stepped, Steps, WorldOf, [], after_of, alone, ap, append-nil, append_assoc, arith, begun, call_of_name, cell_of, codes, content_after, current_of, drop, excerpt_of, field_name, flat_map, flat_map-append, frame_of, held, inl, inr, inv_of, kind_of, length, made_of, map, map-append, map-id, memory_asked, memory_with, name_eq_same, name_in, new_of, option_and_then, option_map, option_or, place_named, place_of, processes_of, proposal_of, proposal_told, proposed_at, range_with_len, refl, response_of_step, scenes_from, start_of, stepped, subst, suc, sym, take, text_of_words, value_after, world_after, world_after_all, world_after_step, ℕ, ◌++◌, ◌+◌, ◌-◌, ◌<◌, ◌↔◌, ◌∙◌, ◌∷◌, ◌≡◌, ◌≤◌, ◌⊎◌}
 use Rattle.cell_arena.specs.CellRecord.{index_of}
 use Rattle.std.proofs.lemmas.List.FromFn.{map-range_with_len_more}
-use Rattle.std.specs.Str.{bytes_eq}
 use Rattle.run_replay.proofs.Replayed.{kept_by_step}
 
 module _ {S I R : Type 0} where

@@ -1,5 +1,5 @@
-use Rattle.run_replay.proofs.Vocabulary.{spoken, None, RunMarks, SpokenObject, [], ap, arith, bar_shown, era_of, era_shown, event_lent, event_shown, events_shown, length, length-map, map, marks_shown, opened_world, sym, world_of, ◌++◌, ◌∙◌, ◌∷◌, ◌≡◌}
-use Rattle.run_replay.proofs.Replayed.{marks_are, marks_then, marks_then-taken, marks_then-none}
+use Rattle.run_replay.proofs.Vocabulary.{spoken, None, RunMarks, [], ap, arith, bar_shown, era_of, era_shown, event_lent, event_shown, events_shown, length, length-map, map, marks_shown, sym, world_of, ◌++◌, ◌∙◌, ◌∷◌, ◌≡◌}
+use Rattle.run_replay.proofs.Replayed.{marks_then, marks_then-taken, marks_then-none}
 use Rattle.run_replay.proofs.marking.marks_of.Goals as goal
 
 pub loop-event-init : goal.loop-event-init
@@ -15,14 +15,6 @@ loop-event-init g c =
           (record { object = name i; events = count i; steps = c.new.ensures.items i; bars = map bar_shown (c.new-2.ensures.items i); dots = c.new-3.ensures.items i; lines = c.new-4.ensures.items i; eras = map era_shown (c.new-5.ensures.items i) })
           (c.in_ok-replay.ensures.world i) 0 0 (events_shown (all i));
     }
-
-pub replay_event-requires : goal.replay_event-requires
-replay_event-requires g c =
-    let fits = c.promise.ensures.recording.fits in
-    let most = c.promise.ensures.recording.limited in
-    let place = c.loop-event.invariant.place in
-    let left = ap length c.in-Some.ensures.steps in
-    omega arith
 
 pub loop-event-preserved : goal.loop-event-preserved
 loop-event-preserved g c =

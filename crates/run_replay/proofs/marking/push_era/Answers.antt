@@ -1,4 +1,4 @@
-use Rattle.run_replay.proofs.Vocabulary.{EraMarks, [], ap, append-nil, append_assoc, box_of, boxes_from, cell_shown, drop, drop_all, entry_shown, era_of, era_shown, log, map, map-append, name_in, option_map, refl, seq_of, state_settled_at, sym, world_of, ◌++◌, ◌+◌, ◌∙◌, ◌∷◌, ◌≡◌}
+use Rattle.run_replay.proofs.Vocabulary.{[], ap, append-nil, append_assoc, box_of, boxes_from, cell_shown, drop, drop_all, entry_shown, era_shown, log, map, map-append, name_in, option_map, seq_of, state_settled_at, sym, world_of, ◌++◌, ◌+◌, ◌∙◌, ◌∷◌, ◌≡◌}
 use Rattle.run_replay.proofs.Boxed.{boxes_more}
 use Rattle.run_replay.proofs.marking.push_era.Goals as goal
 
