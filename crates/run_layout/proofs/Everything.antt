@@ -5,7 +5,7 @@ use Rattle.std.proofs.lemmas.Bool.Decides.{nat_tests}
 use Rattle.run_replay.specs.declared.marks.StepMark.{StepMark}
 use Rattle.run_replay.specs.declared.marks.Dot.{Dot}
 use Rattle.run_replay.specs.declared.marks.EraLine.{EraLine}
-use Rattle.run_replay.proofs.Walked.{map-kept}
+use Rattle.run_replay.proofs.Replayed.{map-kept}
 
 less_none : (n : ℕ) → n - 0 ≡ n
 less_none n = omega arith

@@ -16,7 +16,7 @@ unfoldable pub use Rattle.run_layout.specs.Wrapping.{lines_of}
 pub use Rattle.run_layout.specs.declared.marked.Mark.TheVariants.{Name}
 pub use Rattle.run_replay.proofs.Replayed.{marks_are}
 pub use Rattle.run_replay.specs.Marks.{Called, Cell, End, EraMarks, RunMarks}
-pub use Rattle.run_replay.specs.MarksShown.{bar_shown, cell_shown, era_shown, marks_shown}
+pub use Rattle.run_replay.specs.Marks.{bar_shown, cell_shown, era_shown, marks_shown}
 pub use Rattle.uni_record.specs.Event.{events_shown}
 pub use Rattle.uni_script.specs.Objects.{SpokenObject, spoken}
 pub use Rattle.uni_script.specs.declared.remarks.PlacedRemark.{PlacedRemark}

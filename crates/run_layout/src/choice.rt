@@ -4,7 +4,7 @@
 ghost use Rattle.std.specs.Prelude.{◌≡◌, ◌≤◌, ◌&&◌, ◌-◌, ◌==◌, not, IfOk, List, length, map};
 ghost use Rattle.std.specs.Prelude.{option_map, option_and_then};
 ghost use Rattle.std.specs.List.{filter, list_any};
-ghost use Rattle.run_replay.specs.MarksShown.{bar_shown, cell_shown, end_shown, era_shown, marks_shown};
+ghost use Rattle.run_replay.specs.Marks.{bar_shown, cell_shown, end_shown, era_shown, marks_shown};
 ghost use Rattle.uni_script.specs.declared.remarks.PlacedRemark.{PlacedRemark as Placed};
 ghost use Rattle.run_replay.specs.Marks.{RunMarks};
 ghost use Rattle.run_layout.specs.Choice.{is_by, is_in, meets, all_events, count_in, step_in, dot_in, line_in};

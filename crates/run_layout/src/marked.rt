@@ -4,7 +4,7 @@
 ghost use Rattle.std.specs.Prelude.{◌≡◌, ◌-◌, ◌++◌, ◌∷◌, [], IfOk, OnOk, Some, map};
 ghost use Rattle.std.specs.List.{flat_map};
 ghost use Rattle.signs.specs.Signs.{meaning};
-ghost use Rattle.run_replay.specs.MarksShown.{bar_shown, era_shown, marks_shown};
+ghost use Rattle.run_replay.specs.Marks.{bar_shown, era_shown, marks_shown};
 ghost use Rattle.run_layout.specs.Refusals.{told_shown};
 ghost use Rattle.run_layout.specs.Marked.{after_events, arrow_signs, at, bar_sign, dot_sign, line_sign, names_from};
 ghost use Rattle.run_layout.specs.Marked.{new_names, part, part_in, refusal_signs, sign_of, sign_shown, signs_of};

@@ -6,7 +6,7 @@ ghost use Rattle.uni_script.specs.Objects.{spoken};
 ghost use Rattle.uni_script.specs.Replay.{HasFault, IsFaultOfScript};
 ghost use Rattle.uni_script.specs.Scripts.{scripts_of, own_scripts_of};
 ghost use Rattle.uni_script.specs.declared.fault.BenchFault.{BenchFault as Fault};
-ghost use Rattle.run_replay.specs.MarksShown.{marks_shown};
+ghost use Rattle.run_replay.specs.Marks.{marks_shown};
 ghost use Rattle.run_layout.specs.Choice.{chosen, chosen_remarks, count_in};
 ghost use Rattle.run_layout.specs.Subject.{marks_of_events, marks_of_record, marks_of_own, events_of_record};
 ghost use Rattle.run_layout.specs.Subject.{picture_fault_text, IsSubject, IsSubjectOf, HasTooManyEvents, HasMoreEvents};

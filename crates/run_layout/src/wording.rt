@@ -3,7 +3,7 @@
 ghost use Rattle.std.specs.Prelude.{◌≡◌, ◌++◌, [], IfOk, OnOk, option_map};
 ghost use Rattle.std.specs.List.{find};
 ghost use Rattle.std.specs.Option.{option_map_or};
-ghost use Rattle.run_replay.specs.MarksShown.{end_shown, bar_shown, cell_shown, marks_shown};
+ghost use Rattle.run_replay.specs.Marks.{end_shown, bar_shown, cell_shown, marks_shown};
 ghost use Rattle.run_layout.specs.Wording.{linker_text, is_help, meaning_of, counted_text, counts_text, refusal_words};
 ghost use Rattle.run_layout.specs.Wording.{letter_of, label_text, line_text, cell_words, cell_state, title_text};
 ghost use Rattle.run_layout.specs.Wording.{lane_of, cell_name, name_text};

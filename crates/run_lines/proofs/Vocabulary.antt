@@ -13,5 +13,5 @@ pub use Rattle.run_lines.specs.Numbers.{no_notes}
 pub use Rattle.run_lines.specs.Parts.{is_arrow, numbers_from, parts_of}
 pub use Rattle.run_lines.specs.Sheet.{AreSide, bottom_row, cell_text, ended, eras_from, headings_text, notes_from, rows_text}
 unfoldable pub use Rattle.run_lines.specs.Sheet.{block_text}
-pub use Rattle.run_replay.specs.MarksShown.{cell_shown, era_shown}
+pub use Rattle.run_replay.specs.Marks.{cell_shown, era_shown}
 pub use Rattle.signs.specs.Signs.{meaning}

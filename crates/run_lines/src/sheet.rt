@@ -4,7 +4,7 @@ ghost use Rattle.std.specs.Prelude.{◌≡◌, ◌++◌, IfOk, IsErrOf, IsTrue, 
 ghost use Rattle.std.specs.List.{flat_map};
 ghost use Rattle.signs.specs.Signs.{meaning, places_shown};
 ghost use Rattle.uni_script.specs.declared.fault.BenchFault.{BenchFault as Fault};
-ghost use Rattle.run_replay.specs.MarksShown.{marks_shown};
+ghost use Rattle.run_replay.specs.Marks.{marks_shown};
 ghost use Rattle.run_lines.specs.Sheet.{AreSide, HasText, IsTextOf, ShowsRows, block_text, bottom_row, part_of};
 ghost use Rattle.run_lines.specs.Sheet.{row_name, row_text, rows_text_of, trimmed};
 

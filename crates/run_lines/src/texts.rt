@@ -2,7 +2,7 @@
 //! Where no more is said, an `Err` says that memory was refused.
 
 ghost use Rattle.std.specs.Prelude.{◌≡◌, ◌++◌, ◌+◌, ◌<◌, ◌^◌, IfOk, OnOk, map, option_map};
-ghost use Rattle.run_replay.specs.MarksShown.{cell_shown, era_shown};
+ghost use Rattle.run_replay.specs.Marks.{cell_shown, era_shown};
 ghost use Rattle.run_lines.specs.Numbers.{no_notes};
 ghost use Rattle.run_lines.specs.Sheet.{ended, wrapped, padded, headings_text, numbered_note, notes_from, state_text};
 ghost use Rattle.run_lines.specs.Sheet.{cell_line, era_text, eras_from};

@@ -4,7 +4,7 @@
 ghost use Rattle.std.specs.Prelude.{◌≡◌, ◌++◌, ◌∷◌, [], ◌+◌, ◌<◌, ◌^◌, IfOk, OnOk, map};
 ghost use Rattle.std.specs.List.{flat_map};
 ghost use Rattle.signs.specs.Signs.{meaning};
-ghost use Rattle.run_replay.specs.MarksShown.{cell_shown, era_shown};
+ghost use Rattle.run_replay.specs.Marks.{cell_shown, era_shown};
 ghost use Rattle.run_layout.specs.Marked.{sign_shown};
 ghost use Rattle.run_picture.specs.Parts.{anchor_lines, box_parts, cell_lines, cell_parts, era_parts, eras_from};
 ghost use Rattle.run_picture.specs.Parts.{anywhere, era_name, is_next, parts_of, step_look};

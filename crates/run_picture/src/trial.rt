@@ -4,7 +4,7 @@ ghost use Rattle.std.specs.Prelude.{◌≡◌, ◌-◌, IfOk, IsErrOf, IsTrue, m
 ghost use Rattle.svg_text.specs.Figures.{picture};
 ghost use Rattle.signs.specs.Signs.{meaning, places_shown};
 ghost use Rattle.uni_script.specs.declared.fault.BenchFault.{BenchFault as Fault};
-ghost use Rattle.run_replay.specs.MarksShown.{marks_shown};
+ghost use Rattle.run_replay.specs.Marks.{marks_shown};
 ghost use Rattle.run_picture.specs.Drawn.{HasBoxes, IsDrawingOf, IsStripOf};
 
 use crate::parts::{boxes_of, parts_of};

@@ -6,7 +6,7 @@ use Rattle.uni_model.specs.Transition.{place_of}
 use Rattle.uni_core.specs.Readers.{kind_of}
 use Rattle.uni_core.specs.Same.{without_counts}
 use Rattle.run_replay.specs.Held.{alone, held}
-use Rattle.run_replay.specs.Proposal.{proposal_of}
+use Rattle.run_replay.specs.Held.{proposal_of}
 use Rattle.run_graph.proofs.Reached.{shown-next, shown_at-path, some-same}
 use Rattle.run_replay.specs.declared.frame.Frame.{Frame as FrameOfCode}
 

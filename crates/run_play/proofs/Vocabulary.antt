@@ -12,8 +12,8 @@ pub use Rattle.run_play.specs.Edges.{AreEdges, edge_text, frame_at, frame_text, 
 pub use Rattle.run_play.specs.Plans.{AreCallsOf, calls_of, has_one_era}
 pub use Rattle.run_play.specs.Play.{IsPageOf, IsPageOfSession, IsPlayed, any_refused, graph_members}
 pub use Rattle.run_play.specs.declared.fault.PlayFault.TheVariants.{Eras, Refused, Script, TooManyWorlds}
-pub use Rattle.run_replay.specs.Frames.{Steps, frame_of, stepped}
-pub use Rattle.run_replay.specs.ScenesShown.{frame_shown}
+pub use Rattle.run_replay.specs.Scenes.{Steps, frame_of, stepped}
+pub use Rattle.run_replay.specs.Scenes.{frame_shown}
 pub use Rattle.run_tell.specs.Json.{object_text}
 pub use Rattle.run_tell.specs.Page.{page_text}
 pub use Rattle.run_tell.specs.declared.viewer.TheConstants.{END, MIDDLE, START}

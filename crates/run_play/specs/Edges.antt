@@ -10,7 +10,7 @@ use Rattle.run_graph.specs.Graph.{path_of}
 use Rattle.run_graph.specs.Schedule.{Plan, event_of, world_at}
 use Rattle.run_layout.specs.Wording.{letter_of}
 use Rattle.run_replay.specs.Held.{Field, Held, alone, cell_text}
-use Rattle.run_replay.specs.Frames.{Begun, Frame, Stepped, Begins, Steps, Ends, frame_of}
+use Rattle.run_replay.specs.Scenes.{Begun, Frame, Stepped, Begins, Steps, Ends, frame_of}
 use Rattle.uni_core.specs.declared.stage.StepKind.TheVariants as kinds
 
 -- What is told beside what the place of a step holds: the reply that is settled with a state, the cell that the step proposed, or

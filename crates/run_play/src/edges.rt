@@ -8,8 +8,8 @@ ghost use Rattle.uni_core.specs.World.{world_of};
 ghost use Rattle.run_graph.specs.AtHand.{AreAtHand};
 ghost use Rattle.run_graph.specs.Graph.{IsGraph};
 ghost use Rattle.run_graph.specs.Schedule.{event_of, moved, plan_of, planned};
-ghost use Rattle.run_replay.specs.Frames.{frame_of};
-ghost use Rattle.run_replay.specs.ScenesShown.{begun_shown, frame_shown, step_shown};
+ghost use Rattle.run_replay.specs.Scenes.{frame_of};
+ghost use Rattle.run_replay.specs.Scenes.{begun_shown, frame_shown, step_shown};
 ghost use Rattle.run_play.specs.Edges.{begun_text, beside, edge_text, frame_text, step_text, AreEdges};
 
 use ready_objects::Spoken;

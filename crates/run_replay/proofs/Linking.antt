@@ -1,18 +1,10 @@
 -- What a step links, and the dot that it has: the cell that it proposes, where nothing is linked yet; else none.
-use Rattle.run_replay.proofs.Vocabulary.{Anchor, Bool, CallId, DecideAfter, DecideNew, Invariant, Invoked, IsSound, List, Memory, Name, None, Option, Pending, Sequential, Some, Stage, Step, WorldOf, [], after_of, ap, append-nil, arith, call_after, call_of_name, calls_of, cells_from, chain, dots_by, dots_of, drop, era_calls, false, inl, inr, kind_of, length, memory_with, option_and_then, option_map_or, option_or, place_of, proposed_at, refl, set_at, subst, sym, true, world_after, world_after_step, ℕ, ◌++◌, ◌+◌, ◌∙◌, ◌∷◌, ◌≡◌, ◌≤◌}
+use Rattle.run_replay.proofs.Vocabulary.{AfterOf, Anchor, Bool, CallId, Coming, DecideAfter, DecideNew, Invariant, Invoked, IsComing, IsSound, Link, List, Memory, Name, None, Option, Pending, Sequential, Some, Stage, Step, WorldOf, [], after_of, after_of-memory_with, ap, append-nil, arith, call_after, call_of_name, calls_of, calls_of-calls_at, cells_from, chain, changes_place, dot_linked, dots_by, dots_of, drop, effect_of, enough, era_calls, false, has_changed, inl, inr, kind_of, length, memory_with, option_and_then, option_map_or, option_or, place_of, presence, proposed_at, refl, set_at, subst, sym, true, world_after, world_after_step, ℕ, ◌++◌, ◌+◌, ◌∙◌, ◌∷◌, ◌≡◌, ◌≤◌}
 use Rattle.std.proofs.Math.Seq.{drop-append_seam}
-use Rattle.uni_model.specs.Places.Place.{AfterOf}
-use Rattle.uni_model.specs.Places.Content.{Link}
-use Rattle.uni_model.specs.Effects.{effect_of}
 use Rattle.uni_model.proofs.Chains.{calls_at, calls_at-append, calls_at-kept, cells_from-link, cells_from-same, invoked_at-same}
 use Rattle.uni_model.proofs.Moves.{IsSound-moved}
 use Rattle.uni_model.proofs.Numbered.{numbered_last, numbered_last-cases}
-use Rattle.uni_model.proofs.Simulation.{calls_of-calls_at, enough}
 use Rattle.uni_model.proofs.Steps.{leads, links, nothing_after, outside, proposed, threaded_c}
-use Rattle.uni_model.proofs.Written.{after_of-memory_with}
-use Rattle.run_replay.specs.Changes.{IsComing, changes_place, has_changed, presence}
-use Rattle.run_replay.specs.Marking.{dot_linked}
-use Rattle.run_replay.specs.declared.scenes.Coming.{Coming}
 use Rattle.run_replay.proofs.Replayed.{linearized_by_step}
 
 -- the cell that a step links from this stage, if one
@@ -84,9 +76,8 @@ module _ {S I R : Type 0} (object : Sequential S I R) (w : WorldOf S I R) (inv :
   HasDot c = dot_linked place p (option_and_then call_of_name (proposed_at c.stage)) (changes_place object w p c)
       ≡ dots_of place p (option_map_or (λ x. calls_at w.memory (x ∷ [])) (linked_at w.memory c.stage) [])
 
-  proposal_dot : (mine k : Name) (s : ℕ) (prefer : Name) → w.call p ≡ Some (record { mine = mine; stage = DecideAfter k s prefer })
-      → HasDot (record { mine = mine; stage = DecideAfter k s prefer })
-  proposal_dot mine k s prefer is =
+  has_dot : (mine : Name) (stage : Stage) → w.call p ≡ Some (record { mine = mine; stage = stage }) → HasDot (record { mine = mine; stage = stage })
+  has_dot mine (DecideAfter k s prefer) is =
       ap (λ o. dot_linked place p (call_of_name prefer) (has_changed (kind_of stage) (presence (after_of w.memory k)) (presence o))) after
       ∙ by_after (after_of w.memory k) refl
     where
@@ -104,28 +95,15 @@ module _ {S I R : Type 0} (object : Sequential S I R) (w : WorldOf S I R) (inv :
       by_after None at_end =
           let its = proposed object w inv.0 inv.1 inv.2 p mine stage is s prefer (inv.2.stands p (record { mine = mine; stage = stage }) is).2 in
           subst (λ x. dot_linked place p (call_of_name x) true ≡ dots_of place p (calls_at w.memory (x ∷ []))) (sym its.2) (rw its.3.1 refl)
+  has_dot mine stage is = refl
 
-  has_dot : (c : Pending) → w.call p ≡ Some c → HasDot c
-  has_dot c is = by_stage c.mine c.stage is where
-    by_stage : (mine : Name) (stage : Stage) → w.call p ≡ Some (record { mine = mine; stage = stage }) → HasDot (record { mine = mine; stage = stage })
-    by_stage mine (DecideAfter k s prefer) is = proposal_dot mine k s prefer is
-    by_stage mine stage is = refl
-
-  -- the dots of a step are that of the cell which it proposed, where it changed its place
-  pub dots_by-linked : (c : Pending) → w.call p ≡ Some c
-      → dots_by object w place (Step p) ≡ dot_linked place p (option_and_then call_of_name (proposed_at c.stage)) (changes_place object w p c)
-  dots_by-linked c is =
-      ap (dots_of place p) (
-      linearized_by_step object w p
-      ∙ ap (drop (length (calls_of w))) (subst (λ o. calls_of (world_after_step object w p o) ≡ calls_of w ++ linked) (sym is) (links_at object w inv.0 inv.1 inv.2 p c.mine c.stage is))
-      ∙ drop-append_seam (calls_of w) linked)
-      ∙ sym (has_dot c is)
-    where
-      linked : List (Invoked I)
-      linked = option_map_or (λ x. calls_at w.memory (x ∷ [])) (linked_at w.memory c.stage) []
-
--- the same of a step that was taken, which changed its place or not
-pub dots_by-taken : {S I R : Type 0} (object : Sequential S I R) (w : WorldOf S I R) → Invariant object w → (place p : ℕ) (coming : Coming) (is : IsComing w p coming) (changed : Bool)
-    → changed ≡ changes_place object w p is.pending → dot_linked place p coming.proposed changed ≡ dots_by object w place (Step p)
-dots_by-taken object w inv place p coming is changed has =
-    ap (dot_linked place p coming.proposed) has ∙ ap (λ q. dot_linked place p q (changes_place object w p is.pending)) is.proposed ∙ sym (dots_by-linked object w inv place p is.pending is.is)
+  -- the dots of a step that was taken are that of the cell which it proposed, where it changed its place
+  pub dots_by-taken : (coming : Coming) (is : IsComing w p coming) (changed : Bool) → changed ≡ changes_place object w p is.pending
+      → dot_linked place p coming.proposed changed ≡ dots_by object w place (Step p)
+  dots_by-taken coming is changed has =
+      let c = is.pending in
+      let linked : List (Invoked I) = option_map_or (λ x. calls_at w.memory (x ∷ [])) (linked_at w.memory c.stage) [] in
+      ap (dot_linked place p coming.proposed) has ∙ ap (λ q. dot_linked place p q (changes_place object w p c)) is.proposed ∙ has_dot c.mine c.stage is.is
+      ∙ sym (ap (dots_of place p) (linearized_by_step object w p
+      ∙ ap (drop (length (calls_of w))) (subst (λ o. calls_of (world_after_step object w p o) ≡ calls_of w ++ linked) (sym is.is) (links_at object w inv.0 inv.1 inv.2 p c.mine c.stage is.is))
+      ∙ drop-append_seam (calls_of w) linked))

@@ -1,32 +1,99 @@
--- The marks of an event that is replayed.
-use Rattle.run_replay.proofs.Vocabulary.{Act, CallId, End, EraMarks, Invoked, Linearize, List, Memory, Name, None, Option, Pending, Progress, Respond, RunMarks, Sequential, Some, SpokenObject, Step, WorldOf, [], acts_of, answered, ap, append-nil, calls_of, drop, end_of_step, kind_of, length, linearized_in, map, name_in, option_map, option_map_or, place_named, place_of, progress_of, refl, response_after, response_of_step, responses_of, steps_by, sym, world_after, world_after_step, ℕ, ◌++◌, ◌-◌, ◌∙◌, ◌∷◌, ◌≡◌}
-use Rattle.std.specs.Prelude.{Bool}
-use Rattle.uni_model.specs.Chain.{invoked_at}
+-- What holds of what an option has, and of each element of a list.
+use Rattle.run_replay.proofs.Vocabulary.{calls_in_era, subst, Act, Bool, Call, CallId, Called, Coming, Contains, End, Event, IfSome, Invoked, IsComing, Linearize, List, Memory, Name, None, Option, Pending, Progress, Respond, RunMarks, Sequential, Some, SpokenObject, Step, WorldOf, [], acts_of, along, answered, ap, append-nil, append_assoc, arith, at_drop_more, bar_begun, bar_ended, bar_shown, bars_in, calls_of, changes_place, dots_by, drop, drop-set-lt, drop_all, end_in, end_of_step, end_shown, era_of, eras_in, event_shown, events_shown, false, flat_map, from_with, get_or, has_changed, if◌then◌else◌, invoked_at, is_some, kind_of, length, linearized_in, lines_by, map, map-append, map-id, map-map, marks_with, name_in, option_map, option_map_or, option_or, place_named, place_of, progress_of, refl, response_after, response_of_step, responses_of, slice_set, standing_at, steps_by, sym, take, take_all, take_more_set, true, world_after, world_after_step, ℕ, ◌++◌, ◌+◌, ◌-◌, ◌<◌, ◌==◌, ◌∙◌, ◌∷◌, ◌≡◌, ◌≤◌}
+use Rattle.std.proofs.lemmas.List.Folds.{flat_map-map}
+use Rattle.run_replay.specs.declared.marks.Bar.{Bar}
+use Rattle.run_replay.specs.declared.marks.BarEnd.{BarEnd}
 use Rattle.run_replay.specs.declared.marks.StepMark.{StepMark}
-use Rattle.run_replay.specs.Changes.{IsComing, changes_place, has_changed, standing_at}
-use Rattle.run_replay.specs.declared.scenes.Coming.{Coming}
+use Rattle.uni_record.specs.declared.event.Event.{Event as Stored}
 
-pub era_is : (a b : EraMarks) → a.from ≡ b.from → a.last ≡ b.last → a.processes ≡ b.processes → a.anchor ≡ b.anchor → a.cells ≡ b.cells → a ≡ b
-era_is a b f l p n c =
-    let g : record { from = a.from; last = a.last; processes = a.processes; anchor = a.anchor; cells = a.cells } ≡ record { from = b.from; last = b.last; processes = b.processes; anchor = b.anchor; cells = b.cells } = cc in g
+pub contains_first : {X : Type 0} (x : X) (xs : List X) → Contains (x ∷ xs) x
+contains_first x xs = (0, (let some : 0 < length (x ∷ xs) = omega arith in some), refl)
+
+pub flat-same : {X Y Z : Type 0} (f : Z → List Y) (g : X → Z) (h : X → List Y) → ((x : X) → f (g x) ≡ h x) → (xs : List X) → flat_map f (map g xs) ≡ flat_map h xs
+flat-same f g h same xs = flat_map-map f g xs ∙ (λ i. flat_map (λ x. same x i) xs)
+
+pub flat-none : {X Y : Type 0} (xs : List X) → flat_map (λ (x : X). let none : List Y = [] in none) xs ≡ []
+flat-none [] = refl
+flat-none (x ∷ xs) = flat-none xs
+
+pub IfSome-either : {X : Type 0} (P : X → Type 0) (x y : Option X) → IfSome x P → IfSome y P → IfSome (option_or x y) P
+IfSome-either P None y first rest = rest
+IfSome-either P (Some x) y first rest = first
+
+-- Lists that a loop goes along: what it has made so far, and what the rest gives.
+
+pub map-kept : {X : Type 0} (f : X → X) → ((x : X) → f x ≡ x) → (xs : List X) → map f xs ≡ xs
+map-kept f kept xs = (λ i. map (λ x. kept x i) xs) ∙ map-id xs
+
+-- a list that is changed in place, one element after the other
+module _ {X Y : Type 0} (f : X → Y) (g : Y → Y) where
+  pub changed-more : (xs : List X) (i : ℕ) (x y : X) (whole : List Y) → i < length xs → f y ≡ g (f (get_or xs i x))
+      → map f (take i xs) ++ map g (map f (drop i xs)) ≡ whole
+      → map f (take (i + 1) (slice_set xs i y)) ++ map g (map f (drop (i + 1) (slice_set xs i y))) ≡ whole
+  changed-more xs i x y whole within changed before =
+      rw (take_more_set xs i y within, drop-set-lt (i + 1) xs i y (omega arith), map-append f (take i xs) (y ∷ []), append_assoc (map f (take i xs)) (f y ∷ []), changed)
+      (ap (λ l. map f (take i xs) ++ l) (sym (at_drop_more (λ l. map g (map f l)) xs i x within)) ∙ before)
+
+  pub changed-end : (xs : List X) (i : ℕ) (whole : List Y) → length xs ≤ i → map f (take i xs) ++ map g (map f (drop i xs)) ≡ whole → map f xs ≡ whole
+  changed-end xs i whole past all = sym (append-nil (map f xs)) ∙ (rw (take_all i xs past, drop_all i xs past) at all)
+
+-- what is written back to a vector, where the loop has kept the length
+pub written_back : {X : Type 0} (now before : List X) (len : ℕ) → length now ≡ length before → len ≡ length before → take len (now ++ drop (length now) before) ≡ now
+written_back now before len same whole = rw (drop_all (length now) before (omega arith), append-nil now) (take_all len now (omega arith))
+
+-- Bars that end, and those that don't.
+
+pub option_or-none : {A : Type 0} (o : Option A) → option_or o None ≡ o
+option_or-none None = refl
+option_or-none (Some x) = refl
+
+option_or-assoc : {A : Type 0} (a b c : Option A) → option_or (option_or a b) c ≡ option_or a (option_or b c)
+option_or-assoc None b c = refl
+option_or-assoc (Some x) b c = refl
+
+pub either_way : {A : Type 0} (t : Bool) (x : A) → x ≡ if t then x else x
+either_way true x = refl
+either_way false x = refl
+
+abbrev pub with_end : Called → Option End → Called
+with_end b o = record b { end = o }
+
+-- a bar that has ended stays
+pub bar_ended-ended : (p : ℕ) (end : End) (bar : Bar) → is_some bar.end ≡ true → bar_ended p end (bar_shown bar) ≡ bar_shown bar
+bar_ended-ended p end bar some = ap (with_end (bar_shown bar)) (by_end bar.end some (p == bar.call.process))
+  where
+    by_end : (o : Option BarEnd) → is_some o ≡ true → (t : Bool) → option_or (option_map end_shown o) (if t then Some end else None) ≡ option_map end_shown o
+    by_end None e t = absurd (cc)
+    by_end (Some x) e t = refl
+
+-- and so does that of another process
+pub bar_ended-other : (p : ℕ) (end : End) (b : Called) → (p == b.call.process) ≡ false → bar_ended p end b ≡ b
+bar_ended-other p end b other = rw other (ap (with_end b) (option_or-none b.end))
+
+-- bars that end by a step, if any does, and then by later ones, are those that end by the step or later ones
+pub ends_later : (p : ℕ) (rest : ℕ → Option End) (end : Option End) (bars : List Called)
+    → map (λ b. with_end b (option_or b.end (rest b.call.process))) (option_map_or (λ e. map (bar_ended p e) bars) end bars)
+    ≡ map (λ b. with_end b (option_or b.end (option_or (if p == b.call.process then end else None) (rest b.call.process)))) bars
+ends_later p rest None bars = λ i. map (λ b. with_end b (option_or b.end (option_or (either_way {A = Option End} (p == b.call.process) None i) (rest b.call.process)))) bars
+ends_later p rest (Some e) bars =
+    map-map (λ b. with_end b (option_or b.end (rest b.call.process))) (bar_ended p e) bars
+    ∙ (λ i. map (λ b. with_end b (option_or-assoc b.end (if p == b.call.process then Some e else None) (rest b.call.process) i)) bars)
+
+-- The marks of an event that is replayed.
 
 pub marks_are : (a b : RunMarks) → a.object ≡ b.object → a.events ≡ b.events → a.steps ≡ b.steps → a.bars ≡ b.bars → a.dots ≡ b.dots → a.lines ≡ b.lines → a.eras ≡ b.eras → a ≡ b
-marks_are a b o e s r d l f =
-    let g : record { object = a.object; events = a.events; steps = a.steps; bars = a.bars; dots = a.dots; lines = a.lines; eras = a.eras }
-    ≡ record { object = b.object; events = b.events; steps = b.steps; bars = b.bars; dots = b.dots; lines = b.lines; eras = b.eras } = cc in g
-
-step_is : (a b : StepMark) → a.event ≡ b.event → a.process ≡ b.process → a.nth ≡ b.nth → a.number ≡ b.number → a.kind ≡ b.kind → a.changed ≡ b.changed → a ≡ b
-step_is a b e p n m k c =
-    let g : record { event = a.event; process = a.process; nth = a.nth; number = a.number; kind = a.kind; changed = a.changed }
-    ≡ record { event = b.event; process = b.process; nth = b.nth; number = b.number; kind = b.kind; changed = b.changed } = cc in g
+marks_are a b o e s r d l f = λ i. record { object = o i; events = e i; steps = s i; bars = r i; dots = d i; lines = l i; eras = f i }
 
 module _ {S I R : Type 0} where
-  -- the cells keep their names in a step
-  pub names_kept : (object : Sequential S I R) (w v : WorldOf S I R) (p : ℕ) → v ≡ world_after object w (Step p) → name_in v ≡ name_in w
-  names_kept object w v p world = ap (λ (u : WorldOf S I R). name_in u) world ∙ by_call (w.call p) where
-    by_call : (o : Option Pending) → name_in (world_after_step object w p o) ≡ name_in w
-    by_call None = refl
-    by_call (Some c) = refl
+  -- a step keeps the processes, how many cells each has made, and the names of the cells
+  abbrev AreKept : (w v : WorldOf S I R) → Type 0
+  AreKept w v = (w.n ≡ v.n) × ((q : ℕ) → calls_in_era w q ≡ calls_in_era v q) × (name_in v ≡ name_in w)
+
+  pub kept_by_step : (object : Sequential S I R) (w v : WorldOf S I R) (p : ℕ) → v ≡ world_after object w (Step p) → AreKept w v
+  kept_by_step object w v p world = subst (AreKept w) (sym world) (by_call (w.call p)) where
+    by_call : (o : Option Pending) → AreKept w (world_after_step object w p o)
+    by_call None = (refl, λ q. refl, refl)
+    by_call (Some c) = (refl, λ q. refl, refl)
 
   -- whether a step that was taken has changed its place, by what stood there before and after it
   pub changes-taken : (object : Sequential S I R) (w v : WorldOf S I R) (p : ℕ) (coming : Coming) (is : IsComing w p coming) (before : ℕ) (changed : Bool)
@@ -35,7 +102,7 @@ module _ {S I R : Type 0} where
       → changed ≡ has_changed coming.kind before (standing_at v.memory (place_named (name_in v) coming.place))
       → changed ≡ changes_place object w p is.pending
   changes-taken object w v p coming is before changed world stood has =
-      let now = ap (λ name. standing_at v.memory (place_named name coming.place)) (names_kept object w v p world)
+      let now = ap (λ name. standing_at v.memory (place_named name coming.place)) (kept_by_step object w v p world).2
       ∙ ap (λ (u : WorldOf S I R). standing_at u.memory (place_named (name_in w) coming.place)) world
       ∙ ap (standing_at (world_after object w (Step p)).memory) is.place in
       has ∙ ap (λ k. has_changed k before (standing_at v.memory (place_named (name_in v) coming.place))) is.kind
@@ -47,9 +114,9 @@ module _ {S I R : Type 0} where
       → v ≡ world_after object w (Step p) → number ≡ v.steps p → changed ≡ changes_place object w p is.pending
       → steps_by object w place (Step p) ≡ record { event = place; process = p; nth = coming.call.nth; number = number; kind = coming.kind; changed = changed } ∷ []
   steps_by-taken object w v place p number coming is changed world count has =
-      ap by_call is.is ∙ ap (λ m. m ∷ []) (step_is _ _ refl refl
-      (ap (λ o. (world_after_step object w p o).begun p - 1) is.is ∙ sym (ap (λ (id : CallId). id.nth) is.call))
-      (sym (count ∙ ap (λ (u : WorldOf S I R). u.steps p) world)) (sym is.kind) (sym has))
+      let nth = ap (λ o. (world_after_step object w p o).begun p - 1) is.is ∙ sym (ap (λ (id : CallId). id.nth) is.call) in
+      let steps = sym (count ∙ ap (λ (u : WorldOf S I R). u.steps p) world) in
+      ap by_call is.is ∙ (λ i. record { event = place; process = p; nth = nth i; number = steps i; kind = (sym is.kind) i; changed = (sym has) i } ∷ [])
     where
       by_call : Option Pending → List StepMark
       by_call o =
@@ -100,3 +167,61 @@ module _ {S I R : Type 0} where
       where
         ended : WorldOf S I R → R → End
         ended u r = record { event = place; reply = o.language.resp_text r; steps = u.steps p; turns = u.turns p }
+
+-- The marks so far, with those of the events that are left.
+
+module _ {S I R : Type 0} (o : SpokenObject S I R) where
+  -- a bar, in a run that goes on so: a call that hasn't ended ends there
+  abbrev pub bar_later : WorldOf S I R → (place : ℕ) → List (Event I) → Called → Called
+  bar_later w place es b = with_end b (option_or b.end (end_in o b.call.process w place es))
+
+-- on an object with its words and the text of each of its states
+module _ {S I R : Type 0} (o : SpokenObject S I R) (text : S → List ℕ) where
+  -- the marks so far, and those of a run that goes on so
+  abbrev pub marks_then : RunMarks → WorldOf S I R → (from place : ℕ) → List (Event I) → RunMarks
+  marks_then m w from place es =
+      record {
+        object = m.object;
+        events = m.events;
+        steps = m.steps ++ along o.object (steps_by o.object) w place es;
+        bars = map (bar_later o w place es) m.bars ++ bars_in o w place es;
+        dots = m.dots ++ along o.object (dots_by o.object) w place es;
+        lines = m.lines ++ along o.object lines_by w place es;
+        eras = m.eras ++ eras_in o text w from place es;
+      }
+
+  -- one event is taken
+  pub marks_then-event : (m : RunMarks) (w : WorldOf S I R) (from place : ℕ) (e : Event I) (es : List (Event I))
+      → marks_then (marks_with o text m w from place e) (world_after o.object w e) (from_with from place e) (place + 1) es ≡ marks_then m w from place (e ∷ es)
+  marks_then-event m w from place (Call p i) es =
+      let v = world_after o.object w (Call p i) in
+      marks_are _ _ refl refl refl
+      (ap (λ l. l ++ bars_in o v (place + 1) es) (map-append (bar_later o v (place + 1) es) m.bars (bar_begun o w place p i ∷ []))
+      ∙ append_assoc (map (bar_later o v (place + 1) es) m.bars) (bar_later o v (place + 1) es (bar_begun o w place p i) ∷ []) (bars_in o v (place + 1) es))
+      refl refl refl
+  marks_then-event m w from place (Step p) es =
+      let v = world_after o.object w (Step p) in
+      marks_are _ _ refl refl
+      (append_assoc m.steps (steps_by o.object w place (Step p)) (along o.object (steps_by o.object) v (place + 1) es))
+      (ap (λ l. l ++ bars_in o v (place + 1) es) (ends_later p (λ q. end_in o q v (place + 1) es) (end_of_step o w place p) m.bars))
+      (append_assoc m.dots (dots_by o.object w place (Step p)) (along o.object (dots_by o.object) v (place + 1) es))
+      refl refl
+  marks_then-event m w from place e es =
+      let v = world_after o.object w e in
+      marks_are _ _ refl refl refl refl refl
+      (append_assoc m.lines (lines_by w place e) (along o.object lines_by v (place + 1) es))
+      (append_assoc m.eras (era_of o text w from (Some place) ∷ []) (eras_in o text v (place + 1) (place + 1) es))
+
+  -- none is left
+  pub marks_then-none : (m : RunMarks) (w : WorldOf S I R) (from place : ℕ) → marks_then m w from place [] ≡ record m { eras = m.eras ++ era_of o text w from None ∷ [] }
+  marks_then-none m w from place =
+      marks_are _ _ refl refl (append-nil m.steps)
+      (append-nil (map (bar_later o w place []) m.bars) ∙ map-kept (bar_later o w place []) (λ b. ap (with_end b) (option_or-none b.end)) m.bars)
+      (append-nil m.dots) (append-nil m.lines) refl
+
+  -- the next of the stored events is taken
+  pub marks_then-taken : (m m' : RunMarks) (w w' : WorldOf S I R) (from from' place : ℕ) (e : Stored I) (rest : List (Stored I))
+      → m' ≡ marks_with o text m w from place (event_shown e) → w' ≡ world_after o.object w (event_shown e) → from' ≡ from_with from place (event_shown e)
+      → marks_then m' w' from' (place + 1) (events_shown rest) ≡ marks_then m w from place (events_shown (e ∷ rest))
+  marks_then-taken m m' w w' from from' place e rest marks world next =
+      rw (marks, world, next) (marks_then-event m w from place (event_shown e) (events_shown rest))

@@ -1,17 +1,13 @@
 -- The replies of the bars are the responses of the history.
-use Rattle.run_replay.proofs.Vocabulary.{Announce, AreAccepted, BarsHaveTheReplies, Bool, Call, CallId, Called, Completed, CountsSteps, End, Event, IfSome, IsAccepted, IsSome, List, None, Of, Option, Pending, Reply, Reshape, RunMarks, Some, SpokenObject, Step, Trim, WorldOf, [], ap, append-nil, arith, bar_begun, bar_ended, bars_in, call_after, completed_by, completed_in, current_of, end_in, end_of_step, eq-eqb, eqb-true, false, flat_map, flat_map-append, if◌then◌else◌, inl, inr, map, map-append, map-map, marks_with, ne_eqb, number_cases, opened_world, option_and_then, option_map, option_map_or, option_or, option_to_list, place_of, refl, replies_in_order, reply_at, reply_text, response_after, response_of_step, set_at, set_at-cases, stage_after, subst, sym, true, world_after, world_after_era, world_after_step, ℕ, ◌++◌, ◌+◌, ◌-◌, ◌<◌, ◌==◌, ◌∙◌, ◌∷◌, ◌≡◌, ◌≢◌, ◌≤◌}
+use Rattle.run_replay.proofs.Vocabulary.{AreAccepted, BarsHaveTheReplies, Bool, Call, CallId, Called, Completed, CountsSteps, End, Event, IfSome, IsAccepted, IsSome, List, None, Option, Pending, Reply, Reshape, RunMarks, Some, SpokenObject, Step, Trim, WorldOf, [], ap, append-nil, arith, bar_begun, bar_ended, bars_in, completed_by, completed_in, current_of, end_in, end_of_step, eq-eqb, eqb-true, false, flat_map, flat_map-append, if◌then◌else◌, inl, inr, map, map-append, map-map, marks_with, ne_eqb, number_cases, opened_world, option_and_then, option_map, option_map_or, option_or, option_to_list, place_of, refl, replies_in_order, reply_at, reply_text, response_after, response_of_step, subst, sym, true, world_after, world_after_era, world_after_step, ℕ, ◌++◌, ◌+◌, ◌-◌, ◌<◌, ◌==◌, ◌∙◌, ◌∷◌, ◌≡◌, ◌≢◌, ◌≤◌}
 use Rattle.uni_model.specs.Helping.{HelpingInvariant}
 use Rattle.uni_model.proofs.Bounded.{HelpingInvariant-opened_world, HelpingInvariant-world_after}
 use Rattle.uni_model.proofs.Counted.{CountsSteps-opened_world, CountsSteps-world_after}
-use Rattle.uni_model.proofs.Simulation.{set_at_same}
 use Rattle.uni_record.proofs.Kept.{nothing_completed, one_completed}
 use Rattle.uni_record.proofs.Promised.{returns_are_responses}
 use Rattle.uni_script.proofs.Helped.{pending-world_after_step}
-use Rattle.run_replay.proofs.Replayed.{end_of_step-none}
-use Rattle.run_replay.proofs.Opened.{kept_by_era, last_or_silent}
-use Rattle.run_replay.proofs.WholeMarks.{bar_later, marks_then-event}
-use Rattle.run_replay.proofs.Lists.{flat-none, flat-same}
-use Rattle.run_replay.proofs.Inside.{end_in-place}
+use Rattle.run_replay.proofs.Replayed.{end_of_step-none, bar_later, marks_then-event, flat-none, flat-same}
+use Rattle.run_replay.proofs.Inside.{kept_by_era, last_or_silent, end_in-place}
 
 -- the reply of a call that ends so, if with the event at this place
 abbrev reply_of : (place : ℕ) → CallId → Option End → List Reply
@@ -21,9 +17,6 @@ reply_of place call end = option_map_or (λ (e : End). if e.event == place then 
 reply_elsewhere : (place : ℕ) (call : CallId) (end : Option End) → IfSome end (λ e. e.event ≢ place) → reply_of place call end ≡ []
 reply_elsewhere place call None apart = refl
 reply_elsewhere place call (Some e) apart = ap (λ t. if t then record { call = call; text = e.reply } ∷ [] else []) (ne_eqb e.event place apart)
-
-reply_here : (place : ℕ) (call : CallId) (e : End) → e.event ≡ place → reply_of place call (Some e) ≡ record { call = call; text = e.reply } ∷ []
-reply_here place call e same = ap (λ t. if t then record { call = call; text = e.reply } ∷ [] else []) (eq-eqb e.event place same)
 
 -- an open bar of a process
 abbrev open_of : (p : ℕ) → Called → List CallId
@@ -52,7 +45,7 @@ replies_of_ended place q end here (b ∷ bars) silent =
 
     by_end : (o : Option End) → reply_of place b.call o ≡ [] → (t : Bool)
         → reply_of place b.call (option_or o (if t then Some end else None)) ≡ map made (option_map_or (λ (e : End). []) o (if t then b.call ∷ [] else []))
-    by_end None none true = reply_here place b.call end here
+    by_end None none true = ap (λ t. if t then made b.call ∷ [] else []) (eq-eqb end.event place here)
     by_end None none false = refl
     by_end (Some e) none t = none
 
@@ -149,12 +142,6 @@ module _ {S I R : Type 0} (o : SpokenObject S I R) where
       ∙ ap (λ l. reply_texts (option_to_list (completed_by o.object w e)) ++ l) (rest _ bars next.1 all)
       ∙ sym (map-append (λ (c : Completed R). reply_text o.language c.returned) (option_to_list (completed_by o.object w e)) (completed_in o.object v es))
 
-  current_is : (w : WorldOf S I R) (p begun : ℕ) (call : Option Pending) → w.call p ≡ call → w.begun p ≡ begun
-      → current_of w p ≡ option_map (λ (c : Pending). let id : CallId = record { process = p; nth = begun - 1 } in id) call
-  current_is w p begun call is count =
-      ap (λ k. option_map (λ (c : Pending). let id : CallId = record { process = p; nth = k - 1 } in id) (w.call p)) count
-      ∙ ap (option_map (λ (c : Pending). let id : CallId = record { process = p; nth = begun - 1 } in id)) is
-
   -- the call of a process that has one pending
   current_some : (w : WorldOf S I R) (p : ℕ) → IsSome (w.call p) → current_of w p ≡ Some (record { process = p; nth = w.begun p - 1 })
   current_some w p some = by_call (w.call p) some
@@ -163,37 +150,25 @@ module _ {S I R : Type 0} (o : SpokenObject S I R) where
       by_call None h = absurd (let e : false ≡ true = h in cc)
       by_call (Some c) h = refl
 
-  begun_after_step : (w : WorldOf S I R) (q : ℕ) (c : Option Pending) → (world_after_step o.object w q c).begun ≡ w.begun
-  begun_after_step w q None = refl
-  begun_after_step w q (Some c) = refl
-
   -- a step leaves the calls of others
-  call_of_other : (w : WorldOf S I R) (q p : ℕ) → p ≢ q → (c : Option Pending) → (world_after_step o.object w q c).call p ≡ w.call p
-  call_of_other w q p apart None = refl
-  call_of_other w q p apart (Some c) =
-      elim (set_at-cases w.call q (call_after c.mine (stage_after w.n c.mine c.stage (w.memory (place_of w.n q c.mine c.stage)))) p) [ inl here ↦ absurd (apart here.0) | inr other ↦ other.1 ]
+  others_kept : (w : WorldOf S I R) (q p : ℕ) → (p == q) ≡ false → (c : Option Pending) → current_of (world_after_step o.object w q c) p ≡ current_of w p
+  others_kept w q p apart None = refl
+  others_kept w q p apart (Some c) = rw apart refl
+
+  -- and the own one, where that goes on
+  own_kept : (w : WorldOf S I R) (q : ℕ) → IsSome (w.call q) → (c : Option Pending) → IsSome ((world_after_step o.object w q c).call q) → current_of (world_after_step o.object w q c) q ≡ current_of w q
+  own_kept w q some None after = refl
+  own_kept w q some (Some c) after = current_some (world_after_step o.object w q (Some c)) q after ∙ sym (current_some w q some)
 
   -- one that has a response leaves the process without a call
-  call_of_last : (w : WorldOf S I R) (q : ℕ) (r : R) → response_of_step w q ≡ Some r → (c : Option Pending) → w.call q ≡ c → IsSome c → (world_after_step o.object w q c).call q ≡ None
+  call_of_last : (w : WorldOf S I R) (q : ℕ) (r : R) → response_of_step w q ≡ Some r → (c : Option Pending) → w.call q ≡ c → IsSome c → current_of (world_after_step o.object w q c) q ≡ None
   call_of_last w q r some None is h = absurd (let e : false ≡ true = h in cc)
   call_of_last w q r some (Some c) is h =
-      set_at_same w.call q (call_after c.mine (stage_after w.n c.mine c.stage (w.memory (place_of w.n q c.mine c.stage))))
-      ∙ (elim (last_or_silent w.n c.mine c.stage (w.memory (place_of w.n q c.mine c.stage)) w.memory) [
+      elim (last_or_silent w.n c.mine c.stage (w.memory (place_of w.n q c.mine c.stage)) w.memory) [
         | inl silent ↦ absurd (
             let none : Some r ≡ None = sym some ∙ ap (option_and_then (λ (c : Pending). response_after c.mine c.stage w.memory)) is ∙ silent in cc)
-        | inr over ↦ ap (call_after c.mine) over
-      ])
-
-  -- what a step completes, told
-  nothing_told : (w : WorldOf S I R) (q : ℕ) → response_of_step w q ≡ None → [] ≡ reply_texts (option_to_list (completed_by o.object w (Step q)))
-  nothing_told w q none = sym (ap (λ x. reply_texts (option_to_list x)) (nothing_completed o.object w q none))
-
-  last_told : (w : WorldOf S I R) (q : ℕ) (r : R) → IsSome (w.call q) → response_of_step w q ≡ Some r
-      → map (λ call. record { call = call; text = o.language.resp_text r }) (option_to_list (current_of w q)) ≡ reply_texts (option_to_list (completed_by o.object w (Step q)))
-  last_told w q r some last =
-      let current = current_some w q some in
-      ap (λ x. map (λ call. let told : Reply = record { call = call; text = o.language.resp_text r } in told) (option_to_list x)) current
-      ∙ sym (ap (λ x. reply_texts (option_to_list x)) (one_completed o.object w q _ r (sym current) last))
+        | inr over ↦ rw (eq-eqb q q refl, over) refl
+      ]
 
   -- the bars so far, after one event more
   module _ (w : WorldOf S I R) (place : ℕ) (so_far : List Called) (is : IsSoFar w place so_far) where
@@ -208,55 +183,27 @@ module _ {S I R : Type 0} (o : SpokenObject S I R) where
         pending = λ p. flat_map-append (open_of p) so_far (bar_begun o w place q i ∷ [])
             ∙ ap (λ l. flat_map (open_of p) so_far ++ l) (append-nil (if p == q then record { process = q; nth = w.begun q } ∷ [] else []))
             ∙ ap (λ l. l ++ (if p == q then record { process = q; nth = w.begun q } ∷ [] else [])) (is.pending p)
-            ∙ (elim (set_at-cases w.call q (Some (record { mine = Of q (w.begun q); stage = Announce })) p) [
-              | inl here ↦ subst (λ x. option_to_list (current_of w x) ++ (if x == q then record { process = q; nth = w.begun q } ∷ [] else []) ≡ option_to_list (current_of v x)) (sym here.0) own
-              | inr other ↦ other_pending p other.0
+            ∙ (elim (number_cases p q) [
+              | inl here ↦ rw (here.1, ap w.call here.0 ∙ idle) (λ j. record { process = (sym here.0) j; nth = nth j } ∷ [])
+              | inr other ↦ rw other.1 (append-nil _)
             ]);
       },
     )
       where
-        v : WorldOf S I R
-        v = world_after o.object w (Call q i)
-
         silent : AreSilent place (so_far ++ bar_begun o w place q i ∷ [])
         silent k low = flat_map-append (reply_at k) so_far (bar_begun o w place q i ∷ []) ∙ append-nil (flat_map (reply_at k) so_far) ∙ is.ended k low
 
-        begun : v.begun q ≡ w.begun q + 1
-        begun = set_at_same w.begun q (w.begun q + 1)
-
-        nth : w.begun q + 1 - 1 ≡ w.begun q
+        nth : w.begun q ≡ w.begun q + 1 - 1
         nth = omega arith
-
-        call : v.call q ≡ Some (record { mine = Of q (w.begun q); stage = Announce })
-        call = set_at_same w.call q (Some (record { mine = Of q (w.begun q); stage = Announce }))
-
-        own : option_to_list (current_of w q) ++ (if q == q then record { process = q; nth = w.begun q } ∷ [] else []) ≡ option_to_list (current_of v q)
-        own =
-            ap (λ c. option_to_list c ++ (if q == q then record { process = q; nth = w.begun q } ∷ [] else [])) (current_is w q _ None idle refl)
-            ∙ ap (λ t. if t then record { process = q; nth = w.begun q } ∷ [] else []) (eq-eqb q q refl)
-            ∙ ap (λ k. let id : CallId = record { process = q; nth = k } in id ∷ []) (sym nth)
-            ∙ ap option_to_list (sym (current_is v q _ _ call begun))
-
-        other_pending : (p : ℕ) → p ≢ q → option_to_list (current_of w p) ++ (if p == q then record { process = q; nth = w.begun q } ∷ [] else []) ≡ option_to_list (current_of v p)
-        other_pending p apart =
-            ap (λ t. option_to_list (current_of w p) ++ (if t then record { process = q; nth = w.begun q } ∷ [] else [])) (ne_eqb p q apart)
-            ∙ append-nil (option_to_list (current_of w p))
-            ∙ ap option_to_list (sym (current_is v p _ _ (kept w.call _) (kept w.begun _)))
-          where
-            kept : {A : Type 0} (f : ℕ → A) (x : A) → set_at f q x p ≡ f p
-            kept f x = elim (set_at-cases f q x p) [ inl here ↦ absurd (apart here.0) | inr other ↦ other.1 ]
 
     next_silent : (q : ℕ) → HelpingInvariant o.object w → IsSome (w.call q) → response_of_step w q ≡ None → AreNext w place (Step q) so_far
     next_silent q helping some none = (
-      is.ended place (omega arith) ∙ nothing_told w q none,
+      is.ended place (omega arith) ∙ sym (ap (λ x. reply_texts (option_to_list x)) (nothing_completed o.object w q none)),
       record {
         ended = ended_more;
         pending = λ p. is.pending p ∙ ap option_to_list (sym (elim (number_cases p q) [
-          | inl here ↦ subst (λ x. current_of v x ≡ current_of w x) (sym here.0)
-              (current_some v q (pending-world_after_step o q w some helping none)
-              ∙ ap (λ k. let id : CallId = record { process = q; nth = k - 1 } in Some id) (ap (λ f. f q) (begun_after_step w q (w.call q)))
-              ∙ sym (current_some w q some))
-          | inr other ↦ current_is v p _ _ (call_of_other w q p other.0 (w.call q)) (ap (λ f. f p) (begun_after_step w q (w.call q)))
+          | inl here ↦ subst (λ x. current_of v x ≡ current_of w x) (sym here.0) (own_kept w q some (w.call q) (pending-world_after_step o q w some helping none))
+          | inr other ↦ others_kept w q p other.1 (w.call q)
         ]));
       },
     )
@@ -270,14 +217,15 @@ module _ {S I R : Type 0} (o : SpokenObject S I R) where
       replies_of_ended place q end here so_far (is.ended place (omega arith))
           ∙ ap (map (λ call. let told : Reply = record { call = call; text = end.reply } in told)) (is.pending q)
           ∙ ap (λ text. map (λ call. let told : Reply = record { call = call; text = text } in told) (option_to_list (current_of w q))) reply
-          ∙ last_told w q r some last,
+          ∙ (let current = current_some w q some in
+          ap (λ x. map (λ call. let told : Reply = record { call = call; text = o.language.resp_text r } in told) (option_to_list x)) current
+          ∙ sym (ap (λ x. reply_texts (option_to_list x)) (one_completed o.object w q _ r (sym current) last))),
       record {
         ended = λ k low. replies_elsewhere k q end (λ same. omega arith) so_far ∙ is.ended k (omega arith);
         pending = λ p. elim (number_cases p q) [
           | inl same ↦ subst (λ x. flat_map (open_of x) (map (bar_ended q end) so_far) ≡ option_to_list (current_of v x)) (sym same.0)
-              (none_open q end so_far ∙ ap option_to_list (sym (current_is v q _ None (call_of_last w q r last (w.call q) refl some) refl)))
-          | inr other ↦ others_open p q end other.0 so_far ∙ is.pending p
-              ∙ ap option_to_list (sym (current_is v p _ _ (call_of_other w q p other.0 (w.call q)) (ap (λ f. f p) (begun_after_step w q (w.call q)))))
+              (none_open q end so_far ∙ ap option_to_list (sym (call_of_last w q r last (w.call q) refl some)))
+          | inr other ↦ others_open p q end other.0 so_far ∙ is.pending p ∙ ap option_to_list (sym (others_kept w q p other.1 (w.call q)))
         ];
       },
     )
@@ -288,7 +236,7 @@ module _ {S I R : Type 0} (o : SpokenObject S I R) where
     so_far_era : (n : ℕ) → IsSoFar (world_after_era w n) (place + 1) so_far
     so_far_era n =
         let kept = kept_by_era o.object w n in
-        record { ended = ended_more; pending = λ p. is.pending p ∙ ap option_to_list (sym (current_is (world_after_era w n) p _ _ (ap (λ f. f p) kept.0) (ap (λ f. f p) kept.1))) }
+        record { ended = ended_more; pending = λ p. is.pending p ∙ (λ i. option_to_list (option_map (λ (c : Pending). let id : CallId = record { process = p; nth = (sym kept.1) i p - 1 } in id) ((sym kept.0) i p))) }
 
     next_event : (e : Event I) → HelpingInvariant o.object w → IsAccepted w e → AreNext w place e (bars_after w place so_far e)
     next_event (Call q i) helping ok = next_call q i ok.1

@@ -1,13 +1,5 @@
-pub mod Samples
+pub mod Vocabulary
 pub mod Held
-pub mod Proposal
-pub mod Frames
-pub mod Whole
 pub mod Scenes
-pub mod ScenesShown
-pub mod SceneLaws
-pub mod Changes
 pub mod Marks
-pub mod MarksShown
-pub mod Marking
 pub mod MarkLaws

@@ -1,17 +1,6 @@
 -- What holds of the marks of each run from an opening.
-use Rattle.std.specs.Prelude.{◌≡◌, ℕ, ◌+◌, ◌<◌, ◌≤◌, ◌==◌, if◌then◌else◌, List, [], ◌∷◌, ◌++◌}
-use Rattle.std.specs.Prelude.{map, replicate, Some, None, IfSome, Contains, option_map, refl}
-use Rattle.std.specs.Option.{option_map_or}
-use Rattle.std.specs.List.{All, flat_map}
-use Rattle.seq_object.specs.declared.call_id.CallId.{CallId}
-use Rattle.ready_objects.specs.Spoken.{Language}
-use Rattle.uni_model.specs.Chain.{Entry}
-use Rattle.uni_model.specs.Worlds.{Event, opened_world, AreAccepted}
-use Rattle.uni_model.specs.Worlds.Event.{Trim}
-use Rattle.uni_model.specs.History.{log_of_run, history_of}
-use Rattle.uni_record.specs.declared.verdict.Return.{Return}
-use Rattle.uni_record.specs.Event.{responses_in}
-use Rattle.uni_script.specs.Objects.{SpokenObject}
+use Rattle.std.specs.Prelude.{◌≡◌, ℕ, ◌+◌, ◌<◌, ◌≤◌, ◌==◌, if◌then◌else◌, List, [], ◌∷◌, ◌++◌, map, replicate, Some, None, IfSome, Contains, option_map, refl}
+use Rattle.run_replay.specs.Vocabulary.{All, AreAccepted, CallId, Entry, Event, Language, Return, SpokenObject, Trim, flat_map, history_of, log_of_run, opened_world, option_map_or, responses_in}
 use Rattle.run_replay.specs.declared.marks.Dot.{Dot}
 use Rattle.run_replay.specs.Marks.{End, Called, Cell, EraMarks, RunMarks, box_of, marks_of_run}
 

@@ -1,30 +1,16 @@
 -- The marks of a run: what is drawn of its events, told by the events and the worlds before them.
-use Rattle.std.specs.Prelude.{◌≡◌, ℕ, ◌+◌, ◌-◌, ◌==◌, if◌then◌else◌, List, [], ◌∷◌, ◌++◌, length, map, max}
-use Rattle.std.specs.Prelude.{replicate, drop, true, false, Option, Some, None, option_map, refl}
-use Rattle.std.specs.Option.{option_map_or, option_or}
-use Rattle.seq_object.specs.Sequential.{Sequential}
-use Rattle.seq_object.specs.declared.call_id.CallId.{CallId}
-use Rattle.ready_objects.specs.Words.{text_of_words}
-use Rattle.ready_objects.specs.Spoken.{Language}
-use Rattle.uni_model.specs.Places.{seq_of}
-use Rattle.uni_model.specs.Places.Name.{Anchor}
-use Rattle.uni_model.specs.Stages.{Pending}
-use Rattle.uni_model.specs.Chain.{Entry}
-use Rattle.uni_model.specs.Worlds.{WorldOf, Event, world_after, response_of_step, opened_world}
-use Rattle.uni_model.specs.Worlds.Event.{Call, Step, Trim, Reshape}
-use Rattle.uni_model.specs.AtomicObject.{Act, Invoked}
-use Rattle.uni_model.specs.AtomicObject.Act.{Linearize}
-use Rattle.uni_model.specs.History.{log, acts_of}
-use Rattle.uni_core.specs.Readers.{kind_of}
-use Rattle.uni_log.specs.Log.{state_settled_at}
-use Rattle.uni_core.specs.Ends.{last_number}
-use Rattle.uni_script.specs.Objects.{SpokenObject}
-use Rattle.run_replay.specs.Changes.{changes_place}
-use Rattle.run_replay.specs.Samples.{sample, sample_language}
+use Rattle.std.specs.Prelude.{◌≡◌, ℕ, ◌+◌, ◌-◌, ◌==◌, if◌then◌else◌, List, [], ◌∷◌, ◌++◌, length, map, max, replicate, drop, true, false, Option, Some, None, option_map, refl, Bool}
+use Rattle.run_replay.specs.Vocabulary.{Act, Anchor, Call, CallId, Entry, Event, Invoked, Language, Linearize, Pending, Reshape, Sequential, SpokenObject, Step, Trim, WorldOf, acts_of, kind_of, last_number, log, opened_world, option_map_or, option_or, response_of_step, seq_of, state_settled_at, text_of_words, world_after}
+use Rattle.run_replay.specs.declared.marks.EraEnd.TheVariants as era
+use Rattle.run_replay.specs.Held.{changes_place, sample, sample_language}
 use Rattle.run_replay.specs.declared.marks.StepMark.{StepMark}
 use Rattle.run_replay.specs.declared.marks.Dot.{Dot}
-use Rattle.run_replay.specs.declared.marks.EraEnd.TheVariants as era
 use Rattle.run_replay.specs.declared.marks.EraLine.{EraLine}
+use Rattle.run_replay.specs.declared.marks.BarEnd.{BarEnd}
+use Rattle.run_replay.specs.declared.marks.Bar.{Bar}
+use Rattle.run_replay.specs.declared.marks.CellBox.{CellBox}
+use Rattle.run_replay.specs.declared.marks.Era.{Era}
+use Rattle.run_replay.specs.declared.marks.Marks.{Marks}
 
 -- how a call ended: by which event, with which reply, after how many own steps and turns
 pub record End : Type 0 where
@@ -264,3 +250,87 @@ helped_eras = refl
 -- a run of two processes, and then of one, has two lanes
 two_lanes : lanes_of (eras_in spoken (λ s. s ∷ []) (opened_world 2 9 1) 0 0 (Reshape 1 ∷ [])) ≡ 2
 two_lanes = refl
+
+-- What the code's marks are in the definitions: texts and lists in place of vectors.
+
+abbrev pub end_shown : BarEnd → End
+end_shown e = record { event = e.event; reply = e.reply.items; steps = e.steps; turns = e.turns }
+
+abbrev pub bar_shown : Bar → Called
+bar_shown b = record { call = b.call; from = b.from; words = b.words.items; end = option_map end_shown b.end }
+
+abbrev pub cell_shown : CellBox → Cell
+cell_shown c = record {
+  number = c.number;
+  call = c.call;
+  words = c.words.items;
+  reply = option_map (λ text. text.items) c.reply;
+  state = option_map (λ text. text.items) c.state;
+}
+
+abbrev pub era_shown : Era → EraMarks
+era_shown e = record { from = e.from; last = e.last; processes = e.processes; anchor = e.anchor; cells = map cell_shown e.cells.items }
+
+abbrev pub marks_shown : Marks → RunMarks
+marks_shown m =
+    record {
+      object = m.object.items;
+      events = m.events;
+      steps = m.steps.items;
+      bars = map bar_shown m.bars.items;
+      dots = m.dots.items;
+      lines = m.lines.items;
+      eras = map era_shown m.eras.items;
+    }
+
+-- The marks of a run, one event after the other.
+
+-- a bar after a step of a process that ends its call so: an open bar of that process ends
+abbrev pub bar_ended : (p : ℕ) → End → Called → Called
+bar_ended p end b = record b { end = option_or b.end (if p == b.call.process then Some end else None) }
+
+-- the dot of a step that proposed the cell of a call, if it did, and changed its place or not
+abbrev pub dot_linked : (place p : ℕ) → (proposed : Option CallId) → (changed : Bool) → List Dot
+dot_linked place p (Some call) true = record { event = place; call = call; by = p } ∷ []
+dot_linked place p _ _ = []
+
+-- how many events came before the present era, after one event more
+abbrev pub from_with : {I : Type 0} → (from place : ℕ) → Event I → ℕ
+from_with from place Trim = place + 1
+from_with from place (Reshape n) = place + 1
+from_with from place _ = from
+
+-- the marks so far, and those of an event at this place, which comes to this world; the present era began after so many events
+abbrev pub marks_with : {S I R : Type 0} → SpokenObject S I R → (S → List ℕ) → RunMarks → WorldOf S I R → (from place : ℕ)
+    → Event I → RunMarks
+marks_with o text m w from place (Call p i) = record m { bars = m.bars ++ bar_begun o w place p i ∷ [] }
+marks_with o text m w from place (Step p) =
+    record m {
+      steps = m.steps ++ steps_by o.object w place (Step p);
+      bars = option_map_or (λ end. map (bar_ended p end) m.bars) (end_of_step o w place p) m.bars;
+      dots = m.dots ++ dots_by o.object w place (Step p);
+    }
+marks_with o text m w from place Trim =
+    record m { lines = m.lines ++ lines_by w place Trim; eras = m.eras ++ era_of o text w from (Some place) ∷ [] }
+marks_with o text m w from place (Reshape n) =
+    record m { lines = m.lines ++ lines_by w place (Reshape n); eras = m.eras ++ era_of o text w from (Some place) ∷ [] }
+
+-- an open bar of process 0
+abbrev open_bar : Called
+open_bar = record { call = record { process = 0; nth = 0 }; from = 3; words = []; end = None }
+
+abbrev sample_end : End
+sample_end = record { event = 17; reply = 5 ∷ []; steps = 14; turns = 1 }
+
+open_bar_ends : (bar_ended 0 sample_end open_bar).end ≡ Some sample_end
+open_bar_ends = refl
+
+bar_of_another_stays : bar_ended 1 sample_end open_bar ≡ open_bar
+bar_of_another_stays = refl
+
+-- a proposal that won has a dot, and one that lost has none
+won_has_a_dot : dot_linked 5 1 (Some (record { process = 0; nth = 2 })) true ≡ record { event = 5; call = record { process = 0; nth = 2 }; by = 1 } ∷ []
+won_has_a_dot = refl
+
+lost_has_no_dot : dot_linked 5 1 (Some (record { process = 0; nth = 2 })) false ≡ []
+lost_has_no_dot = refl

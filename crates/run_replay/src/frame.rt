@@ -2,7 +2,7 @@
 
 ghost use Rattle.std.specs.Prelude.{◌≡◌, ◌++◌, IfOk, OnOk, map};
 ghost use Rattle.run_replay.specs.Held.{change_of, changes_between};
-ghost use Rattle.run_replay.specs.ScenesShown.{change_shown, field_shown, held_shown};
+ghost use Rattle.run_replay.specs.Scenes.{change_shown, field_shown, held_shown};
 
 use seq_object::CallId;
 use std::alloc::{AllocError, Global};
@@ -117,8 +117,6 @@ pub struct Start {
 }
 
 /// Adds the change of a field, if there is one.
-///
-/// An `Err` says that memory was refused.
 fn push_change(
     alloc: Global,
     before: &Field,
@@ -139,9 +137,8 @@ fn push_change(
     Ok(())
 }
 
-/// The fields of a place that have changed, from what it held before to what it holds afterwards.
-///
-/// An `Err` says that memory was refused.
+/// The fields of a place that have changed, from what it held before to what it holds afterwards. An `Err` says that
+/// memory was refused.
 pub fn changes_of(alloc: Global, before: &Held, after: &Held) -> Result<Vec<Change>, AllocError>
     ensures { IfOk result (λ changes. map change_shown changes.items ≡
         changes_between (held_shown before.now) (held_shown after.now)) }

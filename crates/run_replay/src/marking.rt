@@ -1,23 +1,16 @@
 //! The marks of a run, by the replay of its events.
 
-ghost use Rattle.std.specs.Prelude.{◌≡◌, ℕ, ◌<◌, ◌++◌, ◌∷◌, [], ◌^◌, IfOk, OnOk};
-ghost use Rattle.std.specs.Prelude.{IsSome, map, option_map};
-ghost use Rattle.std.specs.Option.{option_copied, option_map_or};
-ghost use Rattle.cell_arena.specs.Arena.{cell_of};
-ghost use Rattle.uni_model.specs.Worlds.{opened_world, world_after};
-ghost use Rattle.uni_model.specs.Worlds.Event.{Call, Step};
-ghost use Rattle.uni_core.specs.Readers.{place_named, IsPlaceIn};
-ghost use Rattle.uni_core.specs.World.{name_in, world_of};
-ghost use Rattle.uni_log.specs.Entry.{entry_shown};
-ghost use Rattle.uni_record.specs.Event.{event_lent, event_shown, events_shown};
-ghost use Rattle.run_replay.specs.Marks.{marks_of_run, bar_begun, box_of, era_of};
-ghost use Rattle.run_replay.specs.MarksShown.{bar_shown, cell_shown, end_shown, era_shown, marks_shown};
-ghost use Rattle.run_replay.specs.Marking.{marks_with, from_with, bar_ended, dot_linked};
-ghost use Rattle.run_replay.specs.Changes.{has_changed, presence, standing_at};
+ghost use Rattle.std.specs.Prelude.{◌≡◌, ℕ, ◌<◌, ◌++◌, ◌∷◌, [], ◌^◌, IfOk, OnOk, IsSome, map};
+ghost use Rattle.std.specs.Prelude.{option_map};
+ghost use Rattle.run_replay.specs.Vocabulary.{Call, IsPlaceIn, Step, cell_of, entry_shown, event_lent, event_shown};
+ghost use Rattle.run_replay.specs.Vocabulary.{events_shown, name_in, opened_world, option_copied, option_map_or};
+ghost use Rattle.run_replay.specs.Vocabulary.{place_named, spoken, world_after, world_of};
+ghost use Rattle.run_replay.specs.Marks.{marks_of_run, box_of, era_of, bar_shown, cell_shown, end_shown, era_shown};
+ghost use Rattle.run_replay.specs.Marks.{marks_shown, marks_with, from_with, bar_ended, dot_linked};
+ghost use Rattle.run_replay.specs.Held.{has_changed, presence, standing_at};
 
 use crate::marks::{Bar, BarEnd, CellBox, Dot, Era, EraEnd, EraLine, Marks, StepMark};
-use crate::opening::reopened;
-use crate::scenes::{Coming, coming_step, end_era, take_step};
+use crate::scenes::{Coming, coming_step, end_era, reopened, take_step};
 use cell_arena::CellId;
 use ready_objects::Spoken;
 use std::alloc::{AllocError, Global};
@@ -25,11 +18,9 @@ use uni_core::{Place, Progress, StepKind, World};
 use uni_log::{Entry, Log};
 use uni_record::{Event, Recorded};
 
-/// The marks of the run that a record has stored, on an object of this name; `object` is a further
-/// value of that object. They are found by a replay of the events.
-///
-/// An `Err` says that memory was refused. It would come too where the replay refused an event, as it
-/// never does with the object of the record; that isn't proved.
+/// The marks of the run that a record has stored, on an object of this name; `object` is a further value of that
+/// object. They are found by a replay of the events. An `Err` says that memory was refused. It would come too where the
+/// replay refused an event, as it never does with the object of the record; that isn't proved.
 pub fn marks_of<O: Spoken>(
     alloc: Global,
     name: &str,
@@ -37,14 +28,13 @@ pub fn marks_of<O: Spoken>(
     run: &Recorded<O>,
 ) -> Result<Marks, AllocError>
     ensures marks { IfOk result (λ marks. marks_shown marks
-        ≡ marks_of_run (record { object = O.sequential object; language = O.language }) O.state_text name.now
+        ≡ marks_of_run (spoken O.sequential O.language object) O.state_text name.now
         (opened_world run.now.processes (O.sequential object).initial run.now.first) (events_shown run.now.events)) }
 {
     run.promise();
     let mut replay = reopened(alloc, object, run)?;
-    let object = name.as_bytes().to_vec(alloc)?;
     let mut marks = Marks {
-        object,
+        object: name.as_bytes().to_vec(alloc)?,
         events: run.events().len() as u64,
         steps: Vec::new(alloc),
         bars: Vec::new(alloc),
@@ -62,10 +52,8 @@ pub fn marks_of<O: Spoken>(
     Ok(marks)
 }
 
-/// Takes an event in a replay, and adds its marks; the answer is how many events came before the
-/// present era.
-///
-/// An `Err` says that memory was refused, or the event.
+/// Takes an event in a replay, and adds its marks; the answer is how many events came before the present era. An `Err`
+/// says that memory was refused, or the event.
 fn replay_event<O: Spoken>(
     alloc: Global,
     event: Event<&O::Inv>,
@@ -79,13 +67,21 @@ fn replay_event<O: Spoken>(
     ensures from { IfOk result (λ next. next ≡ from_with from place (event_shown (event_lent event.entry))) }
     ensures world { OnOk result (world_of replay.new
         ≡ world_after (O.sequential replay.old.object) (world_of replay.old) (event_shown (event_lent event.entry))) }
-    ensures marks { OnOk result (marks_shown marks.new
-        ≡ marks_with (record { object = O.sequential replay.old.object; language = O.language }) O.state_text
-        (marks_shown marks.old) (world_of replay.old) from place (event_shown (event_lent event.entry))) }
+    ensures marks { OnOk result (marks_shown marks.new ≡ marks_with (spoken O.sequential O.language replay.old.object)
+        O.state_text (marks_shown marks.old) (world_of replay.old) from place (event_shown (event_lent event.entry))) }
 {
     match event {
         Event::Call(process, inv) => {
-            replay_call(alloc, process, inv, place, replay, &mut marks.bars)?;
+            let words = O::inv_text(alloc, inv)?;
+            let Ok(call) = replay.begin(alloc, process, inv) else {
+                return Err(AllocError);
+            };
+            marks.bars.push(Bar {
+                call,
+                from: place,
+                words,
+                end: None,
+            })?;
             Ok(from)
         }
         Event::Step(process) => {
@@ -111,55 +107,11 @@ fn replay_event<O: Spoken>(
     }
 }
 
-/// A process begins a call in a replay: its bar begins.
-///
-/// An `Err` says that memory was refused, or the call.
-fn replay_call<O: Spoken>(
-    alloc: Global,
-    process: u64,
-    inv: &O::Inv,
-    place: u64,
-    replay: &mut World<O>,
-    bars: &mut Vec<Bar>,
-) -> Result<(), AllocError>
-    ensures object { replay.new.object ≡ replay.old.object }
-    ensures world { OnOk result (world_of replay.new
-        ≡ world_after (O.sequential replay.old.object) (world_of replay.old) (Call process inv.now)) }
-    ensures bars { OnOk result (map bar_shown bars.new.items
-        ≡ map bar_shown bars.old.items ++ bar_begun
-        (record { object = O.sequential replay.old.object; language = O.language })
-        (world_of replay.old) place process inv.now ∷ []) }
+/// 1 where something is there.
+fn presence<T: Copy>(found: Option<T>) -> u64
+    ensures { result ≡ presence found }
 {
-    let words = O::inv_text(alloc, inv)?;
-    let Ok(call) = replay.begin(alloc, process, inv) else {
-        return Err(AllocError);
-    };
-    let from = place;
-    let end = None;
-    bars.push(Bar {
-        call,
-        from,
-        words,
-        end,
-    })?;
-    Ok(())
-}
-
-/// 1 where a cell is linked.
-fn linked(link: Option<CellId>) -> u64
-    ensures { result ≡ presence link }
-{
-    match link {
-        Some(_) => 1,
-        None => 0,
-    }
-}
-
-/// 1 where a state is settled.
-fn settled<O: Spoken>(new: Option<&(O::State, Option<O::Resp>)>) -> u64
-    ensures { result ≡ presence (option_copied new.entry) }
-{
-    match new {
+    match found {
         Some(_) => 1,
         None => 0,
     }
@@ -175,9 +127,9 @@ fn standing_at<O: Spoken>(world: &World<O>, place: Place) -> u64
         Place::Announced(_) => 0,
         Place::HeadOf(process) => world.head_seq(process),
         Place::SeqOf(cell) => world.seq(cell),
-        Place::AfterOf(cell) => linked(world.after(cell)),
-        Place::NewOf(cell) => settled::<O>(world.new_of(cell)),
-        Place::BeforeOf(cell) => linked(world.before(cell)),
+        Place::AfterOf(cell) => presence(world.after(cell)),
+        Place::NewOf(cell) => presence(world.new_of(cell)),
+        Place::BeforeOf(cell) => presence(world.before(cell)),
     }
 }
 
@@ -191,10 +143,8 @@ fn has_changed(kind: StepKind, before: u64, after: u64) -> bool
     }
 }
 
-/// A process takes a step in a replay: it is marked, with a dot where a cell was linked, and the bar
-/// of its call ends where the call returns.
-///
-/// An `Err` says that memory was refused, or the step.
+/// A process takes a step in a replay: it is marked, with a dot where a cell was linked, and the bar of its call ends
+/// where the call returns. An `Err` says that memory was refused, or the step.
 fn replay_step<O: Spoken>(
     alloc: Global,
     process: u64,
@@ -205,10 +155,8 @@ fn replay_step<O: Spoken>(
     ensures object { replay.new.object ≡ replay.old.object }
     ensures world { OnOk result (world_of replay.new
         ≡ world_after (O.sequential replay.old.object) (world_of replay.old) (Step process)) }
-    ensures marks { OnOk result ((from : ℕ)
-        → marks_shown marks.new ≡ marks_with
-        (record { object = O.sequential replay.old.object; language = O.language }) O.state_text
-        (marks_shown marks.old) (world_of replay.old) from place (Step process)) }
+    ensures marks { OnOk result ((from : ℕ) → marks_shown marks.new ≡ marks_with (spoken O.sequential O.language
+        replay.old.object) O.state_text (marks_shown marks.old) (world_of replay.old) from place (Step process)) }
 {
     let Some(coming) = coming_step(replay, process) else {
         return Err(AllocError);
@@ -241,28 +189,22 @@ fn replay_step<O: Spoken>(
 }
 
 /// Adds the dot of a step that a process has taken, where it changed its place by the cell of a call that it proposed.
-///
-/// An `Err` says that memory was refused.
 fn push_dot(
     taken: Coming,
     changed: bool,
-    place: u64,
-    process: u64,
+    event: u64,
+    by: u64,
     dots: &mut Vec<Dot>,
 ) -> Result<(), AllocError>
-    ensures { OnOk result (dots.new.items ≡ dots.old.items ++ dot_linked place process taken.proposed changed) }
+    ensures { OnOk result (dots.new.items ≡ dots.old.items ++ dot_linked event by taken.proposed changed) }
 {
     if let (Some(call), true) = (taken.proposed, changed) {
-        let event = place;
-        let by = process;
         dots.push(Dot { event, call, by })?;
     }
     Ok(())
 }
 
 /// Ends the bars of a process that haven't ended so, if its call has.
-///
-/// An `Err` says that memory was refused.
 fn end_bars(
     alloc: Global,
     process: u64,
@@ -283,8 +225,6 @@ fn end_bars(
 }
 
 /// Ends a bar so, if it is one of the process and hasn't ended.
-///
-/// An `Err` says that memory was refused.
 fn end_bar(alloc: Global, process: u64, end: &BarEnd, bar: &mut Bar) -> Result<(), AllocError>
     ensures { OnOk result (bar_shown bar.new ≡ bar_ended process (end_shown end.now) (bar_shown bar.old)) }
 {
@@ -300,8 +240,6 @@ fn end_bar(alloc: Global, process: u64, end: &BarEnd, bar: &mut Bar) -> Result<(
 }
 
 /// Adds the era of a world, which began after so many events and ends with an event, if it does, with its cells.
-///
-/// An `Err` says that memory was refused.
 fn push_era<O: Spoken>(
     alloc: Global,
     world: &World<O>,
@@ -309,13 +247,10 @@ fn push_era<O: Spoken>(
     last: Option<u64>,
     eras: &mut Vec<Era>,
 ) -> Result<(), AllocError>
-    ensures { OnOk result (map era_shown eras.new.items
-        ≡ map era_shown eras.old.items ++ era_of
-        (record { object = O.sequential world.now.object; language = O.language }) O.state_text
-        (world_of world.now) from last ∷ []) }
+    ensures { OnOk result (map era_shown eras.new.items ≡ map era_shown eras.old.items ++ era_of (spoken O.sequential
+        O.language world.now.object) O.state_text (world_of world.now) from last ∷ []) }
 {
     world.shape();
-    let anchor = world.seq(CellId::anchor());
     let log = Log::of(world);
     let entries = log.entries(alloc)?;
     let mut cells = Vec::new(alloc);
@@ -323,20 +258,17 @@ fn push_era<O: Spoken>(
         let state = state_text::<O>(alloc, log.state_at(place as u64 + 1))?;
         cells.push(cell_of::<O>(alloc, entry, state)?)?;
     }
-    let processes = world.processes();
     eras.push(Era {
         from,
         last,
-        processes,
-        anchor,
+        processes: world.processes(),
+        anchor: world.seq(CellId::anchor()),
         cells,
     })?;
     Ok(())
 }
 
 /// The text of a state, where one is settled.
-///
-/// An `Err` says that memory was refused.
 fn state_text<O: Spoken>(
     alloc: Global,
     settled: Option<&O::State>,
@@ -353,8 +285,6 @@ fn state_text<O: Spoken>(
 }
 
 /// The box of an entry of the log, with the text of the state after it, where that is settled.
-///
-/// An `Err` says that memory was refused.
 fn cell_of<O: Spoken>(
     alloc: Global,
     entry: &Entry<O::Inv, O::Resp>,
@@ -363,7 +293,6 @@ fn cell_of<O: Spoken>(
     ensures { IfOk result (λ cell. cell_shown cell
         ≡ box_of O.language (option_map (λ text. text.items) state) (entry_shown entry.now)) }
 {
-    let words = O::inv_text(alloc, &entry.inv)?;
     let reply = match entry.reply {
         Some(response) => Some(O::resp_text(alloc, response)?),
         None => None,
@@ -371,7 +300,7 @@ fn cell_of<O: Spoken>(
     Ok(CellBox {
         number: entry.seq,
         call: entry.call,
-        words,
+        words: O::inv_text(alloc, &entry.inv)?,
         reply,
         state,
     })

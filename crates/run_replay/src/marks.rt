@@ -1,9 +1,8 @@
 //! The marks of a run: what is drawn of its events, as plain data.
 
 ghost use Rattle.std.specs.Prelude.{◌≡◌, ◌-◌};
-ghost use Rattle.std.specs.Option.{option_map_or};
-ghost use Rattle.run_replay.specs.Marks.{lanes_of};
-ghost use Rattle.run_replay.specs.MarksShown.{marks_shown};
+ghost use Rattle.run_replay.specs.Vocabulary.{option_map_or};
+ghost use Rattle.run_replay.specs.Marks.{lanes_of, marks_shown};
 
 use seq_object::CallId;
 use uni_core::StepKind;
@@ -145,8 +144,8 @@ impl Marks {
 }
 
 impl Bar {
-    /// The place of the last event that the bar of a call covers, in a run of so many events: that
-    /// of its end, or else the run's last one. It is 0 in a run of none, which has no bars.
+    /// The place of the last event that the bar of a call covers, in a run of so many events: that of its end, or else
+    /// the run's last one. It is 0 in a run of none, which has no bars.
     pub fn last(&self, events: u64) -> u64
         ensures { result ≡ option_map_or (λ end. end.event) self.now.end (events - 1) }
     {

@@ -1,14 +1,10 @@
 //! What the places of a world hold, as text.
 
 ghost use Rattle.std.specs.Prelude.{◌≡◌, IfOk, IfSome, IsSome, option_map};
-ghost use Rattle.std.specs.Option.{option_copied};
-ghost use Rattle.cell_arena.specs.Arena.{cell_of};
-ghost use Rattle.uni_model.specs.Places.Place.{NewOf};
-ghost use Rattle.uni_core.specs.Readers.{place_named, IsPlaceIn};
-ghost use Rattle.uni_core.specs.World.{name_in, world_of};
+ghost use Rattle.run_replay.specs.Vocabulary.{IsPlaceIn, NewOf, cell_of, name_in, option_copied, place_named, world_of};
 ghost use Rattle.run_replay.specs.Held.{alone, cell_text, entry_name, field_name, held, link_text, reply_text};
 ghost use Rattle.run_replay.specs.Held.{state_text};
-ghost use Rattle.run_replay.specs.ScenesShown.{held_shown};
+ghost use Rattle.run_replay.specs.Scenes.{held_shown};
 
 use crate::frame::{Field, Held};
 use cell_arena::CellId;
@@ -17,9 +13,8 @@ use seq_object::{CallId, SeqObject};
 use std::alloc::{AllocError, Global};
 use uni_core::{Place, World};
 
-/// The text of a cell's name: that of the call that it was made for, or `anchor`.
-///
-/// An `Err` says that memory was refused.
+/// The text of a cell's name: that of the call that it was made for, or `anchor`. An `Err` says that memory was
+/// refused.
 pub fn cell_text(alloc: Global, call: Option<CallId>) -> Result<Vec<u8>, AllocError>
     ensures { IfOk result (λ text. text.items ≡ cell_text call) }
 {
@@ -29,9 +24,7 @@ pub fn cell_text(alloc: Global, call: Option<CallId>) -> Result<Vec<u8>, AllocEr
     }
 }
 
-/// The name of a field of a cell, as `1.0.seq`.
-///
-/// An `Err` says that memory was refused.
+/// The name of a field of a cell, as `1.0.seq`. An `Err` says that memory was refused.
 pub fn field_name(alloc: Global, cell: Option<CallId>, field: &str) -> Result<Vec<u8>, AllocError>
     ensures { IfOk result (λ text. text.items ≡ field_name cell field.now) }
 {
@@ -39,15 +32,6 @@ pub fn field_name(alloc: Global, cell: Option<CallId>, field: &str) -> Result<Ve
     text.push(b'.')?;
     text.extend_from_slice(field.as_bytes())?;
     Ok(text)
-}
-
-/// The name of an entry of an array, as `head[0]`.
-///
-/// An `Err` says that memory was refused.
-fn entry_name(alloc: Global, array: &str, process: u64) -> Result<Vec<u8>, AllocError>
-    ensures { IfOk result (λ text. text.items ≡ entry_name array.now process) }
-{
-    Ok(format!(in alloc; "{array}[{process}]")?.into_bytes())
 }
 
 /// A field without another beside it.
@@ -61,8 +45,6 @@ pub(crate) fn alone(name: Vec<u8>, text: Vec<u8>) -> Held
 }
 
 /// The text of a link to a cell, or `?` where there is none.
-///
-/// An `Err` says that memory was refused.
 fn link_text<O: SeqObject>(
     alloc: Global,
     world: &World<O>,
@@ -78,8 +60,6 @@ fn link_text<O: SeqObject>(
 }
 
 /// The text of a state that may be settled.
-///
-/// An `Err` says that memory was refused.
 fn state_text<O: Spoken>(
     alloc: Global,
     new: Option<&(O::State, Option<O::Resp>)>,
@@ -95,8 +75,6 @@ fn state_text<O: Spoken>(
 }
 
 /// The text of a response that may be settled.
-///
-/// An `Err` says that memory was refused.
 fn reply_text<O: Spoken>(
     alloc: Global,
     new: Option<&(O::State, Option<O::Resp>)>,
@@ -110,9 +88,7 @@ fn reply_text<O: Spoken>(
     }
 }
 
-/// An entry of an array, which names a cell.
-///
-/// An `Err` says that memory was refused.
+/// An entry of an array, as `head[0]`, which names a cell.
 fn entry_held(
     alloc: Global,
     array: &str,
@@ -121,13 +97,11 @@ fn entry_held(
 ) -> Result<Held, AllocError>
     ensures { IfOk result (λ found. held_shown found ≡ alone (entry_name array.now process) (cell_text cell)) }
 {
-    let text = cell_text(alloc, cell)?;
-    Ok(alone(entry_name(alloc, array, process)?, text))
+    let name = format!(in alloc; "{array}[{process}]")?.into_bytes();
+    Ok(alone(name, cell_text(alloc, cell)?))
 }
 
 /// A field of a cell, which holds this text.
-///
-/// An `Err` says that memory was refused.
 pub(crate) fn field_held(
     alloc: Global,
     cell: Option<CallId>,
@@ -140,8 +114,6 @@ pub(crate) fn field_held(
 }
 
 /// The state and the response that are settled in a cell.
-///
-/// An `Err` says that memory was refused.
 pub(crate) fn settled_fields<O: Spoken>(
     alloc: Global,
     world: &World<O>,
@@ -167,8 +139,6 @@ pub(crate) fn settled_fields<O: Spoken>(
 }
 
 /// What a place of a world holds.
-///
-/// An `Err` says that memory was refused.
 pub(crate) fn read_place<O: Spoken>(
     alloc: Global,
     world: &World<O>,

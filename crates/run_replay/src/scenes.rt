@@ -1,25 +1,16 @@
 //! The scenes of a run, by the replay of its events.
 
-ghost use Rattle.std.specs.Prelude.{◌≡◌, ◌∷◌, [], ℕ, None, Some, IfOk, IfNone, IfSome, IsSome, OnOk, drop};
-ghost use Rattle.std.specs.Prelude.{length, option_map, take};
-ghost use Rattle.std.specs.Option.{option_map_or};
-ghost use Rattle.cell_arena.specs.Arena.{cell_of};
-ghost use Rattle.uni_model.specs.Worlds.{opened_world, world_after, world_after_all};
+ghost use Rattle.std.specs.Prelude.{◌≡◌, ◌∷◌, [], ℕ, None, Some, IfOk, IfNone, IfSome, IsSome, OnOk};
+ghost use Rattle.std.specs.Prelude.{drop, length, option_map, take};
+ghost use Rattle.run_replay.specs.Vocabulary.{IsPlaceIn, IsProgress, cell_of, event_lent, event_shown, events_shown};
+ghost use Rattle.run_replay.specs.Vocabulary.{last_number, name_in, opened_world, option_map_or, place_named};
+ghost use Rattle.run_replay.specs.Vocabulary.{world_after, world_after_all, world_of};
 ghost use Rattle.uni_model.specs.Worlds.{Event as model};
-ghost use Rattle.uni_core.specs.Readers.{place_named, IsPlaceIn};
-ghost use Rattle.uni_core.specs.World.{name_in, world_of, IsProgress};
-ghost use Rattle.uni_core.specs.Ends.{last_number};
-ghost use Rattle.uni_record.specs.Event.{event_lent, event_shown, events_shown};
-ghost use Rattle.run_replay.specs.Changes.{IsComing};
-ghost use Rattle.run_replay.specs.Frames.{begun, ended, frame_of, stepped};
-ghost use Rattle.run_replay.specs.Held.{held};
-ghost use Rattle.run_replay.specs.Proposal.{proposal_told};
-ghost use Rattle.run_replay.specs.Scenes.{excerpt_of, start_of};
-ghost use Rattle.run_replay.specs.ScenesShown.{begun_shown, end_shown, frame_shown, held_shown};
-ghost use Rattle.run_replay.specs.ScenesShown.{scene_shown, start_shown, step_shown};
+ghost use Rattle.run_replay.specs.Held.{IsComing, held, proposal_told};
+ghost use Rattle.run_replay.specs.Scenes.{begun, ended, frame_of, stepped, excerpt_of, start_of, begun_shown};
+ghost use Rattle.run_replay.specs.Scenes.{end_shown, frame_shown, held_shown, scene_shown, start_shown, step_shown};
 
 use crate::frame::{Begun, EndedEra, Frame, Held, Scene, Start, Step};
-use crate::opening::reopened;
 use crate::places::{alone, cell_text, field_held, read_place, settled_fields};
 use crate::whole::whole_memory;
 use cell_arena::{CellId, Cells};
@@ -53,11 +44,11 @@ impl<'a, O: Spoken> Model for Scenes<'a, O> {
 }
 
 impl<'a, O: Spoken> Scenes<'a, O> {
-    /// Takes the next event; the answer is its scene, or `None` where there is no further one.
-    ///
-    /// An `Err` says that memory was refused, or the event.
+    /// Takes the next event; the answer is its scene, or `None` where there is no further one. An `Err` says that
+    /// memory was refused, or the event.
     pub fn next_scene(&mut self, alloc: Global) -> Result<Option<Scene>, AllocError>
-        ensures next { IfOk result (λ next. IfSome next (λ scene. self.old ≡ Some (scene_shown scene) ∷ self.new)) }
+        ensures next { IfOk result (λ next.
+            IfSome next (λ scene. self.old ≡ Some (scene_shown scene) ∷ self.new)) }
         ensures end { IfOk result (λ next. IfNone next (self.old ≡ [])) }
     {
         if self.left == 0 {
@@ -79,10 +70,9 @@ impl<'a, O: Spoken> Scenes<'a, O> {
 
 /// What some events of the run did that a record has stored: of those from number `from` on, which counts from 0, at
 /// most so many; `object` is a further value of the record's object. The answer is where they begin, and the scenes of
-/// these events, which tell the whole memory only where that is asked for.
-///
-/// An `Err` says that memory was refused. It would come too where the replay refused an event, here or at a scene, as
-/// it never does with the object of the record; that isn't proved.
+/// these events, which tell the whole memory only where that is asked for. An `Err` says that memory was refused. It
+/// would come too where the replay refused an event, here or at a scene, as it never does with the object of the
+/// record; that isn't proved.
 pub fn excerpt_of<O: Spoken>(
     alloc: Global,
     object: O,
@@ -91,10 +81,9 @@ pub fn excerpt_of<O: Spoken>(
     most: u64,
     is_whole: bool,
 ) -> Result<(Option<Start>, Scenes<'_, O>), AllocError>
-    ensures { IfOk result (λ part.
-        excerpt_of (O.sequential object) O.language O.state_text is_whole from most
-        (opened_world run.now.processes (O.sequential object).initial run.now.first) (events_shown run.now.events)
-        ≡ record { start = option_map start_shown part.0; scenes = part.1 }) }
+    ensures { IfOk result (λ part. excerpt_of (O.sequential object) O.language O.state_text is_whole from most
+        (opened_world run.now.processes (O.sequential object).initial run.now.first) (events_shown run.now.events) ≡
+        record { start = option_map start_shown part.0; scenes = part.1 }) }
 {
     let mut replay = reopened(alloc, object, run)?;
     let mut events = run.events();
@@ -109,9 +98,26 @@ pub fn excerpt_of<O: Spoken>(
     Ok((start, scenes))
 }
 
-/// Takes so many of the events that come in a replay, or all where there are fewer; the answer is how many.
-///
-/// An `Err` says that memory was refused, or an event.
+/// The world in which a record opened, over this object. An `Err` says that it couldn't be opened.
+pub(crate) fn reopened<O: Spoken>(
+    alloc: Global,
+    object: O,
+    run: &Recorded<O>,
+) -> Result<World<O>, AllocError>
+    ensures object { IfOk result (λ replay. replay.object ≡ object) }
+    ensures world { IfOk result (λ replay. world_of replay
+        ≡ opened_world run.now.processes (O.sequential object).initial run.now.first) }
+{
+    run.promise();
+    let row = run.world().row();
+    match World::open_from(alloc, object, run.processes(), row, run.first()) {
+        Ok(replay) => Ok(replay),
+        Err(_) => Err(AllocError),
+    }
+}
+
+/// Takes so many of the events that come in a replay, or all where there are fewer; the answer is how many. An `Err`
+/// says that memory was refused, or an event.
 fn pass<O: Spoken>(
     alloc: Global,
     count: u64,
@@ -135,9 +141,7 @@ fn pass<O: Spoken>(
     Ok(count - left)
 }
 
-/// Takes an event in a replay.
-///
-/// An `Err` says that memory was refused, or the event.
+/// Takes an event in a replay. An `Err` says that memory was refused, or the event.
 fn take_event<O: Spoken>(
     alloc: Global,
     event: Event<&O::Inv>,
@@ -167,8 +171,6 @@ fn take_event<O: Spoken>(
 }
 
 /// Where the scenes of a replay begin that has taken so many events; `None` where it has taken none.
-///
-/// An `Err` says that memory was refused.
 fn start_of<O: Spoken>(
     alloc: Global,
     events: u64,
@@ -180,17 +182,14 @@ fn start_of<O: Spoken>(
     if events == 0 {
         return Ok(None);
     }
-    let memory = whole_memory(alloc, replay)?;
     Ok(Some(Start {
         events,
         processes: replay.processes(),
-        memory,
+        memory: whole_memory(alloc, replay)?,
     }))
 }
 
-/// Takes an event in a replay; the answer is its frame.
-///
-/// An `Err` says that memory was refused, or the event.
+/// Takes an event in a replay; the answer is its frame. An `Err` says that memory was refused, or the event.
 fn frame_of<O: Spoken>(
     alloc: Global,
     event: Event<&O::Inv>,
@@ -199,25 +198,19 @@ fn frame_of<O: Spoken>(
     ensures object { replay.new.object ≡ replay.old.object }
     ensures world { OnOk result (world_of replay.new ≡
         world_after (O.sequential replay.old.object) (world_of replay.old) (event_shown (event_lent event.entry))) }
-    ensures frame { IfOk result (λ frame. Some (frame_shown frame) ≡
-        frame_of (O.sequential replay.old.object) O.language O.state_text (world_of replay.old)
-        (event_shown (event_lent event.entry))) }
+    ensures frame { IfOk result (λ frame. Some (frame_shown frame) ≡ frame_of (O.sequential replay.old.object)
+        O.language O.state_text (world_of replay.old) (event_shown (event_lent event.entry))) }
 {
     match event {
         Event::Call(process, inv) => Ok(Frame::Call(begun_of(alloc, process, inv, replay)?)),
-        Event::Step(process) => {
-            let step = step_of(alloc, process, replay)?;
-            Ok(Frame::Step(step))
-        }
+        Event::Step(process) => Ok(Frame::Step(step_of(alloc, process, replay)?)),
         Event::Trim => Ok(Frame::End(ended_of(alloc, None, replay)?)),
         Event::Reshape(processes) => Ok(Frame::End(ended_of(alloc, Some(processes), replay)?)),
     }
 }
 
 /// Ends the era in a replay, by a reshape to so many processes or else by a trim; the answer is the number of the new
-/// anchor.
-///
-/// An `Err` says that memory was refused, or the event.
+/// anchor. An `Err` says that memory was refused, or the event.
 pub(crate) fn end_era<O: Spoken>(
     alloc: Global,
     reshaped: Option<u64>,
@@ -234,9 +227,7 @@ pub(crate) fn end_era<O: Spoken>(
     }
 }
 
-/// The same; the answer is what the end left.
-///
-/// An `Err` says that memory was refused, or the event.
+/// The same; the answer is what the end left. An `Err` says that memory was refused, or the event.
 fn ended_of<O: Spoken>(
     alloc: Global,
     reshaped: Option<u64>,
@@ -250,17 +241,15 @@ fn ended_of<O: Spoken>(
 {
     let number = end_era(alloc, reshaped, replay)?;
     replay.shape();
-    let anchor = settled_fields(alloc, replay, CellId::anchor())?;
     Ok(EndedEra {
         reshaped,
         number,
-        anchor,
+        anchor: settled_fields(alloc, replay, CellId::anchor())?,
     })
 }
 
-/// A process begins a call in a replay; the answer is what that did.
-///
-/// An `Err` says that memory was refused, or the call.
+/// A process begins a call in a replay; the answer is what that did. An `Err` says that memory was refused, or the
+/// call.
 pub fn begun_of<O: Spoken>(
     alloc: Global,
     process: u64,
@@ -291,8 +280,6 @@ pub fn begun_of<O: Spoken>(
 }
 
 /// What a step of this kind that was taken proposed for its place, by the call whose cell it proposed.
-///
-/// An `Err` says that memory was refused.
 fn proposed_of<O: Spoken>(
     alloc: Global,
     kind: StepKind,
@@ -301,8 +288,8 @@ fn proposed_of<O: Spoken>(
     replay: &World<O>,
 ) -> Result<Option<Held>, AllocError>
     requires { IsPlaceIn (world_of replay.now).n (λ cell. IsSome (cell_of replay.now.shared.cells cell)) place }
-    ensures { IfOk result (λ proposed. option_map held_shown proposed ≡ proposal_told kind offered
-        (held O.language O.state_text (world_of replay.now).memory (place_named (name_in (world_of replay.now)) place))) }
+    ensures { IfOk result (λ proposed. option_map held_shown proposed ≡ proposal_told kind offered (held O.language
+        O.state_text (world_of replay.now).memory (place_named (name_in (world_of replay.now)) place))) }
 {
     match kind {
         StepKind::DecideAfter => {
@@ -352,9 +339,8 @@ pub(crate) fn coming_step<O: Spoken>(world: &World<O>, process: u64) -> Option<C
     })
 }
 
-/// A process takes a step in a replay; the answer is that of the step. The cells stay.
-///
-/// An `Err` says that memory was refused, or the step.
+/// A process takes a step in a replay; the answer is that of the step. The cells stay. An `Err` says that memory was
+/// refused, or the step.
 pub(crate) fn take_step<O: Spoken>(
     alloc: Global,
     process: u64,
@@ -377,9 +363,7 @@ pub(crate) fn take_step<O: Spoken>(
     Ok(progress)
 }
 
-/// A process takes a step in a replay; the answer is what it did.
-///
-/// An `Err` says that memory was refused, or the step.
+/// A process takes a step in a replay; the answer is what it did. An `Err` says that memory was refused, or the step.
 pub fn step_of<O: Spoken>(
     alloc: Global,
     process: u64,
@@ -388,9 +372,8 @@ pub fn step_of<O: Spoken>(
     ensures object { replay.new.object ≡ replay.old.object }
     ensures world { OnOk result (world_of replay.new ≡
         world_after (O.sequential replay.old.object) (world_of replay.old) (model.Step process)) }
-    ensures step { IfOk result (λ step. Some (step_shown step) ≡
-        option_map (stepped (O.sequential replay.old.object) O.language O.state_text (world_of replay.old) process)
-        ((world_of replay.old).call process)) }
+    ensures step { IfOk result (λ step. Some (step_shown step) ≡ option_map (stepped (O.sequential replay.old.object)
+        O.language O.state_text (world_of replay.old) process) ((world_of replay.old).call process)) }
 {
     replay.shape();
     let Some(coming) = coming_step(replay, process) else {

@@ -1,15 +1,10 @@
 //! The whole memory of a world, as text.
 
 ghost use Rattle.std.specs.Prelude.{◌≡◌, ◌++◌, ◌∷◌, [], ◌<◌, IfOk, IsSome, OnOk, map, codes};
-ghost use Rattle.cell_arena.specs.Arena.{cell_of};
-ghost use Rattle.std.specs.List.{flat_map, range_with_len};
-ghost use Rattle.std.specs.Option.{option_copied, option_map_or};
-ghost use Rattle.ready_objects.specs.Words.{text_of_words};
-ghost use Rattle.uni_model.specs.Places.Place.{Announced, HeadOf};
-ghost use Rattle.uni_core.specs.World.{name_in, world_of};
-ghost use Rattle.run_replay.specs.Held.{held};
-ghost use Rattle.run_replay.specs.ScenesShown.{held_shown};
-ghost use Rattle.run_replay.specs.Whole.{cells_below, cells_of, fields_of, whole_memory};
+ghost use Rattle.run_replay.specs.Vocabulary.{Announced, HeadOf, cell_of, flat_map, name_in, option_copied};
+ghost use Rattle.run_replay.specs.Vocabulary.{option_map_or, text_of_words, world_of};
+ghost use Rattle.run_replay.specs.Held.{held, cells_of, fields_of, whole_memory};
+ghost use Rattle.run_replay.specs.Scenes.{held_shown};
 
 use crate::frame::Held;
 use crate::places::{field_held, read_place};
@@ -20,8 +15,6 @@ use std::alloc::{AllocError, Global};
 use uni_core::{Place, World};
 
 /// Adds what a place holds.
-///
-/// An `Err` says that memory was refused.
 fn push_held(memory: &mut Vec<Held>, held: Held) -> Result<(), AllocError>
     ensures { OnOk result (map held_shown memory.new.items
         ≡ map held_shown memory.old.items ++ held_shown held ∷ []) }
@@ -30,47 +23,7 @@ fn push_held(memory: &mut Vec<Held>, held: Held) -> Result<(), AllocError>
     Ok(())
 }
 
-/// Adds what the announce entries hold.
-///
-/// An `Err` says that memory was refused.
-#[tactic(auto, using(crate::proofs::PlacesMore::place_more))]
-fn push_announced<O: Spoken>(
-    alloc: Global,
-    world: &World<O>,
-    memory: &mut Vec<Held>,
-) -> Result<(), AllocError>
-    ensures { OnOk result (map held_shown memory.new.items ≡ map held_shown memory.old.items
-        ++ map (held O.language O.state_text (world_of world.now).memory)
-        (map Announced (range_with_len 0 (world_of world.now).n))) }
-{
-    for process in 0..world.processes() {
-        push_held(memory, read_place(alloc, world, Place::Announced(process))?)?;
-    }
-    Ok(())
-}
-
-/// Adds what the head entries hold.
-///
-/// An `Err` says that memory was refused.
-#[tactic(auto, using(crate::proofs::PlacesMore::place_more))]
-fn push_heads<O: Spoken>(
-    alloc: Global,
-    world: &World<O>,
-    memory: &mut Vec<Held>,
-) -> Result<(), AllocError>
-    ensures { OnOk result (map held_shown memory.new.items ≡ map held_shown memory.old.items
-        ++ map (held O.language O.state_text (world_of world.now).memory)
-        (map HeadOf (range_with_len 0 (world_of world.now).n))) }
-{
-    for process in 0..world.processes() {
-        push_held(memory, read_place(alloc, world, Place::HeadOf(process))?)?;
-    }
-    Ok(())
-}
-
 /// The text of what a cell asks for, or `?` where it asks for nothing.
-///
-/// An `Err` says that memory was refused.
 fn asked_text<O: Spoken>(alloc: Global, inv: Option<&O::Inv>) -> Result<Vec<u8>, AllocError>
     ensures { IfOk result (λ text. text.items
         ≡ option_map_or (λ i. text_of_words (O.language.inv_words i)) (option_copied inv.entry) (codes "?")) }
@@ -82,8 +35,6 @@ fn asked_text<O: Spoken>(alloc: Global, inv: Option<&O::Inv>) -> Result<Vec<u8>,
 }
 
 /// Adds what the fields of a cell hold.
-///
-/// An `Err` says that memory was refused.
 fn push_cell<O: Spoken>(
     alloc: Global,
     world: &World<O>,
@@ -91,15 +42,12 @@ fn push_cell<O: Spoken>(
     memory: &mut Vec<Held>,
 ) -> Result<(), AllocError>
     requires { IsSome (cell_of world.now.shared.cells cell) }
-    ensures { OnOk result (map held_shown memory.new.items ≡ map held_shown memory.old.items
-        ++ map (held O.language O.state_text (world_of world.now).memory)
-        (fields_of (name_in (world_of world.now) cell))) }
+    ensures { OnOk result (map held_shown memory.new.items ≡ map held_shown memory.old.items ++ map (held O.language
+        O.state_text (world_of world.now).memory) (fields_of (name_in (world_of world.now) cell))) }
 {
     let asked = asked_text::<O>(alloc, world.inv(cell))?;
-    push_held(
-        memory,
-        field_held(alloc, world.call_of(cell), "inv", asked)?,
-    )?;
+    let entry = field_held(alloc, world.call_of(cell), "inv", asked)?;
+    push_held(memory, entry)?;
     push_held(memory, read_place(alloc, world, Place::SeqOf(cell))?)?;
     push_held(memory, read_place(alloc, world, Place::AfterOf(cell))?)?;
     push_held(memory, read_place(alloc, world, Place::BeforeOf(cell))?)?;
@@ -107,8 +55,6 @@ fn push_cell<O: Spoken>(
 }
 
 /// Adds what the cells hold that a process has made in the present era.
-///
-/// An `Err` says that memory was refused.
 fn push_cells_of<O: Spoken>(
     alloc: Global,
     world: &World<O>,
@@ -116,9 +62,8 @@ fn push_cells_of<O: Spoken>(
     memory: &mut Vec<Held>,
 ) -> Result<(), AllocError>
     requires { process < (world_of world.now).n }
-    ensures { OnOk result (map held_shown memory.new.items ≡ map held_shown memory.old.items
-        ++ map (held O.language O.state_text (world_of world.now).memory)
-        (flat_map fields_of (cells_of (world_of world.now) process))) }
+    ensures { OnOk result (map held_shown memory.new.items ≡ map held_shown memory.old.items ++ map (held O.language
+        O.state_text (world_of world.now).memory) (flat_map fields_of (cells_of (world_of world.now) process))) }
 {
     world.shape();
     let calls = world.calls_in_era(process);
@@ -136,27 +81,8 @@ fn push_cells_of<O: Spoken>(
     Ok(())
 }
 
-/// Adds what all cells hold that were made in the present era.
-///
-/// An `Err` says that memory was refused.
-fn push_cells<O: Spoken>(
-    alloc: Global,
-    world: &World<O>,
-    memory: &mut Vec<Held>,
-) -> Result<(), AllocError>
-    ensures { OnOk result (map held_shown memory.new.items ≡ map held_shown memory.old.items
-        ++ map (held O.language O.state_text (world_of world.now).memory)
-        (flat_map fields_of (cells_below (world_of world.now) (world_of world.now).n))) }
-{
-    for process in 0..world.processes() {
-        push_cells_of(alloc, world, process, memory)?;
-    }
-    Ok(())
-}
-
 /// What all places of a world hold.
-///
-/// An `Err` says that memory was refused.
+#[tactic(auto, using(crate::proofs::Telling::place_more))]
 pub(crate) fn whole_memory<O: Spoken>(
     alloc: Global,
     world: &World<O>,
@@ -166,9 +92,17 @@ pub(crate) fn whole_memory<O: Spoken>(
 {
     world.shape();
     let mut memory = Vec::new(alloc);
-    push_announced(alloc, world, &mut memory)?;
-    push_heads(alloc, world, &mut memory)?;
+    for process in 0..world.processes() {
+        let entry = read_place(alloc, world, Place::Announced(process))?;
+        push_held(&mut memory, entry)?;
+    }
+    for process in 0..world.processes() {
+        let entry = read_place(alloc, world, Place::HeadOf(process))?;
+        push_held(&mut memory, entry)?;
+    }
     push_cell(alloc, world, CellId::anchor(), &mut memory)?;
-    push_cells(alloc, world, &mut memory)?;
+    for process in 0..world.processes() {
+        push_cells_of(alloc, world, process, &mut memory)?;
+    }
     Ok(memory)
 }

@@ -6,9 +6,9 @@ pub use Rattle.std.proofs.lemmas.Result.{IfOk-weaker, on_ok_weaker}
 pub use Rattle.std.specs.List.{AllByRecursion, flat_map}
 pub use Rattle.run_layout.proofs.Scripts.{HasTooManyEvents-run, default_run}
 pub use Rattle.run_layout.specs.Subject.{events_of_record, state_text_of}
-pub use Rattle.run_replay.specs.Frames.{Begins, Ends, Frame, Stepped, Steps, stepped}
+pub use Rattle.run_replay.specs.Scenes.{Begins, Ends, Frame, Stepped, Steps, stepped}
 pub use Rattle.run_replay.specs.Scenes.{Scene, scene_of, scenes_from}
-pub use Rattle.run_replay.specs.ScenesShown.{change_shown, held_shown, scene_shown, step_shown}
+pub use Rattle.run_replay.specs.Scenes.{change_shown, held_shown, scene_shown, step_shown}
 pub use Rattle.run_tell.specs.Json.{Member, after_comma, member_text, separated}
 unfoldable pub use Rattle.run_tell.specs.Json.{object_text}
 pub use Rattle.run_tell.specs.Order.{event_text, remark_told, told_before, told_from, told_text}

@@ -12,7 +12,7 @@ use Rattle.uni_model.specs.AtomicObject.Act.{Invoke, Linearize, Respond}
 use Rattle.uni_model.specs.Linearizable.{observed_in}
 use Rattle.uni_model.specs.Worlds.{Event, opened_world}
 use Rattle.uni_script.specs.Objects.{SpokenObject}
-use Rattle.run_replay.specs.Frames.{Frame, Begins, Steps, Ends}
+use Rattle.run_replay.specs.Scenes.{Frame, Begins, Steps, Ends}
 use Rattle.run_replay.specs.Held.{cell_text}
 use Rattle.run_tell.specs.Opened.{Opening}
 use Rattle.run_tell.specs.Order.{Wording}

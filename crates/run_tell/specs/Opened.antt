@@ -2,7 +2,7 @@
 use Rattle.std.specs.Prelude.{ℕ, List, Option, option_map}
 use Rattle.run_layout.specs.declared.choice.Range.{Range}
 use Rattle.run_replay.specs.Scenes.{Scene, Start}
-use Rattle.run_replay.specs.ScenesShown.{start_shown}
+use Rattle.run_replay.specs.Scenes.{start_shown}
 use Rattle.run_tell.specs.declared.opened.Opened.{Opened}
 
 -- a run: the word of its object, how many processes there were first, how many calls a process can make in an era, and the number

@@ -6,7 +6,7 @@ use Rattle.std.specs.Option.{option_map_or}
 use Rattle.svg_text.specs.Svg.{escaped}
 use Rattle.run_layout.specs.Wording.{counted_text, letter_of, name_text}
 use Rattle.run_replay.specs.Held.{Change, cell_text, changes_between}
-use Rattle.run_replay.specs.Frames.{Begun, Ended, Frame, Stepped, Begins, Steps, Ends}
+use Rattle.run_replay.specs.Scenes.{Begun, Ended, Frame, Stepped, Begins, Steps, Ends}
 use Rattle.run_tell.specs.Order.{Wording}
 use Rattle.run_tell.specs.Sentences.{begun_sentence, change_words, end_sentence, opening_words, remark_words, sentence}
 

@@ -14,7 +14,7 @@ use Rattle.run_layout.specs.Refusals.{refused_text}
 use Rattle.run_layout.specs.Wording.{counted_text, letter_of}
 use Rattle.run_layout.specs.Wrapping.{lines_of}
 use Rattle.run_replay.specs.Held.{Change, Field, Held, alone, cell_text, changes_between}
-use Rattle.run_replay.specs.Frames.{Begun, Ended, Frame, Stepped, Begins, Steps, Ends}
+use Rattle.run_replay.specs.Scenes.{Begun, Ended, Frame, Stepped, Begins, Steps, Ends}
 use Rattle.run_replay.specs.Scenes.{Start}
 use Rattle.run_tell.specs.Access.{access_of}
 use Rattle.run_tell.specs.Opened.{Opening}

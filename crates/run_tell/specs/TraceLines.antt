@@ -13,7 +13,7 @@ use Rattle.run_tell.specs.Access.{access_of}
 use Rattle.run_tell.specs.Opened.{Opening}
 use Rattle.run_tell.specs.Order.{Wording}
 use Rattle.uni_script.specs.declared.remarks.PlacedRemark.{PlacedRemark}
-use Rattle.run_replay.specs.Frames.{Begun, Ended, Frame, Stepped, Begins, Steps, Ends}
+use Rattle.run_replay.specs.Scenes.{Begun, Ended, Frame, Stepped, Begins, Steps, Ends}
 use Rattle.run_replay.specs.Scenes.{Scene, Start}
 
 -- ---- values

@@ -3,7 +3,7 @@
 ghost use Rattle.std.specs.Prelude.{◌≡◌, ◌++◌, [], OnOk, map, option_map};
 ghost use Rattle.std.specs.Option.{option_map_or};
 ghost use Rattle.run_tell.specs.JsonShown.{member_shown};
-ghost use Rattle.run_replay.specs.ScenesShown.{frame_shown};
+ghost use Rattle.run_replay.specs.Scenes.{frame_shown};
 ghost use Rattle.run_tell.specs.TraceLines.{line_text};
 ghost use Rattle.run_tell.specs.Opened.{opening_shown};
 ghost use Rattle.run_tell.specs.HistoryLines.{call_members, observed_line, opening_line, replied_line};

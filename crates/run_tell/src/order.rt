@@ -5,7 +5,7 @@ ghost use Rattle.std.specs.Prelude.{[], IfErr, IfOk, IsErrOf, OnErr, OnOk, drop,
 ghost use Rattle.std.specs.Prelude.{take, true};
 ghost use Rattle.std.specs.List.{flat_map};
 ghost use Rattle.uni_script.specs.Ends.{AppendsPrefix, Moves};
-ghost use Rattle.run_replay.specs.ScenesShown.{scene_shown};
+ghost use Rattle.run_replay.specs.Scenes.{scene_shown};
 ghost use Rattle.run_tell.specs.Opened.{opening_shown, trace_with};
 ghost use Rattle.run_tell.specs.Order.{Wording, remark_told, told_before, told_text};
 ghost use Rattle.run_tell.specs.Written.{WritesText};

@@ -3,7 +3,7 @@
 ghost use Rattle.std.specs.Prelude.{◌≡◌, ◌++◌, [], IfOk, OnOk, decimal, map, option_map};
 ghost use Rattle.std.specs.List.{flat_map};
 ghost use Rattle.std.specs.Option.{option_map_or};
-ghost use Rattle.run_replay.specs.ScenesShown.{change_shown, step_shown};
+ghost use Rattle.run_replay.specs.Scenes.{change_shown, step_shown};
 ghost use Rattle.run_tell.specs.Rows.{cell, changed_words, reply_words, row_text, stage_words, told_cells};
 
 use crate::opened::Opened;

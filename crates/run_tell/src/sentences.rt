@@ -2,8 +2,8 @@
 
 ghost use Rattle.std.specs.Prelude.{◌≡◌, ◌++◌, IfOk, OnOk, [], codes, decimal, map, option_map};
 ghost use Rattle.run_replay.specs.Held.{changes_between};
-ghost use Rattle.run_replay.specs.ScenesShown.{begun_shown, change_shown, end_shown, field_shown, frame_shown};
-ghost use Rattle.run_replay.specs.ScenesShown.{held_shown, start_shown, step_shown};
+ghost use Rattle.run_replay.specs.Scenes.{begun_shown, change_shown, end_shown, field_shown, frame_shown};
+ghost use Rattle.run_replay.specs.Scenes.{held_shown, start_shown, step_shown};
 ghost use Rattle.run_tell.specs.Opened.{opening_shown};
 ghost use Rattle.run_tell.specs.Sentences.{begun_sentence, changes_in, end_sentence, end_word, frame_sentence};
 ghost use Rattle.run_tell.specs.Sentences.{frame_start, frame_words, holds_words, kept_words, left_out_words};

@@ -3,7 +3,7 @@
 
 ghost use Rattle.std.specs.Prelude.{◌≡◌, ◌++◌, OnOk, codes, map};
 ghost use Rattle.std.specs.List.{flat_map};
-ghost use Rattle.run_replay.specs.ScenesShown.{change_shown};
+ghost use Rattle.run_replay.specs.Scenes.{change_shown};
 ghost use Rattle.run_tell.specs.Sentences.{broken, change_words, changes_text, indented, line_text};
 
 use crate::opened::Opened;

@@ -11,7 +11,7 @@ ghost use Rattle.uni_script.specs.declared.fault.BenchFault.{BenchFault as Fault
 ghost use Rattle.uni_script.specs.declared.grammar.Version.{Version};
 ghost use Rattle.run_layout.specs.Choice.{count_in};
 ghost use Rattle.run_layout.specs.Subject.{HasTooManyEvents, events_of_record};
-ghost use Rattle.run_replay.specs.ScenesShown.{start_shown};
+ghost use Rattle.run_replay.specs.Scenes.{start_shown};
 ghost use Rattle.run_tell.specs.Opened.{opening, opening_shown};
 ghost use Rattle.run_tell.specs.Told.{IsLinearizableRun, IsLinearizableSession, IsTold, text_of_record};
 ghost use Rattle.run_tell.specs.Told.{text_of_session};

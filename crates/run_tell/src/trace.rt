@@ -1,7 +1,7 @@
 //! A run in lines of JSON, each an object.
 
 ghost use Rattle.std.specs.Prelude.{◌≡◌, ◌++◌, ◌<◌, OnOk, length, map};
-ghost use Rattle.run_replay.specs.ScenesShown.{begun_shown, end_shown, frame_shown, step_shown};
+ghost use Rattle.run_replay.specs.Scenes.{begun_shown, end_shown, frame_shown, step_shown};
 ghost use Rattle.run_tell.specs.JsonShown.{member_shown};
 ghost use Rattle.run_tell.specs.TraceLines.{begun_members, end_members, end_word, frame_members, line_text};
 ghost use Rattle.run_tell.specs.TraceLines.{note_members, refusal_members, step_members};

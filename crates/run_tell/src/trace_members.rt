@@ -1,7 +1,7 @@
 //! The values of a line's members.
 
 ghost use Rattle.std.specs.Prelude.{◌≡◌, ◌++◌, ◌∷◌, [], IfOk, OnOk, map, option_map};
-ghost use Rattle.run_replay.specs.ScenesShown.{change_shown, field_shown, held_shown, start_shown};
+ghost use Rattle.run_replay.specs.Scenes.{change_shown, field_shown, held_shown, start_shown};
 ghost use Rattle.run_tell.specs.Json.{object_text};
 ghost use Rattle.run_tell.specs.JsonShown.{member_shown};
 ghost use Rattle.run_tell.specs.TraceLines.{changes_text, field_text, held_fields, is_any, letter_text};

@@ -1,5 +1,5 @@
 use Rattle.run_replay.proofs.Vocabulary.{bar_shown, end_shown, ne_eqb, sym, ◌∙◌, ◌≢◌}
-use Rattle.run_replay.proofs.Ends.{bar_ended-ended, bar_ended-other}
+use Rattle.run_replay.proofs.Replayed.{bar_ended-ended, bar_ended-other}
 use Rattle.run_replay.proofs.marking.end_bar.Goals.{else-is_none-via-then-is_none+else-process-from, else-is_none-via-else-is_none}
 use Rattle.run_replay.proofs.marking.end_bar.Goals as goal
 

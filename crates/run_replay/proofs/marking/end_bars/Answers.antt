@@ -1,9 +1,6 @@
 use Rattle.run_replay.proofs.Vocabulary.{ap, arith, bar_ended, bar_shown, end_shown, length, map, ◌<◌, ◌∙◌, ◌≡◌, ◌≤◌}
-use Rattle.run_replay.proofs.Walked.{changed-more, changed-end, written_back}
+use Rattle.run_replay.proofs.Replayed.{changed-more, changed-end, written_back}
 use Rattle.run_replay.proofs.marking.end_bars.Goals as goal
-
-pub loop-bar-init : goal.loop-bar-init
-loop-bar-init c = ap (λ l. map (bar_ended c.args.process (end_shown c.in-Some.end)) (map bar_shown l)) c.deref_mut-bar-items.ensures.value
 
 pub loop-bar-preserved : goal.loop-bar-preserved
 loop-bar-preserved c =

@@ -1,34 +1,24 @@
-use Rattle.run_replay.proofs.Vocabulary.{None, RunMarks, SpokenObject, [], ap, arith, bar_shown, era_of, era_shown, event_lent, event_shown, events_shown, length, length-map, map, marks_shown, opened_world, sym, world_of, ◌++◌, ◌∙◌, ◌∷◌, ◌≡◌}
-use Rattle.run_replay.proofs.Replayed.{marks_are}
-use Rattle.run_replay.proofs.WholeMarks.{marks_then, marks_then-taken, marks_then-none}
+use Rattle.run_replay.proofs.Vocabulary.{spoken, None, RunMarks, [], ap, arith, bar_shown, era_of, era_shown, event_lent, event_shown, events_shown, length, length-map, map, marks_shown, sym, world_of, ◌++◌, ◌∙◌, ◌∷◌, ◌≡◌}
+use Rattle.run_replay.proofs.Replayed.{marks_then, marks_then-taken, marks_then-none}
 use Rattle.run_replay.proofs.marking.marks_of.Goals as goal
 
 pub loop-event-init : goal.loop-event-init
 loop-event-init g c =
-    let o : SpokenObject _ _ _ = record { object = g.O.SeqObject.sequential c.args.object; language = g.O.Spoken.language } in
-    let blank : RunMarks = record { object = c.args.name.now; events = length (events_shown c.args.run.now.events); steps = []; bars = []; dots = []; lines = []; eras = [] } in
+    let o = spoken g.O.SeqObject.sequential g.O.Spoken.language c.args.object in
     let all = c.into_iter-event-iterator.ensures.into_iter_gives ∙ c.events-event-items.ensures in
+    let name = c.in_ok-to_vec.ensures.items_if_clones_equal (λ x y e. e) ∙ c.as_bytes.ensures.value in
+    let count = c.len.ensures.value ∙ ap length c.events.ensures ∙ sym (length-map c.args.run.now.events event_shown) in
     record {
       object = c.in_ok-replay.ensures.object;
       place = (let len = ap length all in omega (arith, len));
-      marks =
-          ap (λ m. marks_then o g.O.Spoken.state_text m (world_of c.in_ok-replay.replay) 0 0 (events_shown c.into_iter-event-iterator.result))
-          (marks_are _ blank (c.in_ok-object.ensures.items_if_clones_equal (λ x y e. e) ∙ c.as_bytes.ensures.value) (c.len.ensures.value ∙ ap length c.events.ensures ∙ sym (length-map c.args.run.now.events event_shown)) c.new.ensures.items (ap (map bar_shown) c.new-2.ensures.items) c.new-3.ensures.items c.new-4.ensures.items (ap (map era_shown) c.new-5.ensures.items))
-          ∙ ap (λ w. marks_then o g.O.Spoken.state_text blank w 0 0 (events_shown c.into_iter-event-iterator.result)) c.in_ok-replay.ensures.world
-          ∙ ap (λ es. marks_then o g.O.Spoken.state_text blank (opened_world c.args.run.now.processes o.object.initial c.args.run.now.first) 0 0 (events_shown es)) all;
+      marks = λ i. marks_then o g.O.Spoken.state_text
+          (record { object = name i; events = count i; steps = c.new.ensures.items i; bars = map bar_shown (c.new-2.ensures.items i); dots = c.new-3.ensures.items i; lines = c.new-4.ensures.items i; eras = map era_shown (c.new-5.ensures.items i) })
+          (c.in_ok-replay.ensures.world i) 0 0 (events_shown (all i));
     }
-
-pub replay_event-requires : goal.replay_event-requires
-replay_event-requires g c =
-    let fits = c.promise.ensures.recording.fits in
-    let most = c.promise.ensures.recording.limited in
-    let place = c.loop-event.invariant.place in
-    let left = ap length c.in-Some.ensures.steps in
-    omega arith
 
 pub loop-event-preserved : goal.loop-event-preserved
 loop-event-preserved g c =
-    let o : SpokenObject _ _ _ = record { object = g.O.SeqObject.sequential c.args.object; language = g.O.Spoken.language } in
+    let o = spoken g.O.SeqObject.sequential g.O.Spoken.language c.args.object in
     let w = world_of c.loop-event.replay in
     let event = event_lent c.in-Some.event in
     let here = c.loop-event.invariant in
@@ -47,12 +37,12 @@ loop-event-preserved g c =
 
 pub returns : goal.returns
 returns g c =
-    let o : SpokenObject _ _ _ = record { object = g.O.SeqObject.sequential c.args.object; language = g.O.Spoken.language } in
+    let o = spoken g.O.SeqObject.sequential g.O.Spoken.language c.args.object in
     let w = world_of c.loop-event.replay in
     let here = c.loop-event.invariant in
     let m = marks_shown c.loop-event.marks in
     let eras : map era_shown c.push_era.new.eras.items ≡ m.eras ++ era_of o g.O.Spoken.state_text w c.loop-event.from None ∷ [] =
-    c.in_ok-push_era.ensures ∙ ap (λ object. m.eras ++ era_of (record { object = g.O.SeqObject.sequential object; language = g.O.Spoken.language }) g.O.Spoken.state_text w c.loop-event.from None ∷ []) here.object in
+    c.in_ok-push_era.ensures ∙ ap (λ object. m.eras ++ era_of (spoken g.O.SeqObject.sequential g.O.Spoken.language object) g.O.Spoken.state_text w c.loop-event.from None ∷ []) here.object in
     record {
       marks = ap (λ l. let n : RunMarks = record m { eras = l } in n) eras
           ∙ sym (marks_then-none o g.O.Spoken.state_text m w c.loop-event.from c.loop-event.place)

@@ -1,7 +1,5 @@
-use Rattle.run_replay.proofs.Vocabulary.{EraMarks, [], ap, append-nil, append_assoc, box_of, boxes_from, cell_shown, drop, drop_all, entry_shown, era_of, era_shown, log, map, map-append, name_in, refl, seq_of, state_settled_at, sym, world_of, ◌++◌, ◌+◌, ◌∙◌, ◌∷◌, ◌≡◌}
-use Rattle.std.proofs.Common.{option_map}
+use Rattle.run_replay.proofs.Vocabulary.{[], ap, append-nil, append_assoc, box_of, boxes_from, cell_shown, drop, drop_all, entry_shown, era_shown, log, map, map-append, name_in, option_map, seq_of, state_settled_at, sym, world_of, ◌++◌, ◌+◌, ◌∙◌, ◌∷◌, ◌≡◌}
 use Rattle.run_replay.proofs.Boxed.{boxes_more}
-use Rattle.run_replay.proofs.Replayed.{era_is}
 use Rattle.run_replay.proofs.marking.push_era.Goals as goal
 
 pub loop-place-preserved : goal.loop-place-preserved
@@ -28,7 +26,6 @@ returns g c =
     let boxes : map cell_shown c.loop-place.cells.items ≡ boxes_from g.O.Spoken.language g.O.Spoken.state_text w 1 (log w) =
     sym (append-nil (map cell_shown c.loop-place.cells.items))
     ∙ (rw (drop_all c.loop-place.place c.deref-entry-items.result.now c.loop-place-test.false, c.deref-entry-items.ensures.value, c.in_ok-entries.ensures.log, c.of-log.ensures) at c.loop-place.invariant) in
-    let made : EraMarks = record { from = c.args.from; last = c.args.last; processes = c.processes-processes.result; anchor = c.seq-anchor.result; cells = map cell_shown c.loop-place.cells.items } in
-    let is : made ≡ era_of (record { object = g.O.SeqObject.sequential c.args.world.now.object; language = g.O.Spoken.language }) g.O.Spoken.state_text w c.args.from c.args.last =
-    era_is made _ refl refl c.processes-processes.ensures (c.seq-anchor.ensures ∙ ap (λ i. seq_of w.memory (name_in w i)) c.anchor.ensures) boxes in
-    ap (map era_shown) c.in_ok-push-2.ensures.items ∙ map-append era_shown c.args.eras.now.items _ ∙ ap (λ e. map era_shown c.args.eras.now.items ++ e ∷ []) is
+    let anchor = c.seq.ensures ∙ ap (λ i. seq_of w.memory (name_in w i)) c.anchor.ensures in
+    ap (map era_shown) c.in_ok-push-2.ensures.items ∙ map-append era_shown c.args.eras.now.items _
+    ∙ (λ i. map era_shown c.args.eras.now.items ++ record { from = c.args.from; last = c.args.last; processes = c.processes.ensures i; anchor = anchor i; cells = boxes i } ∷ [])

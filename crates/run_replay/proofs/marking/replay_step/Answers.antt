@@ -1,5 +1,4 @@
-use Rattle.run_replay.proofs.Vocabulary.{SpokenObject, answered, ap, bar_ended, bar_shown, end_shown, map, option_map, option_map_or, refl, rules, sym, world_of, ◌++◌, ◌∙◌, ◌≡◌}
-use Rattle.run_replay.specs.Changes.{has_changed}
+use Rattle.run_replay.proofs.Vocabulary.{SpokenObject, answered, ap, bar_ended, bar_shown, end_shown, has_changed, map, option_map, option_map_or, refl, rules, sym, world_of, ◌++◌, ◌∙◌, ◌≡◌}
 use Rattle.run_replay.proofs.Replayed.{changes-taken, end_of_step-taken, marks_are, steps_by-taken}
 use Rattle.run_replay.proofs.Linking.{dots_by-taken}
 use Rattle.run_replay.proofs.marking.replay_step.Goals.{in-Done+in_ok-resp_text-in-Done, in-Going}

@@ -1,6 +1,5 @@
-use Rattle.run_replay.proofs.Vocabulary.{ap, drop, event_shown, events_shown, opened_world, scenes_from, sym, take, world_of, ◌∙◌}
-use Rattle.std.proofs.lemmas.List.{drop-map}
-use Rattle.run_replay.proofs.Passing.{excerpt_is}
+use Rattle.run_replay.proofs.Vocabulary.{ap, drop, drop-map, event_shown, events_shown, opened_world, scenes_from, sym, take, world_of, ◌∙◌}
+use Rattle.run_replay.proofs.Telling.{excerpt_is}
 use Rattle.run_replay.proofs.scenes.excerpt_of.Goals as goal
 
 pub returns : goal.returns

@@ -8,6 +8,6 @@ returns-in_ok-begun_of-in-Call-clause-world g c = rw c.in-Call.is c.in_ok-begun_
 pub returns-in_ok-begun_of-in-Call-clause-frame : goal.returns-in_ok-begun_of-in-Call-clause-frame
 returns-in_ok-begun_of-in-Call-clause-frame g c = rw c.in-Call.is (ap (λ b. Some (Begins b)) c.in_ok-begun_of-in-Call.ensures.begun)
 
-pub returns-in_ok-step-in-Step-clause-frame : goal.returns-in_ok-step-in-Step-clause-frame
-returns-in_ok-step-in-Step-clause-frame g c =
-    rw c.in-Step.is (steps_told (g.O.SeqObject.sequential c.args.replay.now.object) g.O.Spoken.language g.O.Spoken.state_text _ _ ((world_of c.args.replay.now).call c.in-Step.process) c.in_ok-step-in-Step.ensures.step)
+pub returns-in_ok-step_of-in-Step-clause-frame : goal.returns-in_ok-step_of-in-Step-clause-frame
+returns-in_ok-step_of-in-Step-clause-frame g c =
+    rw c.in-Step.is (steps_told (g.O.SeqObject.sequential c.args.replay.now.object) g.O.Spoken.language g.O.Spoken.state_text _ _ ((world_of c.args.replay.now).call c.in-Step.process) c.in_ok-step_of-in-Step.ensures.step)

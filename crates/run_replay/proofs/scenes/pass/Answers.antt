@@ -1,5 +1,6 @@
 use Rattle.run_replay.proofs.Vocabulary.{[], ap, arith, drop, event_lent, event_shown, events_shown, length, rules, sym, take, world_after_all, world_of, ◌+◌, ◌-◌, ◌<◌, ◌∙◌, ◌∷◌, ◌≡◌}
-use Rattle.run_replay.proofs.Passing.{drop_first, none_taken, passed_more, world_more}
+use Rattle.std.proofs.Math.Seq.{take-nil}
+use Rattle.run_replay.proofs.Telling.{drop_first, passed_more, world_more}
 use Rattle.run_replay.proofs.scenes.pass.Goals.{else-loop-left-test, then-loop-left-test+in_default}
 use Rattle.run_replay.proofs.scenes.pass.Goals as goal
 
@@ -36,5 +37,5 @@ returns-clause-world g c =
     elim c.loop-left-test.branch [
       | else-loop-left-test b ↦ (let none : left ≡ 0 = search (rules, b.loop-left-test.false) in ap (λ k. world_after_all object w (take k (events_shown c.loop-left.events))) (sym none) ∙ here.world)
       | then-loop-left-test+in_default b ↦ (let empty : c.loop-left.events ≡ [] = search (rules, b.next.ensures.steps) in
-          ap (world_after_all object w) (sym (none_taken left)) ∙ ap (λ es. world_after_all object w (take left (events_shown es))) (sym empty) ∙ here.world)
+          ap (world_after_all object w) (sym (take-nil left)) ∙ ap (λ es. world_after_all object w (take left (events_shown es))) (sym empty) ∙ here.world)
     ]

@@ -12,6 +12,3 @@ returns-clause-step g c =
     stepped_is (g.O.SeqObject.sequential c.args.replay.now.object) g.O.Spoken.language g.O.Spoken.state_text w (world_of c.take_step.new.replay) c.shape.ensures.sound c.args.process c.in-Some.coming c.in-Some.ensures.coming _
     c.in_ok-progress.ensures.world refl refl c.in_ok-before.ensures c.in_ok-after.ensures c.in_ok-proposed.ensures c.next_kind.ensures c.steps.ensures.value c.turns.ensures.value
     (reply ∙ ap (option_map g.O.Spoken.language.resp_text) (answered-progress (response_of_step w c.args.process) c.in_ok-progress.progress c.in_ok-progress.ensures.progress))
-
-pub returns-clause-world : goal.returns-clause-world
-returns-clause-world g c = c.in_ok-progress.ensures.world

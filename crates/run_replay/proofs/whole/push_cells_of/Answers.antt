@@ -1,5 +1,5 @@
 use Rattle.run_replay.proofs.Vocabulary.{Of, ap, arith, fields_of, held, held_shown, map, name_in, refl, world_of, ◌++◌, ◌+◌, ◌-◌, ◌∙◌, ◌≡◌}
-use Rattle.run_replay.proofs.PlacesMore.{cell_more}
+use Rattle.run_replay.proofs.Telling.{cell_more}
 use Rattle.run_replay.proofs.whole.push_cells_of.Goals as goal
 
 pub loop-place-preserved : goal.loop-place-preserved

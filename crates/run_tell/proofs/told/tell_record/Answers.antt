@@ -7,7 +7,7 @@ use Rattle.uni_script.specs.Ends.{AppendsPrefix}
 use Rattle.uni_script.proofs.Written.{AppendsPrefix-nil}
 use Rattle.run_layout.specs.Choice.{count_in}
 use Rattle.run_replay.specs.Scenes.{Excerpt}
-use Rattle.run_replay.specs.ScenesShown.{start_shown}
+use Rattle.run_replay.specs.Scenes.{start_shown}
 use Rattle.run_tell.specs.Opened.{opening_shown}
 use Rattle.run_tell.proofs.TraceIs.{scenes_few, text_is}
 use Rattle.run_tell.proofs.Writing.{WritesText-err}

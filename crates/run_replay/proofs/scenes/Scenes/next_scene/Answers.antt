@@ -1,7 +1,6 @@
 use Rattle.run_replay.proofs.Vocabulary.{Some, ap, event_lent, event_shown, events_shown, frame_shown, held_shown, map, memory_asked, option_map, rules, scene_shown, scenes_from, sym, take, world_of, ◌-◌, ◌<◌, ◌∙◌, ◌∷◌, ◌≡◌}
 use Rattle.run_replay.specs.declared.frame.Scene.{Scene}
-use Rattle.run_replay.proofs.Telling.{scene_taken}
-use Rattle.run_replay.proofs.Passing.{take_first}
+use Rattle.run_replay.proofs.Telling.{scene_taken, take_first}
 use Rattle.run_replay.proofs.scenes.Scenes.next_scene.Goals.{then-self+in_ok-whole_memory, else-self}
 use Rattle.run_replay.proofs.scenes.Scenes.next_scene.Goals as goal
 

@@ -1,5 +1,5 @@
 use Rattle.run_replay.proofs.Vocabulary.{ap, opened_world, ◌∙◌}
-use Rattle.run_replay.proofs.opening.reopened.Goals as goal
+use Rattle.run_replay.proofs.scenes.reopened.Goals as goal
 
 pub returns-in-Ok-clause-world : goal.returns-in-Ok-clause-world
 returns-in-Ok-clause-world g c =

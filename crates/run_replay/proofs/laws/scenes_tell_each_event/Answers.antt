@@ -1,6 +1,5 @@
-use Rattle.run_replay.proofs.Vocabulary.{Bool, Event, Language, List, Sequential, WorldOf, [], refl, suc, world_after, zero, ℕ, ◌∷◌}
-use Rattle.run_replay.specs.SceneLaws.{TellsEachEvent}
-use Rattle.run_replay.proofs.scene_laws.scenes_tell_each_event.Goals as goal
+use Rattle.run_replay.proofs.Vocabulary.{Bool, Event, Language, List, Sequential, TellsEachEvent, WorldOf, [], refl, suc, world_after, zero, ℕ, ◌∷◌}
+use Rattle.run_replay.proofs.laws.scenes_tell_each_event.Goals as goal
 
 tells : {S I R : Type 0} (object : Sequential S I R) (l : Language I R) (text : S → List ℕ) (is_whole : Bool) (w : WorldOf S I R) (events : List (Event I)) → TellsEachEvent object l text is_whole w events
 tells object l text is_whole w [] k = refl

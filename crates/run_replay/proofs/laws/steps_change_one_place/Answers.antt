@@ -1,5 +1,5 @@
 use Rattle.run_replay.proofs.Vocabulary.{refl}
-use Rattle.run_replay.proofs.scene_laws.steps_change_one_place.Goals as goal
+use Rattle.run_replay.proofs.laws.steps_change_one_place.Goals as goal
 
 pub returns-clause-steps : goal.returns-clause-steps
 returns-clause-steps g c object w p call some x other = rw (some, other) refl

@@ -1,5 +1,5 @@
 use Rattle.run_replay.proofs.Vocabulary.{last_cell, last_cell_threaded, refl}
-use Rattle.run_replay.proofs.scene_laws.ends_leave_one_anchor.Goals as goal
+use Rattle.run_replay.proofs.laws.ends_leave_one_anchor.Goals as goal
 
 pub returns : goal.returns
 returns g c object w n inv quiet =
