@@ -2,7 +2,7 @@
 
 ghost use Rattle.std.specs.Prelude.{◌≡◌, ◌++◌, ℕ, List, codes, true};
 ghost use Rattle.std.specs.List.{AllByRecursion};
-ghost use Rattle.svg_text.specs.Figures.{Picture};
+ghost use Rattle.svg_text.specs.declared.shape.Drawing.{Drawing};
 ghost use Rattle.svg_text.specs.Svg.{svg_node, svg_text};
 ghost use Rattle.svg_text.specs.Xml.{escaped, node_text, is_well_named, unescaped, IsNoMarkup};
 
@@ -11,8 +11,8 @@ ghost use Rattle.svg_text.specs.Xml.{escaped, node_text, is_well_named, unescape
 /// tree has a name, and no element has two attributes of one name. Labels are to have only bytes
 /// from 32 to 126: XML knows no byte below 32 but the tab and the ends of lines.
 pub fn text_is_of_a_tree()
-    ensures text { (picture : Picture) → svg_text picture ≡ node_text (svg_node picture) ++ codes "\n" }
-    ensures names { (picture : Picture) → is_well_named (svg_node picture) ≡ true }
+    ensures text { (picture : Drawing) → svg_text picture ≡ node_text (svg_node picture) ++ codes "\n" }
+    ensures names { (picture : Drawing) → is_well_named (svg_node picture) ≡ true }
 {}
 
 /// What is escaped has no `<`, no `>` and no quote, so it ends neither its element nor its
