@@ -1,10 +1,11 @@
--- What comes after the text of a tree.
-use Rattle.svg_text.proofs.Vocabulary.{Drawing, List, Shape, [], ap, append_assoc, codes, decimal, escaped, shape_node, flat_map, lines, refl, sym, ℕ, ◌++◌, ◌∙◌, ◌∷◌, ◌≡◌}
+-- What comes after the text of a tree, and the names of the tree of a picture.
+use Rattle.svg_text.proofs.Vocabulary.{Dot, Drawing, Line, List, Rect, Shape, Text, Tip, Titled, View, [], and_from, ap, append_assoc, are_well_named, codes, decimal, escaped, flat_map, is_well_named, lines, refl, shape_node, strip_node, svg_node, sym, true, ℕ, ◌++◌, ◌∙◌, ◌∷◌, ◌≡◌}
 use Rattle.svg_text.specs.declared.paint.Paint.{Paint}
 use Rattle.svg_text.proofs.Escapes.{anchor_text, escaped_append, escaped_decimal}
 use Rattle.svg_text.specs.Svg.{paint_attributes, svg_text}
 unfoldable use Rattle.svg_text.specs.Svg.{shape_text, paint_text}
 use Rattle.svg_text.specs.Xml.{Attribute, Element, End, Node, Nodes, Then, Words, attributes_onto, node_onto, nodes_onto}
+use Rattle.svg_text.specs.declared.paint.Paint.TheVariants.{Paper}
 
 attributes_more : (all : List Attribute) (x rest : List ℕ) → attributes_onto all (x ++ rest) ≡ attributes_onto all x ++ rest
 attributes_more [] x rest = refl
@@ -65,3 +66,26 @@ picture_text d = simp (lines_onto, append_assoc, escaped_append, escaped_decimal
 pub gathered : (x a b c d e f g h i j : List ℕ) → x ++ a ++ b ++ c ++ d ++ e ++ f ++ g ++ h ++ i ++ j
     ≡ x ++ (a ++ (b ++ (c ++ (d ++ (e ++ (f ++ (g ++ (h ++ (i ++ j)))))))))
 gathered x a b c d e f g h i j = simp append_assoc
+
+-- ---- names
+
+-- the second line of two is tried for each other way of painting
+shape_well_named : (f : Shape) → is_well_named (shape_node f) ≡ true
+shape_well_named (Rect at width height Paper) = refl
+shape_well_named (Rect at width height p) = refl
+shape_well_named (Titled at width height Paper title) = refl
+shape_well_named (Titled at width height p title) = refl
+shape_well_named (Line one other Paper) = refl
+shape_well_named (Line one other p) = refl
+shape_well_named (Dot at) = refl
+shape_well_named (Tip at one other) = refl
+shape_well_named (Text at a Paper text) = refl
+shape_well_named (Text at a p text) = refl
+shape_well_named (View at width height left) = refl
+
+shapes_well_named : (shapes : List Shape) → are_well_named (lines shapes) ≡ true
+shapes_well_named [] = refl
+shapes_well_named (f ∷ shapes) = and_from (is_well_named (shape_node f)) (are_well_named (lines shapes)) (shape_well_named f) (shapes_well_named shapes)
+
+pub picture_well_named : (d : Drawing) → is_well_named (svg_node d) ≡ true
+picture_well_named d = and_from (is_well_named (strip_node d.strip.items)) (are_well_named (lines d.shapes.items)) (and_from (are_well_named (lines d.strip.items)) true (shapes_well_named d.strip.items) refl) (shapes_well_named d.shapes.items)
