@@ -1,11 +1,5 @@
 -- Where all events are chosen, all is drawn.
-use Rattle.run_layout.proofs.Vocabulary.{Bool, Called, Cell, End, EraMarks, List, None, Option, PlacedRemark, RunMarks, Some, [], all_events, ap, arith, bar_in, chosen, chosen_remarks, end_in, era_in, false, filter, if◌then◌else◌, is_bar_in, is_by, is_heading, is_in, links_outside, list_any, map, marks_are, nat_le, not, option_map_or, refl, true, ℕ, ◌-◌, ◌||◌, ◌∙◌, ◌∷◌, ◌≡◌}
-use Rattle.std.specs.Prelude.{option_and_then}
-use Rattle.std.proofs.lemmas.Bool.Decides.{nat_tests}
-use Rattle.run_replay.specs.declared.marks.StepMark.{StepMark}
-use Rattle.run_replay.specs.declared.marks.Dot.{Dot}
-use Rattle.run_replay.specs.declared.marks.EraLine.{EraLine}
-use Rattle.run_replay.proofs.Replayed.{map-kept}
+use Rattle.run_layout.proofs.Vocabulary.{Bool, Called, Cell, Dot, End, EraLine, EraMarks, List, None, Option, PlacedRemark, RunMarks, Some, StepMark, [], all_events, ap, arith, bar_in, chosen, chosen_remarks, end_in, era_in, false, filter, if◌then◌else◌, is_bar_in, is_by, is_heading, is_in, links_outside, list_any, map, map-kept, marks_are, nat_le, nat_tests, not, option_and_then, option_map_or, refl, true, ℕ, ◌-◌, ◌||◌, ◌∙◌, ◌∷◌, ◌≡◌}
 
 less_none : (n : ℕ) → n - 0 ≡ n
 less_none n = omega arith

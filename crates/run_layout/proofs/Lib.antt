@@ -1,7 +1,4 @@
 pub mod Vocabulary
-pub mod Breaking
-pub mod Pushing
+pub mod Adding
 pub mod Scripts
-pub mod Telling
 pub mod Everything
-pub mod Names

@@ -1,22 +1,26 @@
 -- The names that the proofs of this crate share.
-pub use Rattle.std.proofs.Common.{Bool, Err, IfOk, List, None, Ok, OnOk, Option, Result, Some, [], ap, append_assoc, arith, cond, drop, false, get_or, if◌then◌else◌, length, map, nat_le, not, refl, rules, subst, suc, sym, take, true, zero, ℕ, ◌++◌, ◌+◌, ◌-◌, ◌<◌, ◌||◌, ◌∙◌, ◌∷◌, ◌≡◌, ◌≤◌}
-pub use Rattle.std.proofs.lemmas.List.{append-nil, at_drop_more, drop_all, drop_more, map-append, take_rest}
-pub use Rattle.std.specs.List.{filter, find, flat_map, list_any}
-pub use Rattle.std.specs.Option.{option_map_or}
-pub use Rattle.run_layout.specs.Choice.{all_events, bar_in, chosen, chosen_remarks, dot_in, end_in, era_in, is_bar_in, is_by, is_heading, is_in, line_in, links_outside, meets, step_in}
+pub use Rattle.run_layout.specs.Choice.{all_events, bar_in, chosen, chosen_remarks, count_in, dot_in, end_in, era_in, is_bar_in, is_by, is_heading, is_in, line_in, links_outside, meets, step_in}
 pub use Rattle.run_layout.specs.Marked.{arrow_signs, at, bar_sign, dot_sign, line_sign, new_names, refusal_signs, sign_shown, step_sign, text_signs}
 unfoldable pub use Rattle.run_layout.specs.Marked.{names_from}
-pub use Rattle.run_layout.specs.Refusals.{label_after, labels_of, times_after, told_shown}
-unfoldable pub use Rattle.run_layout.specs.Refusals.{labels_from}
 pub use Rattle.run_layout.specs.Subject.{HasMoreEvents, HasTooManyEvents, IsSubject, IsSubjectOf, events_of_record, marks_of_own, marks_of_record, marks_of_session}
 unfoldable pub use Rattle.run_layout.specs.Subject.{marks_of_events}
-pub use Rattle.run_layout.specs.Wording.{is_help, linker_text, name_text}
-pub use Rattle.run_layout.specs.Wrapping.{after_space, fitting_len, last_space}
-unfoldable pub use Rattle.run_layout.specs.Wrapping.{lines_of}
+pub use Rattle.run_layout.specs.Vocabulary.{Called, Cell, Dot, End, EraLine, EraMarks, Event, Kind, PlacedRemark, Queue, Range, RunMarks, ScriptRecord, ScriptSession, SpokenObject, StepMark, bar_shown, cell_shown, era_shown, events_shown, filter, find, flat_map, list_any, marks_shown, option_map_or, own_scripts_of, remark_at, remarks_of_script, scripts_of, spoken}
+pub use Rattle.run_layout.specs.Wording.{after_space, fitting_len, is_help, label_after, labels_of, last_space, linker_text, name_text, times_after, told_shown}
+unfoldable pub use Rattle.run_layout.specs.Wording.{labels_from, lines_of}
 pub use Rattle.run_layout.specs.declared.marked.Mark.TheVariants.{Name}
+pub use Rattle.run_layout.specs.declared.subject.Subject.{Subject}
 pub use Rattle.run_replay.proofs.Replayed.{marks_are}
-pub use Rattle.run_replay.specs.Marks.{Called, Cell, End, EraMarks, RunMarks}
-pub use Rattle.run_replay.specs.Marks.{bar_shown, cell_shown, era_shown, marks_shown}
-pub use Rattle.uni_record.specs.Event.{events_shown}
-pub use Rattle.uni_script.specs.Objects.{SpokenObject, spoken}
-pub use Rattle.uni_script.specs.declared.remarks.PlacedRemark.{PlacedRemark}
+pub use Rattle.run_replay.proofs.Replayed.{map-kept}
+pub use Rattle.std.proofs.Common.{Bool, Err, IfOk, List, None, Ok, OnOk, Option, Result, Some, [], ap, append_assoc, arith, cond, drop, false, get_or, if◌then◌else◌, length, map, nat_le, not, refl, rules, subst, suc, sym, take, true, zero, ℕ, ◌++◌, ◌+◌, ◌-◌, ◌<◌, ◌||◌, ◌∙◌, ◌∷◌, ◌≡◌, ◌≤◌}
+pub use Rattle.std.proofs.lemmas.Bool.Decides.{nat_tests}
+pub use Rattle.std.proofs.lemmas.List.{append-nil, at_drop_more, drop_all, drop_more, map-append, take_rest}
+pub use Rattle.std.specs.Prelude.{option_and_then}
+pub use Rattle.uni_record.specs.Recorded.{Recording}
+pub use Rattle.uni_script.specs.Meaning.{Session}
+pub use Rattle.uni_script.specs.ScriptRun.{HasRunWhole, IsOwnRunOf, IsRunOf, IsScriptRun, session_of_record}
+pub use Rattle.uni_script.specs.Remarks.{Heard}
+pub use Rattle.uni_script.specs.Scripts.{own_scripts}
+pub use Rattle.uni_script.specs.declared.grammar.Version.{Version}
+pub use Rattle.uni_script.specs.declared.options.Echo.TheVariants.{Off}
+pub use Rattle.uni_script.specs.declared.options.Options.{Options}
+pub use Rattle.uni_script.specs.declared.script_run.ScriptRun.{ScriptRun}

@@ -1,18 +1,6 @@
 -- Some events of a run, and what is drawn of it where these are chosen.
-use Rattle.std.specs.Prelude.{◌≡◌, ℕ, ◌+◌, ◌-◌, ◌==◌, ◌&&◌, ◌||◌, not, min, max, nat_le, if◌then◌else◌, Bool, true, false}
-use Rattle.std.specs.Prelude.{List, [], ◌∷◌, map, Option, Some, None, Vec, option_and_then, refl}
-use Rattle.std.specs.List.{filter, list_any}
-use Rattle.std.specs.Option.{option_map_or}
-use Rattle.std.specs.declared.alloc.Global.{Global}
-use Rattle.uni_script.specs.declared.remarks.Remark.{Remark}
-use Rattle.uni_script.specs.declared.remarks.Remark.TheVariants.{Heading, Note, Refused}
-use Rattle.uni_script.specs.declared.remarks.PlacedRemark.{PlacedRemark}
-use Rattle.uni_script.specs.declared.answer.Refusal.TheVariants.{Sequence}
-use Rattle.run_replay.specs.declared.marks.StepMark.{StepMark}
-use Rattle.run_replay.specs.declared.marks.Dot.{Dot}
-use Rattle.run_replay.specs.declared.marks.EraLine.{EraLine}
-use Rattle.run_replay.specs.Marks.{End, Called, Cell, EraMarks, RunMarks}
-use Rattle.run_layout.specs.declared.choice.Range.{Range}
+use Rattle.std.specs.Prelude.{◌≡◌, ℕ, ◌+◌, ◌-◌, ◌==◌, ◌&&◌, ◌||◌, not, min, max, nat_le, if◌then◌else◌, Bool, true, false, List, [], ◌∷◌, map, Option, Some, None, Vec, option_and_then, refl}
+use Rattle.run_layout.specs.Vocabulary.{filter, list_any, option_map_or, Global, Remark, Heading, Note, Refused, PlacedRemark, Sequence, StepMark, Dot, EraLine, End, Called, Cell, EraMarks, RunMarks, Range}
 
 -- whether an event isn't after the last one, if there is a last
 abbrev pub is_by : (event : ℕ) → (last : Option ℕ) → Bool

@@ -1,8 +1,5 @@
-pub mod Shortening
+pub mod Vocabulary
+pub mod Choice
 pub mod Wording
-pub mod Wrapping
-pub mod Refusals
-pub mod Titles
 pub mod Marked
 pub mod Subject
-pub mod Choice

@@ -1,25 +1,10 @@
 -- What a drawing has to show of a run, mark by mark, whatever it is drawn with: from which event's column to which, in the lanes of
 -- which processes, and with what text.
-use Rattle.std.specs.Prelude.{◌≡◌, ℕ, zero, suc, ◌+◌, ◌-◌, ◌==◌, nat_lt, if◌then◌else◌, true, false, Bool, List, [], ◌∷◌, ◌++◌}
-use Rattle.std.specs.Prelude.{map, Option, Some, None, codes, refl}
-use Rattle.std.specs.List.{flat_map}
-use Rattle.std.specs.Fmt.{digits}
-use Rattle.std.specs.Option.{option_map_or}
-use Rattle.signs.specs.declared.sign.Look.{Look}
-use Rattle.signs.specs.declared.sign.Edge.{Edge}
-use Rattle.signs.specs.declared.sign.Edge.TheVariants.{Start, Before, After}
-use Rattle.signs.specs.Signs.{Meaning}
-use Rattle.uni_script.specs.declared.remarks.PlacedRemark.{PlacedRemark}
-use Rattle.run_replay.specs.declared.marks.StepMark.{StepMark}
-use Rattle.run_replay.specs.declared.marks.Dot.{Dot}
-use Rattle.run_replay.specs.declared.marks.EraLine.{EraLine}
-use Rattle.run_replay.specs.Marks.{End, Called, EraMarks, RunMarks}
-use Rattle.run_layout.specs.declared.marked.Mark.{Mark}
+use Rattle.std.specs.Prelude.{◌≡◌, ℕ, zero, suc, ◌+◌, ◌-◌, ◌==◌, nat_lt, if◌then◌else◌, true, false, Bool, List, [], ◌∷◌, ◌++◌, map, Option, Some, None, codes, refl}
+use Rattle.run_layout.specs.Vocabulary.{flat_map, digits, option_map_or, Look, Edge, Start, Before, After, Meaning, PlacedRemark, StepMark, Dot, EraLine, End, Called, EraMarks, RunMarks, Mark}
+use Rattle.run_layout.specs.Wording.{name_text, label_text, counts_text, line_text, Label, labels_of, step_title}
 use Rattle.run_layout.specs.declared.marked.Mark.TheVariants as mark
 use Rattle.run_layout.specs.declared.marked.Sign as code
-use Rattle.run_layout.specs.Wording.{name_text, label_text, counts_text, line_text}
-use Rattle.run_layout.specs.Refusals.{Label, labels_of}
-use Rattle.run_layout.specs.Titles.{step_title}
 
 -- what is to be shown: a mark, the edges between which it stands, its lanes, and what it says
 pub record Sign : Type 0 where

@@ -1,27 +1,8 @@
 -- What a picture shows of a script.
 use Rattle.std.specs.Prelude.{◌≡◌, ◌<◌, ◌≤◌, ℕ, List, ◌++◌, length, map, Option, None, Some, codes}
-use Rattle.ready_objects.specs.Directory.{pairs_text}
-use Rattle.ready_objects.specs.Number.{numbers_text}
-use Rattle.ready_objects.specs.Sticky.{sticky_text}
-use Rattle.uni_model.specs.Worlds.{Event, opened_world}
-use Rattle.uni_record.specs.Event.{events_shown}
-use Rattle.uni_script.specs.declared.grammar.ObjectName.{ObjectName}
-use Rattle.uni_script.specs.declared.grammar.ObjectName.TheVariants as name
-use Rattle.uni_script.specs.declared.script_run.ScriptRecord.{ScriptRecord}
-use Rattle.uni_script.specs.declared.script_run.ScriptRecord.TheVariants.{Queue, Directory, Book, Sticky}
-use Rattle.uni_script.specs.declared.remarks.PlacedRemark.{PlacedRemark}
-use Rattle.uni_script.specs.Fault.{fault_text}
-use Rattle.uni_script.specs.Objects.{InvOf, SpokenObject, StateOf, spoken_of}
-use Rattle.uni_script.specs.Outcome.{Kind, outcome_of_script}
-use Rattle.uni_script.specs.Schedules.{word_of_object}
-use Rattle.uni_script.specs.Scripts.{ScriptSession, OwnSession, scripts_of}
-use Rattle.uni_script.specs.Replay.{IsInput, fault_of_script}
-use Rattle.uni_script.specs.Remarks.{remark_at, remarks_of_script}
-use Rattle.run_replay.specs.Marks.{RunMarks, marks_of_run}
-use Rattle.run_layout.specs.declared.subject.PictureFault.{PictureFault}
-use Rattle.run_layout.specs.declared.subject.PictureFault.TheVariants.{Script, TooManyEvents, Misdrawn}
-use Rattle.run_layout.specs.declared.choice.Range.{Range}
+use Rattle.run_layout.specs.Vocabulary.{pairs_text, numbers_text, sticky_text, Event, opened_world, events_shown, ObjectName, ScriptRecord, Queue, Directory, Book, Sticky, PlacedRemark, fault_text, InvOf, SpokenObject, StateOf, spoken_of, Kind, outcome_of_script, word_of_object, ScriptSession, OwnSession, scripts_of, IsInput, fault_of_script, remark_at, remarks_of_script, RunMarks, marks_of_run, PictureFault, Script, TooManyEvents, Misdrawn, Range}
 use Rattle.run_layout.specs.Choice.{count_in}
+use Rattle.uni_script.specs.declared.grammar.ObjectName.TheVariants as name
 
 -- the text of the states of a named object
 abbrev pub state_text_of : (object : ObjectName) → StateOf object → List ℕ

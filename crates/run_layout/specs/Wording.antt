@@ -1,21 +1,20 @@
--- The texts of a picture.
-use Rattle.std.specs.Prelude.{◌≡◌, ℕ, ◌==◌, if◌then◌else◌, List, [], ◌∷◌, ◌++◌, length, Option, Some, None}
-use Rattle.std.specs.Prelude.{codes, refl, Bool, true, false, ◌&&◌, not, option_map, replicate}
-use Rattle.std.specs.List.{find}
-use Rattle.std.specs.Fmt.{decimal, digits}
-use Rattle.std.specs.Option.{option_map_or}
-use Rattle.uni_core.specs.declared.stage.StepKind.{StepKind}
-use Rattle.uni_core.specs.declared.stage.StepKind.TheVariants.{Announce, ScanHead, ScanSeq, WriteScan, Test, ReadAnnounce, ReadHelpSeq}
-use Rattle.uni_core.specs.declared.stage.StepKind.TheVariants.{DecideAfter, DecideNew, WriteBefore, WriteSeq, WriteHead, Finish}
-use Rattle.uni_script.specs.declared.answer.Refusal.{Refusal}
-use Rattle.uni_script.specs.declared.answer.Refusal.TheVariants.{Process, Busy, Row, Idle, Pending, Sequence, History, Count}
-use Rattle.uni_script.specs.Answer.{call_text}
-use Rattle.run_replay.specs.declared.marks.Dot.{Dot}
-use Rattle.run_replay.specs.declared.marks.EraEnd.{EraEnd}
-use Rattle.run_replay.specs.declared.marks.EraEnd.TheVariants.{Trim, Reshape}
-use Rattle.run_replay.specs.declared.marks.EraLine.{EraLine}
-use Rattle.run_replay.specs.Marks.{End, Called, Cell, RunMarks, lanes_of}
-use Rattle.run_layout.specs.Shortening.{shortened}
+-- The texts of a picture: of its marks, of refusals, and the lines of a text.
+use Rattle.std.specs.Prelude.{◌≡◌, ℕ, if◌then◌else◌, nat_le, List, ◌++◌, length, take, replicate, codes, refl, ◌==◌, [], ◌∷◌, Option, Some, None, Bool, true, false, ◌&&◌, not, option_map, ◌+◌, nat_eq, Vec, zero, suc, drop, slice_index}
+use Rattle.run_layout.specs.Vocabulary.{find, decimal, digits, option_map_or, StepKind, Announce, ScanHead, ScanSeq, WriteScan, Test, ReadAnnounce, ReadHelpSeq, DecideAfter, DecideNew, WriteBefore, WriteSeq, WriteHead, Finish, Refusal, Process, Busy, Row, Idle, Pending, Sequence, History, Count, call_text, Dot, EraEnd, Trim, Reshape, EraLine, End, Called, Cell, RunMarks, lanes_of, StepMark, pointwise, Global, Remark, Heading, Note, Refused, PlacedRemark, Told}
+
+-- a text of at most 24 letters; of a longer one the first 22, with two dots for the rest
+abbrev pub shortened : List ℕ → List ℕ
+shortened text = if nat_le (length text) 24 then text else take 22 text ++ codes ".."
+
+-- 24 letters have room, and 25 haven't
+shortened_of_24 : shortened (codes "call 0 transfer 0 12 345") ≡ codes "call 0 transfer 0 12 345"
+shortened_of_24 = refl
+
+shortened_of_25 : shortened (codes "call 0 transfer 0 12 3456") ≡ codes "call 0 transfer 0 12 3.."
+shortened_of_25 = refl
+
+shortened_of_200 : shortened (replicate 200 120) ≡ replicate 22 120 ++ codes ".."
+shortened_of_200 = refl
 
 -- the letter of a kind of step
 abbrev pub letter_of : StepKind → ℕ
@@ -169,3 +168,138 @@ state_of_24_letters = refl
 state_of_25_letters : cell_state (with_state (codes "[1 2 3 4 5 6 7 8 9 10 11]"))
     ≡ Some (codes "state [1 2 3 4 5 6 7 8 9 10 ..")
 state_of_25_letters = refl
+
+-- ---- the titles of the marks of steps
+
+-- the title of the mark of a step: its process, its call, which of the call's own steps it is, and what it does
+abbrev pub step_title : StepMark → List ℕ
+step_title step =
+    name_text step.process ++ codes ", call " ++ call_text (record { process = step.process; nth = step.nth })
+    ++ codes ", step " ++ decimal step.number ++ codes ": " ++ meaning_of step.kind
+
+title_of_second : step_title (record { event = 3; process = 1; nth = 0; number = 2; kind = DecideAfter; changed = true })
+    ≡ codes "P1, call 1.0, step 2: links a cell, or loses"
+unfolding digits
+title_of_second = refl
+
+-- ---- refusals as they are drawn: equal ones side by side have one mark
+
+-- why a command was refused
+abbrev pub reason_text : Refusal → List ℕ
+reason_text (Process process) = codes "no such process"
+reason_text (Busy process) = name_text process ++ codes " has a call pending"
+reason_text (Row process) = name_text process ++ codes " has a full row"
+reason_text (Idle process) = name_text process ++ codes " has no call pending"
+reason_text (Pending process) = name_text process ++ codes " has a call pending"
+reason_text Sequence = codes "the numbers are used up"
+reason_text History = codes "the history is full"
+reason_text (Count count) = decimal count ++ codes " isn't from 1 to 64"
+
+-- what was refused, and why
+abbrev pub refused_text : (command : List ℕ) → Refusal → List ℕ
+refused_text command refusal = shortened command ++ codes " refused: " ++ reason_text refusal
+
+-- a command of a process that there isn't, and one that is too long to be told
+refused_process : refused_text (codes "call 64 deq") (Process 64) ≡ codes "call 64 deq refused: no such process"
+refused_process = refl
+
+refused_long : refused_text (codes "call 0 transfer 0 12 3456") (Busy 0)
+    ≡ codes "call 0 transfer 0 12 3.. refused: P0 has a call pending"
+unfolding digits
+refused_long = refl
+
+-- what is drawn of a remark: the label of its mark, if it has one, after so many events
+pub record Label : Type 0 where
+  pub before : ℕ
+  pub text : Option (List ℕ)
+
+abbrev pub told_shown : Told → Label
+told_shown told = record { before = told.before; text = option_map (λ text. text.items) told.label }
+
+-- how often a refusal was told in a row, behind its words, where that is more than once
+abbrev pub times_text : (times : ℕ) → List ℕ
+times_text times = if times == 1 then [] else codes " x" ++ decimal times
+
+-- the label of a remark that was told so often in a row; a note has none
+abbrev pub told_text : (times : ℕ) → Remark → Option (List ℕ)
+told_text times (Refused command refusal) = Some (refused_text command.items refusal ++ times_text times)
+told_text times (Heading text) = None
+told_text times (Note text) = None
+
+-- whether both are refusals with the same text
+abbrev pub have_same_text : Remark → Remark → Bool
+have_same_text (Refused command why) (Refused command' why') =
+    pointwise nat_eq (refused_text command.items why) (refused_text command'.items why')
+have_same_text _ _ = false
+
+-- whether a refusal comes again at once, after as many events
+abbrev pub comes_again : PlacedRemark → List PlacedRemark → Bool
+comes_again one [] = false
+comes_again one (next ∷ remarks) = next.before == one.before && have_same_text one.remark next.remark
+
+-- the label of a remark that was told so many times before, and how often the next one was then
+abbrev pub label_after : (times : ℕ) → PlacedRemark → List PlacedRemark → Label
+label_after times one remarks =
+    record { before = one.before; text = if comes_again one remarks then None else told_text (times + 1) one.remark }
+
+abbrev pub times_after : (times : ℕ) → PlacedRemark → List PlacedRemark → ℕ
+times_after times one remarks = if comes_again one remarks then times + 1 else 0
+
+-- the label of each remark, where the first one was told so many times before: equal refusals have theirs at the last of them
+unfoldable pub labels_from : (times : ℕ) → List PlacedRemark → List Label
+labels_from times [] = []
+labels_from times (one ∷ remarks) = label_after times one remarks ∷ labels_from (times_after times one remarks) remarks
+
+abbrev pub labels_of : List PlacedRemark → List Label
+labels_of remarks = labels_from 0 remarks
+
+-- two equal refusals have one label, and one of another process has its own
+module _ (one other : Vec ℕ Global) (is_one : one.items ≡ codes "step 0")
+    (is_other : other.items ≡ codes "step 1 9") where
+  abbrev idle : Vec ℕ Global → (process : ℕ) → PlacedRemark
+  idle command process = record { line = 7; before = 3; remark = Refused command (Idle process) }
+
+  labels_of_three : labels_of (idle one 0 ∷ idle one 0 ∷ idle other 1 ∷ [])
+      ≡ record { before = 3; text = None }
+      ∷ record { before = 3; text = Some (codes "step 0 refused: P0 has no call pending x2") }
+      ∷ record { before = 3; text = Some (codes "step 1 9 refused: P1 has no call pending") }
+      ∷ []
+  unfolding labels_from digits
+  labels_of_three = rw (is_one, is_other) refl
+
+-- ---- the lines of a text
+
+-- the last place below n, but for the first one, at which a text has a space; 0 where there is none
+abbrev pub last_space : List ℕ → (n : ℕ) → ℕ
+last_space text zero = 0
+last_space text (suc n) = if slice_index text n == 32 then n else last_space text n
+
+-- how many letters stand in a line of at most so many: all, or those before the last space after which they still fit, or as many as the
+-- line takes
+abbrev pub space_or : (space most : ℕ) → ℕ
+space_or zero most = most
+space_or (suc space) most = suc space
+
+abbrev pub fitting_len : List ℕ → (most : ℕ) → ℕ
+fitting_len text most = if nat_le (length text) most then length text else space_or (last_space text (suc most)) most
+
+-- a text without the space that it begins with
+abbrev pub after_space : List ℕ → List ℕ
+after_space [] = []
+after_space (b ∷ bs) = if b == 32 then bs else b ∷ bs
+
+-- the lines of a text, of at most so many letters each; at most n of them
+unfoldable pub lines_of : (n most : ℕ) → List ℕ → List (List ℕ)
+lines_of zero most text = []
+lines_of (suc n) most [] = []
+lines_of (suc n) most (b ∷ bs) =
+    take (fitting_len (b ∷ bs) most) (b ∷ bs) ∷ lines_of n most (after_space (drop (fitting_len (b ∷ bs) most) (b ∷ bs)))
+
+-- words stay whole where they can
+lines_of_words : lines_of 9 8 (codes "it stops here") ≡ codes "it stops" ∷ codes "here" ∷ []
+unfolding lines_of
+lines_of_words = refl
+
+lines_of_one_word : lines_of 9 4 (codes "announced") ≡ codes "anno" ∷ codes "unce" ∷ codes "d" ∷ []
+unfolding lines_of
+lines_of_one_word = refl

@@ -1,5 +1,5 @@
-//! Where each event and each refusal stands from left to right, and each process from the top down: as far as
-//! numbers go. Where no more is said, an `Err` says that memory was refused.
+//! Where each event and each refusal stands from left to right, and each process from the top down: as far as numbers
+//! go.
 
 ghost use Rattle.std.specs.Prelude.{◌≤◌};
 
@@ -62,13 +62,11 @@ pub struct Stretch {
 pub fn lanes_between(stretches: &[Stretch], from: u64, to: u64) -> u64
     ensures { result ≤ 64 }
 {
-    let mut lanes = 0;
-    for stretch in stretches {
-        if stretch.from < to && from < stretch.to {
-            lanes = stretch.lanes.max(lanes);
-        }
-    }
-    lanes.min(MOST_LANES)
+    let there = stretches
+        .iter()
+        .filter(|stretch| stretch.from < to && from < stretch.to);
+    let lanes = there.map(|stretch| stretch.lanes).max();
+    lanes.unwrap_or(0).min(MOST_LANES)
 }
 
 /// The columns of a run.
@@ -83,10 +81,8 @@ pub struct Axis {
 impl Axis {
     /// Where what is told begins; the end of all of what isn't there.
     pub fn remark(&self, place: usize) -> u64 {
-        match self.remarks.get(place) {
-            Some(column) => column.from,
-            None => self.layout.width,
-        }
+        let column = self.remarks.get(place);
+        column.map_or(self.layout.width, |column| column.from)
     }
 
     /// Where an event ends an era: at the left of its column, or in its middle.
@@ -98,9 +94,8 @@ impl Axis {
         }
     }
 
-    /// Where eras stand, from a place to the end of all: each ends with its last event.
-    ///
-    /// An `Err` says that memory was refused.
+    /// Where eras stand, from a place to the end of all: each ends with its last event. An `Err` says that memory was
+    /// refused.
     pub fn stretches(
         &self,
         alloc: Global,
@@ -194,9 +189,8 @@ fn push_told(
     Ok(end)
 }
 
-/// Where each event and each remark stands: a remark before the event that it was told before.
-///
-/// An `Err` says that memory was refused.
+/// Where each event and each remark stands: a remark before the event that it was told before. An `Err` says that
+/// memory was refused.
 pub fn axis_of(
     alloc: Global,
     marks: &Marks,

@@ -1,15 +1,12 @@
 //! Some events of a run, and what is drawn of it where these are chosen.
-//! Where no more is said, an `Err` says that memory was refused.
 
-ghost use Rattle.std.specs.Prelude.{◌≡◌, ◌≤◌, ◌&&◌, ◌-◌, ◌==◌, not, IfOk, List, length, map};
-ghost use Rattle.std.specs.Prelude.{option_map, option_and_then};
-ghost use Rattle.std.specs.List.{filter, list_any};
-ghost use Rattle.run_replay.specs.Marks.{bar_shown, cell_shown, end_shown, era_shown, marks_shown};
-ghost use Rattle.uni_script.specs.declared.remarks.PlacedRemark.{PlacedRemark as Placed};
-ghost use Rattle.run_replay.specs.Marks.{RunMarks};
-ghost use Rattle.run_layout.specs.Choice.{is_by, is_in, meets, all_events, count_in, step_in, dot_in, line_in};
-ghost use Rattle.run_layout.specs.Choice.{end_in, bar_in, is_bar_in, links_outside, era_in, chosen};
-ghost use Rattle.run_layout.specs.Choice.{is_told_in, remark_in, chosen_remarks};
+ghost use Rattle.std.specs.Prelude.{◌≡◌, ◌≤◌, ◌&&◌, ◌-◌, ◌==◌, not, IfOk, List, length, map, option_map};
+ghost use Rattle.std.specs.Prelude.{option_and_then};
+ghost use Rattle.run_layout.specs.Vocabulary.{filter, list_any, bar_shown, cell_shown, end_shown, era_shown};
+ghost use Rattle.run_layout.specs.Vocabulary.{marks_shown, Placed, RunMarks};
+ghost use Rattle.run_layout.specs.Choice.{is_by, is_in, meets, all_events, count_in, step_in, dot_in, line_in, end_in};
+ghost use Rattle.run_layout.specs.Choice.{bar_in, is_bar_in, links_outside, era_in, chosen, is_told_in, remark_in};
+ghost use Rattle.run_layout.specs.Choice.{chosen_remarks};
 
 use run_replay::{Bar, BarEnd, CellBox, Dot, Era, EraLine, Marks, StepMark};
 use std::alloc::{AllocError, Global};
@@ -245,23 +242,15 @@ pub(crate) fn chosen(alloc: Global, range: Range, marks: Marks) -> Result<Marks,
     ensures fewer { IfOk result (λ part. part.events ≤ marks.events) }
     ensures chosen { IfOk result (λ part. marks_shown part ≡ chosen range (marks_shown marks)) }
 {
-    let Marks {
-        object,
-        events,
-        steps,
-        bars,
-        dots,
-        lines,
-        eras,
-    } = marks;
+    let eras = marks.eras;
     Ok(Marks {
-        object,
-        events: range.count(events),
-        steps: steps_in(alloc, range, &steps)?,
-        bars: bars_in(alloc, range, events, bars)?,
-        eras: eras_in(alloc, range, &dots, eras)?,
-        dots: dots_in(alloc, range, &dots)?,
-        lines: lines_in(alloc, range, &lines)?,
+        object: marks.object,
+        events: range.count(marks.events),
+        steps: steps_in(alloc, range, &marks.steps)?,
+        bars: bars_in(alloc, range, marks.events, marks.bars)?,
+        eras: eras_in(alloc, range, &marks.dots, eras)?,
+        dots: dots_in(alloc, range, &marks.dots)?,
+        lines: lines_in(alloc, range, &marks.lines)?,
     })
 }
 

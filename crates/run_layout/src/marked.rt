@@ -1,19 +1,15 @@
 //! What a drawing has to show of a run, mark by mark, whatever it is drawn with.
-//! Where no more is said, an `Err` says that memory was refused.
 
 ghost use Rattle.std.specs.Prelude.{◌≡◌, ◌-◌, ◌++◌, ◌∷◌, [], IfOk, OnOk, Some, map};
-ghost use Rattle.std.specs.List.{flat_map};
-ghost use Rattle.signs.specs.Signs.{meaning};
-ghost use Rattle.run_replay.specs.Marks.{bar_shown, era_shown, marks_shown};
-ghost use Rattle.run_layout.specs.Refusals.{told_shown};
+ghost use Rattle.run_layout.specs.Vocabulary.{flat_map, meaning, bar_shown, era_shown, marks_shown};
+ghost use Rattle.run_layout.specs.Wording.{told_shown};
 ghost use Rattle.run_layout.specs.Marked.{after_events, arrow_signs, at, bar_sign, dot_sign, line_sign, names_from};
 ghost use Rattle.run_layout.specs.Marked.{new_names, part, part_in, refusal_signs, sign_of, sign_shown, signs_of};
 ghost use Rattle.run_layout.specs.Marked.{step_sign, text_signs};
 
 use crate::axis::MOST_LANES;
 use crate::refusals::{Told, told_of};
-use crate::titles::step_title;
-use crate::wording::{counts_of, label_of, line_of, name_of};
+use crate::wording::{counts_of, label_of, line_of, name_of, step_title};
 use run_replay::{Bar, Dot, Era, EraLine, Marks, StepMark};
 use signs::{Edge, Look, Part};
 use std::alloc::{AllocError, Global};
@@ -195,9 +191,7 @@ fn push_texts(alloc: Global, bar: &Bar, signs: &mut Signs) -> Result<(), AllocEr
     Ok(())
 }
 
-/// Adds a shape of a sign, in its lanes.
-///
-/// An `Err` says that memory was refused.
+/// Adds a shape of a sign, in its lanes. An `Err` says that memory was refused.
 pub fn push_part(
     alloc: Global,
     sign: &Sign,
@@ -211,9 +205,7 @@ pub fn push_part(
     push_part_in(alloc, sign, sign.lanes, look, text, parts)
 }
 
-/// Adds a shape of a sign, in some lanes.
-///
-/// An `Err` says that memory was refused.
+/// Adds a shape of a sign, in some lanes. An `Err` says that memory was refused.
 pub fn push_part_in(
     alloc: Global,
     sign: &Sign,
@@ -252,20 +244,14 @@ fn push_refusal(alloc: Global, told: &Told, signs: &mut Signs) -> Result<(), All
 {
     if let Some(label) = &told.label {
         let columns = (after_events(told.before), Edge::Before(told.before));
-        push_sign(
-            signs,
-            Mark::Refusal,
-            columns,
-            None,
-            label.as_slice().to_vec(alloc)?,
-        )?;
+        let text = label.as_slice().to_vec(alloc)?;
+        push_sign(signs, Mark::Refusal, columns, None, text)?;
     }
     Ok(())
 }
 
-/// What a drawing has to show of the marks of a run, with what was told beside its events, from the lowest on.
-///
-/// An `Err` says that memory was refused.
+/// What a drawing has to show of the marks of a run, with what was told beside its events, from the lowest on. An `Err`
+/// says that memory was refused.
 pub fn signs_of(
     alloc: Global,
     marks: &Marks,

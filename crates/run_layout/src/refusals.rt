@@ -1,11 +1,10 @@
 //! Refusals as they are drawn: equal ones side by side have one mark.
-//! Where no more is said, an `Err` says that memory was refused.
 
 ghost use Rattle.std.specs.Prelude.{◌≡◌, ◌++◌, ◌+◌, ◌≤◌, ◌<◌, ◌^◌, ◌∷◌, [], IfOk, OnOk, length, map, option_map};
-ghost use Rattle.run_layout.specs.Refusals.{reason_text, refused_text, have_same_text, comes_again, label_after};
-ghost use Rattle.run_layout.specs.Refusals.{times_text, told_shown, told_text, times_after, labels_of};
+ghost use Rattle.run_layout.specs.Wording.{reason_text, refused_text, have_same_text, comes_again, label_after};
+ghost use Rattle.run_layout.specs.Wording.{times_text, told_shown, told_text, times_after, labels_of};
 
-use crate::shortening::push_shortened;
+use crate::wording::push_shortened;
 use std::alloc::{AllocError, Global};
 use std::io::Write;
 use uni_script::{PlacedRemark, Refusal, Remark};
@@ -37,9 +36,7 @@ fn push_reason(text: &mut Vec<u8>, refusal: Refusal) -> Result<(), AllocError>
     .map_err(|_| AllocError)
 }
 
-/// What was refused, in at most 24 letters, and why.
-///
-/// An `Err` says that memory was refused.
+/// What was refused, in at most 24 letters, and why. An `Err` says that memory was refused.
 pub fn refused_text(alloc: Global, command: &[u8], refusal: Refusal) -> Result<Vec<u8>, AllocError>
     ensures { IfOk result (λ text. text.items ≡ refused_text command.now refusal) }
 {
@@ -133,9 +130,8 @@ fn push_told(
     Ok(0)
 }
 
-/// What is drawn of each remark: equal refusals side by side have one label, at the last of them.
-///
-/// An `Err` says that memory was refused.
+/// What is drawn of each remark: equal refusals side by side have one label, at the last of them. An `Err` says that
+/// memory was refused.
 pub fn told_of(alloc: Global, remarks: &[PlacedRemark]) -> Result<Vec<Told>, AllocError>
     ensures count { IfOk result (λ told. length told.items ≡ length remarks.now) }
     ensures labels { IfOk result (λ told. map told_shown told.items ≡ labels_of remarks.now) }

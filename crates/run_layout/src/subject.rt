@@ -1,12 +1,8 @@
 //! What a picture shows of a script.
 
 ghost use Rattle.std.specs.Prelude.{◌≡◌, ◌<◌, ◌≤◌, IfOk, OnOk, IsErrOf, Some, false, length};
-ghost use Rattle.uni_record.specs.Event.{events_shown};
-ghost use Rattle.uni_script.specs.Objects.{spoken};
-ghost use Rattle.uni_script.specs.Replay.{HasFault, IsFaultOfScript};
-ghost use Rattle.uni_script.specs.Scripts.{scripts_of, own_scripts_of};
-ghost use Rattle.uni_script.specs.declared.fault.BenchFault.{BenchFault as Fault};
-ghost use Rattle.run_replay.specs.Marks.{marks_shown};
+ghost use Rattle.run_layout.specs.Vocabulary.{events_shown, spoken, HasFault, IsFaultOfScript, scripts_of};
+ghost use Rattle.run_layout.specs.Vocabulary.{own_scripts_of, Fault, marks_shown};
 ghost use Rattle.run_layout.specs.Choice.{chosen, chosen_remarks, count_in};
 ghost use Rattle.run_layout.specs.Subject.{marks_of_events, marks_of_record, marks_of_own, events_of_record};
 ghost use Rattle.run_layout.specs.Subject.{picture_fault_text, IsSubject, IsSubjectOf, HasTooManyEvents, HasMoreEvents};
@@ -19,8 +15,7 @@ use std::alloc::{AllocError, Global};
 use std::fmt;
 use uni_record::Recorded;
 use uni_script::{
-    BenchFault, Options, PlacedRemark, ScriptRecord, ScriptRun, TextIn, run_of_object,
-    run_of_script,
+    BenchFault, Options, PlacedRemark, ScriptRecord, TextIn, run_of_object, run_of_script,
 };
 
 /// Why there is no picture.
@@ -81,9 +76,7 @@ pub struct Subject {
 }
 
 impl Subject {
-    /// What a picture shows where these events are chosen.
-    ///
-    /// An `Err` says that memory was refused.
+    /// What a picture shows where these events are chosen. An `Err` says that memory was refused.
     pub fn chosen(self, alloc: Global, range: Range) -> Result<Subject, AllocError>
         ensures marks { IfOk result (λ part. marks_shown part.marks ≡ chosen range (marks_shown self.marks)) }
         ensures remarks { IfOk result (λ part. part.remarks.items ≡ chosen_remarks range self.remarks.items) }
@@ -98,9 +91,7 @@ impl Subject {
 }
 
 /// The marks of the run that a record has stored, on an object of this name, of which these events are to be chosen;
-/// `object` is a further value of that object.
-///
-/// Errors: `TooManyEvents` where more than 2,000 are chosen; else `Memory`.
+/// `object` is a further value of that object. Errors: `TooManyEvents` where more than 2,000 are chosen; else `Memory`.
 fn marks_of_events<O: Spoken>(
     alloc: Global,
     range: Range,
@@ -122,9 +113,8 @@ fn marks_of_events<O: Spoken>(
     Ok(marks_of(alloc, name, object, recorded)?)
 }
 
-/// The marks of a record, by its object, of which these events are to be chosen.
-///
-/// Errors: `TooManyEvents` where more than 2,000 are chosen; else `Memory`.
+/// The marks of a record, by its object, of which these events are to be chosen. Errors: `TooManyEvents` where more
+/// than 2,000 are chosen; else `Memory`.
 fn marks_of_record(
     alloc: Global,
     range: Range,
@@ -145,31 +135,9 @@ fn marks_of_record(
     }
 }
 
-/// What a picture shows of the run of a script, of which these events are to be chosen.
-///
-/// Errors: `TooManyEvents` where more than 2,000 are chosen; else `Memory`.
-fn subject_of_run(
-    alloc: Global,
-    range: Range,
-    run: ScriptRun<ScriptRecord>,
-) -> Result<Subject, PictureFault>
-    ensures few { OnOk result (count_in range (events_of_record run.record) ≤ 2000) }
-    ensures marks { IfOk result (λ subject. marks_shown subject.marks ≡ marks_of_record run.record) }
-    ensures remarks { IfOk result (λ subject. subject.remarks.items ≡ run.remarks.items) }
-    ensures many { IsErrOf result PictureFault.TooManyEvents → 2000 < count_in range (events_of_record run.record) }
-    ensures memory { (e : Fault) → IsErrOf result (PictureFault.Script e) → e ≡ Fault.Memory }
-{
-    let marks = marks_of_record(alloc, range, &run.record)?;
-    Ok(Subject {
-        marks,
-        remarks: run.remarks,
-    })
-}
-
-/// What a picture shows of the script that a reader has, of which these events are to be chosen.
-///
-/// An `Err` is the first fault of the script; `Read` where the reader failed; `Memory` where memory was
-/// refused; or `TooManyEvents` of a good script of which more than 2,000 events are chosen.
+/// What a picture shows of the script that a reader has, of which these events are to be chosen. An `Err` is the first
+/// fault of the script; `Read` where the reader failed; `Memory` where memory was refused; or `TooManyEvents` of a good
+/// script of which more than 2,000 events are chosen.
 pub fn subject_of<I: TextIn>(
     alloc: Global,
     range: Range,
@@ -185,13 +153,15 @@ pub fn subject_of<I: TextIn>(
         → HasFault (scripts_of 1048576) (I.remaining reader.old) e }
 {
     let run = run_of_script(alloc, reader, &Options::default())?;
-    subject_of_run(alloc, range, run)
+    let marks = marks_of_record(alloc, range, &run.record)?;
+    Ok(Subject {
+        marks,
+        remarks: run.remarks,
+    })
 }
 
 /// What a picture shows of the script over an object that a reader has, whose header names the object by this word, as
-/// for `uni_script::bench_object`.
-///
-/// The errors are those of `subject_of`.
+/// for `uni_script::bench_object`. The errors are those of `subject_of`.
 pub fn subject_of_object<O: Spoken + Copy, I: TextIn>(
     alloc: Global,
     object: O,
@@ -214,29 +184,6 @@ pub fn subject_of_object<O: Spoken + Copy, I: TextIn>(
         (I.remaining reader.old) e }
 {
     let run = run_of_object(alloc, object, name, reader, &Options::default())?;
-    subject_of_own_run(alloc, object, name, range, run)
-}
-
-/// What a picture shows of the run of a script over an object, of which these events are to be chosen; `object` is a
-/// further value of it.
-///
-/// Errors: `TooManyEvents` where more than 2,000 are chosen; else `Memory`.
-fn subject_of_own_run<O: Spoken>(
-    alloc: Global,
-    object: O,
-    name: &str,
-    range: Range,
-    run: ScriptRun<Recorded<O>>,
-) -> Result<Subject, PictureFault>
-    ensures few { OnOk result (count_in range (length (events_shown run.record.events)) ≤ 2000) }
-    ensures marks { IfOk result (λ subject. marks_shown subject.marks
-        ≡ marks_of_events (record { object = O.sequential object; language = O.language }) O.state_text name.now
-        run.record.processes run.record.first (events_shown run.record.events)) }
-    ensures remarks { IfOk result (λ subject. subject.remarks.items ≡ run.remarks.items) }
-    ensures many { IsErrOf result PictureFault.TooManyEvents
-        → 2000 < count_in range (length (events_shown run.record.events)) }
-    ensures memory { (e : Fault) → IsErrOf result (PictureFault.Script e) → e ≡ Fault.Memory }
-{
     let marks = marks_of_events(alloc, range, name, object, &run.record)?;
     Ok(Subject {
         marks,

@@ -1,19 +1,30 @@
-//! The texts of a picture. Where no more is said, an `Err` says that memory was refused.
+//! The texts of a picture.
 
 ghost use Rattle.std.specs.Prelude.{◌≡◌, ◌++◌, [], IfOk, OnOk, option_map};
-ghost use Rattle.std.specs.List.{find};
-ghost use Rattle.std.specs.Option.{option_map_or};
-ghost use Rattle.run_replay.specs.Marks.{end_shown, bar_shown, cell_shown, marks_shown};
+ghost use Rattle.run_layout.specs.Vocabulary.{find, option_map_or, end_shown, bar_shown, cell_shown, marks_shown};
 ghost use Rattle.run_layout.specs.Wording.{linker_text, is_help, meaning_of, counted_text, counts_text, refusal_words};
 ghost use Rattle.run_layout.specs.Wording.{letter_of, label_text, line_text, cell_words, cell_state, title_text};
-ghost use Rattle.run_layout.specs.Wording.{lane_of, cell_name, name_text};
+ghost use Rattle.run_layout.specs.Wording.{lane_of, cell_name, name_text, shortened, step_title};
 
-use crate::shortening::push_shortened;
 use run_replay::{Bar, BarEnd, CellBox, Dot, EraEnd, EraLine, Marks, StepMark};
 use std::alloc::{AllocError, Global};
 use std::io::Write;
 use uni_core::StepKind;
 use uni_script::Refusal;
+
+/// How many letters of a command or a state are told at most.
+const MOST_SHORT: usize = 24;
+
+/// Adds a text of at most 24 letters; of a longer one the first 22, with two dots for the rest.
+pub fn push_shortened(text: &[u8], line: &mut Vec<u8>) -> Result<(), AllocError>
+    ensures { OnOk result (line.new.items ≡ line.old.items ++ shortened text.now) }
+{
+    if text.len() <= MOST_SHORT {
+        return line.extend_from_slice(text);
+    }
+    line.extend_from_slice(&text[..MOST_SHORT - 2])?;
+    line.extend_from_slice(b"..")
+}
 
 /// The letter of a kind of step.
 pub fn letter_of(kind: StepKind) -> u8
@@ -74,9 +85,8 @@ const KINDS: [StepKind; 13] = [
     StepKind::Finish,
 ];
 
-/// The kinds of step that are among some, in the order in which a call takes them.
-///
-/// An `Err` says that memory was refused.
+/// The kinds of step that are among some, in the order in which a call takes them. An `Err` says that memory was
+/// refused.
 pub fn kinds_of(alloc: Global, steps: &[StepMark]) -> Result<Vec<StepKind>, AllocError> {
     let mut found = Vec::new(alloc);
     for kind in KINDS {
@@ -93,9 +103,7 @@ pub fn any_unchanged(steps: &[StepMark]) -> bool {
     steps.iter().any(|step| !step.changed)
 }
 
-/// The name of a process.
-///
-/// An `Err` says that memory was refused.
+/// The name of a process. An `Err` says that memory was refused.
 pub fn name_of(alloc: Global, process: u64) -> Result<Vec<u8>, AllocError>
     ensures { IfOk result (λ name. name.items ≡ name_text process) }
 {
@@ -104,9 +112,8 @@ pub fn name_of(alloc: Global, process: u64) -> Result<Vec<u8>, AllocError>
     Ok(name)
 }
 
-/// The label of a call's bar: the call and its words, and its reply where it has returned.
-///
-/// An `Err` says that memory was refused.
+/// The label of a call's bar: the call and its words, and its reply where it has returned. An `Err` says that memory
+/// was refused.
 pub fn label_of(alloc: Global, bar: &Bar) -> Result<Vec<u8>, AllocError>
     ensures { IfOk result (λ text. text.items ≡ label_text (bar_shown bar.now)) }
 {
@@ -120,9 +127,8 @@ pub fn label_of(alloc: Global, bar: &Bar) -> Result<Vec<u8>, AllocError>
     Ok(text)
 }
 
-/// Adds how many there are of something, with the word for one and that for any other number.
-///
-/// An `Err` says that memory was refused.
+/// Adds how many there are of something, with the word for one and that for any other number. An `Err` says that memory
+/// was refused.
 pub fn push_counted(text: &mut Vec<u8>, count: u64, one: &str, many: &str) -> Result<(), AllocError>
     ensures { OnOk result (text.new.items ≡ text.old.items ++ counted_text count one.now many.now) }
 {
@@ -130,9 +136,7 @@ pub fn push_counted(text: &mut Vec<u8>, count: u64, one: &str, many: &str) -> Re
     write!(text, "{count} {word}").map_err(|_| AllocError)
 }
 
-/// The own steps and the turns of a call that has returned.
-///
-/// An `Err` says that memory was refused.
+/// The own steps and the turns of a call that has returned. An `Err` says that memory was refused.
 pub fn counts_of(alloc: Global, end: &BarEnd) -> Result<Vec<u8>, AllocError>
     ensures { IfOk result (λ text. text.items ≡ counts_text (end_shown end.now)) }
 {
@@ -143,9 +147,7 @@ pub fn counts_of(alloc: Global, end: &BarEnd) -> Result<Vec<u8>, AllocError>
     Ok(text)
 }
 
-/// The label of the end of an era.
-///
-/// An `Err` says that memory was refused.
+/// The label of the end of an era. An `Err` says that memory was refused.
 pub fn line_of(alloc: Global, line: &EraLine) -> Result<Vec<u8>, AllocError>
     ensures { IfOk result (λ text. text.items ≡ line_text line.now) }
 {
@@ -159,9 +161,8 @@ pub fn line_of(alloc: Global, line: &EraLine) -> Result<Vec<u8>, AllocError>
     Ok(text)
 }
 
-/// The words of a refusal, without `refused` and without the process that is its reason.
-///
-/// An `Err` says that memory was refused.
+/// The words of a refusal, without `refused` and without the process that is its reason. An `Err` says that memory was
+/// refused.
 pub fn refusal_of(alloc: Global, refusal: Refusal) -> Result<Vec<u8>, AllocError>
     ensures { IfOk result (λ text. text.items ≡ refusal_words refusal) }
 {
@@ -193,9 +194,7 @@ pub fn lane_of(refusal: Refusal) -> Option<u64>
     }
 }
 
-/// What an entry of the list of cells says: its words and its reply.
-///
-/// An `Err` says that memory was refused.
+/// What an entry of the list of cells says: its words and its reply. An `Err` says that memory was refused.
 pub fn cell_words(alloc: Global, cell: &CellBox) -> Result<Vec<u8>, AllocError>
     ensures { IfOk result (λ text. text.items ≡ cell_words (cell_shown cell.now)) }
 {
@@ -209,9 +208,7 @@ pub fn cell_words(alloc: Global, cell: &CellBox) -> Result<Vec<u8>, AllocError>
     Ok(text)
 }
 
-/// The state after a cell in at most 24 letters, where it is settled.
-///
-/// An `Err` says that memory was refused.
+/// The state after a cell in at most 24 letters, where it is settled. An `Err` says that memory was refused.
 pub fn cell_state(alloc: Global, cell: &CellBox) -> Result<Option<Vec<u8>>, AllocError>
     ensures { IfOk result (λ state. option_map (λ text. text.items) state
         ≡ cell_state (cell_shown cell.now)) }
@@ -257,9 +254,7 @@ fn push_helper(dots: &[Dot], cell: &CellBox, text: &mut Vec<u8>) -> Result<(), A
 }
 
 /// The number and the call of a cell, and the process that linked it, by the dots of the run, where that is another
-/// than the call's.
-///
-/// An `Err` says that memory was refused.
+/// than the call's. An `Err` says that memory was refused.
 pub fn cell_name(alloc: Global, dots: &[Dot], cell: &CellBox) -> Result<Vec<u8>, AllocError>
     ensures { IfOk result (λ text. text.items ≡ cell_name dots.now (cell_shown cell.now)) }
 {
@@ -269,9 +264,7 @@ pub fn cell_name(alloc: Global, dots: &[Dot], cell: &CellBox) -> Result<Vec<u8>,
     Ok(text)
 }
 
-/// The title of a picture.
-///
-/// An `Err` says that memory was refused.
+/// The title of a picture. An `Err` says that memory was refused.
 pub fn title_of(alloc: Global, marks: &Marks) -> Result<Vec<u8>, AllocError>
     ensures { IfOk result (λ text. text.items ≡ title_text (marks_shown marks.now)) }
 {
@@ -283,5 +276,22 @@ pub fn title_of(alloc: Global, marks: &Marks) -> Result<Vec<u8>, AllocError>
     push_counted(&mut text, marks.bars.len() as u64, "call", "calls")?;
     write!(text, ", ").map_err(|_| AllocError)?;
     push_counted(&mut text, marks.events, "event", "events")?;
+    Ok(text)
+}
+
+/// The title of the mark of a step: its process, its call, which of the call's own steps it is, and what it does. An
+/// `Err` says that memory was refused.
+pub fn step_title(alloc: Global, step: StepMark) -> Result<Vec<u8>, AllocError>
+    ensures { IfOk result (λ text. text.items ≡ step_title step) }
+{
+    let mut text = Vec::new(alloc);
+    let process = step.process;
+    write!(
+        text,
+        "P{process}, call {process}.{}, step {}: ",
+        step.nth, step.number
+    )
+    .map_err(|_| AllocError)?;
+    text.extend_from_slice(meaning_of(step.kind).as_bytes())?;
     Ok(text)
 }

@@ -1,7 +1,7 @@
 //! The lines of a text.
 
 ghost use Rattle.std.specs.Prelude.{◌≡◌, ◌++◌, ◌+◌, ◌-◌, ◌≤◌, OnOk, length, map};
-ghost use Rattle.run_layout.specs.Wrapping.{last_space, fitting_len, after_space, lines_of};
+ghost use Rattle.run_layout.specs.Wording.{last_space, fitting_len, after_space, lines_of};
 
 use std::alloc::{AllocError, Global};
 
@@ -49,9 +49,7 @@ fn after_space(text: &[u8]) -> &[u8]
     }
 }
 
-/// Adds the lines of a text, of at most so many bytes each.
-///
-/// An `Err` says that memory was refused.
+/// Adds the lines of a text, of at most so many bytes each. An `Err` says that memory was refused.
 pub fn push_lines(
     alloc: Global,
     text: &[u8],

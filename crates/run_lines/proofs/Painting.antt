@@ -1,6 +1,5 @@
 -- Rows, stroke by stroke.
-use Rattle.run_lines.proofs.Vocabulary.{List, [], ap, fold, fold-append, get_or, length, letter_after, letter_at, sym, take, take_more, ℕ, ◌++◌, ◌+◌, ◌<◌, ◌∙◌, ◌∷◌, ◌≡◌}
-use Rattle.run_lines.specs.declared.canvas.Stroke.{Stroke}
+use Rattle.run_lines.proofs.Vocabulary.{List, Stroke, [], ap, fold, fold-append, get_or, length, letter_after, letter_at, sym, take, take_more, ℕ, ◌++◌, ◌+◌, ◌<◌, ◌∙◌, ◌∷◌, ◌≡◌}
 
 -- a letter after one more stroke
 pub letter_at_more : (strokes : List Stroke) (row column i : ℕ) (stroke : Stroke) → i < length strokes → stroke ≡ get_or strokes i stroke

@@ -1,14 +1,7 @@
 -- Rows of letters, upon which strokes are put one after the other.
-use Rattle.std.specs.Prelude.{◌≡◌, ℕ, ◌+◌, ◌-◌, ◌==◌, ◌&&◌, ◌||◌, if◌then◌else◌, nat_le, nat_lt, Bool}
-use Rattle.std.specs.Prelude.{List, [], ◌∷◌, ◌++◌, length, map, fold, slice_index, Some, Vec, codes, refl}
-use Rattle.std.specs.List.{range_with_len}
-use Rattle.std.specs.declared.alloc.Global.{Global}
-use Rattle.signs.specs.declared.sign.Look.{Look}
+use Rattle.std.specs.Prelude.{◌≡◌, ℕ, ◌+◌, ◌-◌, ◌==◌, ◌&&◌, ◌||◌, if◌then◌else◌, nat_le, nat_lt, Bool, List, [], ◌∷◌, ◌++◌, length, map, fold, slice_index, Some, Vec, codes, refl}
+use Rattle.run_lines.specs.Vocabulary.{range_with_len, Global, Look, Outline, Ink, Text, Bar, Line, Arrow, Stroke}
 use Rattle.signs.specs.declared.sign.Look.TheVariants as look
-use Rattle.signs.specs.Signs.{Outline}
-use Rattle.run_lines.specs.declared.canvas.Ink.{Ink}
-use Rattle.run_lines.specs.declared.canvas.Ink.TheVariants.{Text, Bar, Line, Arrow}
-use Rattle.run_lines.specs.declared.canvas.Stroke.{Stroke}
 
 -- a stroke stands in each row from `top` to before `bottom`, from a column on: a text, a bar that is so wide, a line, or the line of an
 -- arrow, which is behind what stands there

@@ -1,5 +1,4 @@
+pub mod Vocabulary
 pub mod Canvas
-pub mod Numbers
 pub mod Parts
-pub mod Sheet
 pub mod Lines

@@ -1,22 +1,32 @@
--- The strokes that the rows of a text are to have, sign by sign, from the lowest on.
-use Rattle.std.specs.Prelude.{◌≡◌, ℕ, ◌+◌, if◌then◌else◌, not, Bool, true, false, List, [], ◌∷◌, ◌++◌, None, codes, refl}
-use Rattle.std.specs.List.{filter, flat_map}
-use Rattle.std.specs.Fmt.{decimal}
+-- The strokes that the rows of a text are to have, sign by sign, from the lowest on, and the numbers of notes.
+use Rattle.std.specs.Prelude.{ℕ, ◌+◌, ◌==◌, if◌then◌else◌, Option, Some, None, ◌≡◌, not, Bool, true, false, List, [], ◌∷◌, ◌++◌, codes, refl}
+use Rattle.run_lines.specs.Vocabulary.{Remark, Heading, Note, Refused, PlacedRemark, Numbering, filter, flat_map, decimal, After, Meaning, StepKind, DecideAfter, RunMarks, Mark, Sign, after_events, part, signs_of, letter_of}
 use Rattle.signs.specs.declared.sign.Look.TheVariants as look
-use Rattle.signs.specs.declared.sign.Edge.TheVariants.{After}
-use Rattle.signs.specs.Signs.{Meaning}
-use Rattle.uni_core.specs.declared.stage.StepKind.{StepKind}
-use Rattle.uni_core.specs.declared.stage.StepKind.TheVariants.{DecideAfter}
-use Rattle.uni_script.specs.declared.remarks.Remark.{Remark}
-use Rattle.uni_script.specs.declared.remarks.Remark.TheVariants.{Heading, Note, Refused}
-use Rattle.uni_script.specs.declared.remarks.PlacedRemark.{PlacedRemark}
-use Rattle.run_replay.specs.Marks.{RunMarks}
-use Rattle.run_layout.specs.declared.marked.Mark.{Mark}
 use Rattle.run_layout.specs.declared.marked.Mark.TheVariants as mark
-use Rattle.run_layout.specs.Marked.{Sign, after_events, part, signs_of}
-use Rattle.run_layout.specs.Wording.{letter_of}
-use Rattle.run_lines.specs.declared.numbering.Numbering.{Numbering}
-use Rattle.run_lines.specs.Numbers.{no_notes, numbering_after}
+
+-- ---- the numbers of notes
+
+abbrev pub no_notes : Numbering
+no_notes = record { number = 0; last = None }
+
+-- the number of a note with so many events before it: that of the note just told, where no event stands between them, or the next one
+abbrev pub number_or_next : Option ℕ → (number before : ℕ) → ℕ
+number_or_next None number before = number + 1
+number_or_next (Some last) number before = if last == before then number else number + 1
+
+abbrev pub note_number : Numbering → (before : ℕ) → ℕ
+note_number numbering before = number_or_next numbering.last numbering.number before
+
+-- the numbering after one more remark: what is no note ends the run of notes that have one number
+abbrev pub numbered : Numbering → (before : ℕ) → Remark → Numbering
+numbered numbering before (Note text) = record { number = note_number numbering before; last = Some before }
+numbered numbering before (Heading text) = record { number = numbering.number; last = None }
+numbered numbering before (Refused command refusal) = record { number = numbering.number; last = None }
+
+abbrev pub numbering_after : Numbering → PlacedRemark → Numbering
+numbering_after numbering one = numbered numbering one.before one.remark
+
+-- ---- strokes
 
 -- the letter of a step: a small one where the step changed nothing
 abbrev pub step_letter : StepKind → (changed : Bool) → ℕ

@@ -1,9 +1,8 @@
 //! Rows of letters, upon which strokes are put one after the other.
-//! Where no more is said, an `Err` says that memory was refused.
 
 ghost use Rattle.std.specs.Prelude.{◌≡◌, ◌<◌, ℕ, IfOk, IfSome, length, map, slice_index};
-ghost use Rattle.run_lines.specs.Canvas.{is_in_row, letter_in, letter_over, letter_seen, outline_of, right_of};
-ghost use Rattle.run_lines.specs.Canvas.{row_of, rows_of, width_of};
+ghost use Rattle.run_lines.specs.Canvas.{is_in_row, letter_in, letter_over, letter_seen, outline_of, right_of, row_of};
+ghost use Rattle.run_lines.specs.Canvas.{rows_of, width_of};
 
 use signs::{Look, Seen, Span, holds};
 use std::alloc::{AllocError, Global};

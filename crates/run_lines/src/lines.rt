@@ -1,15 +1,10 @@
 //! From the bytes of a script to the lines that draw its run.
 
 ghost use Rattle.std.specs.Prelude.{◌≡◌, IfOk, IsErrOf, false};
-ghost use Rattle.uni_script.specs.Objects.{spoken};
-ghost use Rattle.uni_script.specs.Replay.{HasFault, IsFaultOfScript};
-ghost use Rattle.uni_script.specs.Scripts.{scripts_of, own_scripts_of};
-ghost use Rattle.uni_script.specs.declared.fault.BenchFault.{BenchFault as Fault};
-ghost use Rattle.run_replay.specs.Marks.{marks_shown};
-ghost use Rattle.run_layout.specs.Choice.{chosen, chosen_remarks};
-ghost use Rattle.run_layout.specs.Subject.{HasTooManyEvents, HasMoreEvents, marks_of_own};
-ghost use Rattle.run_lines.specs.Lines.{IsLines, IsLinesOf};
-ghost use Rattle.run_lines.specs.Sheet.{IsTextOf};
+ghost use Rattle.run_lines.specs.Vocabulary.{spoken, HasFault, IsFaultOfScript, scripts_of, own_scripts_of, Fault};
+ghost use Rattle.run_lines.specs.Vocabulary.{marks_shown, chosen, chosen_remarks, HasTooManyEvents, HasMoreEvents};
+ghost use Rattle.run_lines.specs.Vocabulary.{marks_of_own};
+ghost use Rattle.run_lines.specs.Lines.{IsLines, IsLinesOf, IsTextOf};
 
 use crate::sheet::{sketch_of, tried};
 use ready_objects::Spoken;
@@ -17,9 +12,8 @@ use run_layout::{PictureFault, Range, Subject, subject_of, subject_of_object};
 use std::alloc::Global;
 use uni_script::TextIn;
 
-/// The lines of what a picture shows where these events are chosen.
-///
-/// An `Err` is `Misdrawn` where what is drawn does not show it, or says that memory was refused.
+/// The lines of what a picture shows where these events are chosen. An `Err` is `Misdrawn` where what is drawn does not
+/// show it, or says that memory was refused.
 fn text_of_subject(
     alloc: Global,
     range: Range,
@@ -37,11 +31,10 @@ fn text_of_subject(
 }
 
 /// The run of the script that a reader has, where these events are chosen, as lines for a terminal of so many columns.
-/// A block has at least one column behind the names of lanes, and at most 1,000.
-///
-/// An `Err` is the first fault of the script; `Read` where the reader failed; `Memory` where memory was
-/// refused; `TooManyEvents` of a good script of which more than 2,000 events are chosen; or `Misdrawn` where what is
-/// drawn of its run does not show its marks, of which no script is known.
+/// A block has at least one column behind the names of lanes, and at most 1,000. An `Err` is the first fault of the
+/// script; `Read` where the reader failed; `Memory` where memory was refused; `TooManyEvents` of a good script of which
+/// more than 2,000 events are chosen; or `Misdrawn` where what is drawn of its run does not show its marks, of which no
+/// script is known.
 pub fn lines_of<I: TextIn>(
     alloc: Global,
     range: Range,
@@ -58,9 +51,7 @@ pub fn lines_of<I: TextIn>(
     text_of_subject(alloc, range, columns, subject)
 }
 
-/// The same of a script over an object, whose header names the object by this word, as for
-/// `uni_script::bench_object`.
-///
+/// The same of a script over an object, whose header names the object by this word, as for `uni_script::bench_object`.
 /// The errors are those of `lines_of`.
 pub fn lines_of_object<O: Spoken + Copy, I: TextIn>(
     alloc: Global,

@@ -1,16 +1,10 @@
 //! The strokes that signs are to have, from the lowest on.
-//! Where no more is said, an `Err` says that memory was refused.
 
-ghost use Rattle.std.specs.Prelude.{◌≡◌, ◌++◌, ◌∷◌, IfOk, OnOk, map};
-ghost use Rattle.std.specs.List.{flat_map};
-ghost use Rattle.signs.specs.Signs.{meaning};
-ghost use Rattle.run_replay.specs.Marks.{marks_shown};
-ghost use Rattle.run_layout.specs.Marked.{sign_shown};
-ghost use Rattle.run_lines.specs.Numbers.{no_notes};
-ghost use Rattle.run_lines.specs.Parts.{is_arrow, layered, number_parts, numbers_from, parts_of, parts_of_run};
-ghost use Rattle.run_lines.specs.Parts.{step_letter};
+ghost use Rattle.std.specs.Prelude.{◌≡◌, ◌++◌, ◌∷◌, ◌+◌, ◌<◌, ◌≤◌, ◌^◌, IfOk, OnOk, map};
+ghost use Rattle.run_lines.specs.Vocabulary.{flat_map, meaning, marks_shown, sign_shown};
+ghost use Rattle.run_lines.specs.Parts.{no_notes, numbering_after, is_arrow, layered, number_parts, numbers_from};
+ghost use Rattle.run_lines.specs.Parts.{parts_of, parts_of_run, step_letter};
 
-use crate::numbering::Numbering;
 use run_layout::{Mark, Sign, after_events, letter_of, push_part, signs_of};
 use run_replay::Marks;
 use signs::{Edge, Look, Part};
@@ -18,6 +12,42 @@ use std::alloc::{AllocError, Global};
 use std::io::Write;
 use uni_core::StepKind;
 use uni_script::{PlacedRemark, Remark};
+
+/// How far the notes of a run are numbered.
+#[derive(Clone, Copy)]
+pub struct Numbering {
+    /// The number of the last note, from 1; 0 before all notes.
+    pub number: u64,
+    /// How many events stand before the remark just told, where that is a note.
+    pub last: Option<u64>,
+}
+
+impl Numbering {
+    /// Before all notes.
+    pub fn none() -> Numbering
+        ensures { result ≡ no_notes }
+    {
+        Numbering {
+            number: 0,
+            last: None,
+        }
+    }
+
+    /// After one more remark: notes that nothing stands between have one number.
+    pub fn after(self, one: &PlacedRemark) -> Numbering
+        ensures small { result.number ≤ self.number + 1 }
+        ensures after { self.number + 1 < 2 ^ 64 → result ≡ numbering_after self one.now }
+    {
+        match (&one.remark, self.last) {
+            (Remark::Note(_), Some(last)) if last == one.before => self,
+            (Remark::Note(_), _) => Numbering {
+                number: self.number.saturating_add(1),
+                last: Some(one.before),
+            },
+            _ => Numbering { last: None, ..self },
+        }
+    }
+}
 
 /// The letter of a step: a small one where the step changed nothing.
 pub fn step_letter(kind: StepKind, changed: bool) -> u8
@@ -83,13 +113,8 @@ fn push_parts(alloc: Global, sign: &Sign, parts: &mut Vec<Part>) -> Result<(), A
         Mark::Bar | Mark::Open => push_part(alloc, sign, Look::Bar, &[], parts),
         Mark::Down | Mark::Up => push_part(alloc, sign, Look::Arrow, &[], parts),
         Mark::Step(kind, changed) => {
-            push_part(
-                alloc,
-                sign,
-                Look::Text,
-                &[step_letter(kind, changed)],
-                parts,
-            )
+            let letter = step_letter(kind, changed);
+            push_part(alloc, sign, Look::Text, &[letter], parts)
         }
         Mark::Dot => push_part(alloc, sign, Look::Text, b"*", parts),
         Mark::Refusal => {
@@ -97,17 +122,6 @@ fn push_parts(alloc: Global, sign: &Sign, parts: &mut Vec<Part>) -> Result<(), A
             push_part(alloc, sign, Look::Text, &text, parts)
         }
     }
-}
-
-/// Adds the strokes that signs are to have.
-fn push_all_parts(alloc: Global, signs: &[Sign], parts: &mut Vec<Part>) -> Result<(), AllocError>
-    ensures { OnOk result (map meaning parts.new.items
-        ≡ map meaning parts.old.items ++ flat_map parts_of (map sign_shown signs.now)) }
-{
-    for sign in signs {
-        push_parts(alloc, sign, parts)?;
-    }
-    Ok(())
 }
 
 /// Adds the number of a note, where the events before it are over.
@@ -159,8 +173,9 @@ pub fn parts_of_run(
     ensures { IfOk result (λ parts. map meaning parts.items ≡ parts_of_run (marks_shown marks.now) remarks.now) }
 {
     let mut parts = Vec::new(alloc);
-    let signs = layered(alloc, signs_of(alloc, marks, remarks)?)?;
-    push_all_parts(alloc, &signs, &mut parts)?;
+    for sign in &layered(alloc, signs_of(alloc, marks, remarks)?)? {
+        push_parts(alloc, sign, &mut parts)?;
+    }
     push_numbers(alloc, remarks, &mut parts)?;
     Ok(parts)
 }

@@ -1,12 +1,9 @@
-//! The whole text. Where no more is said, an `Err` says that memory was refused.
+//! The whole text.
 
 ghost use Rattle.std.specs.Prelude.{◌≡◌, ◌++◌, IfOk, IsErrOf, IsTrue, OnOk, map, take};
-ghost use Rattle.std.specs.List.{flat_map};
-ghost use Rattle.signs.specs.Signs.{meaning, places_shown};
-ghost use Rattle.uni_script.specs.declared.fault.BenchFault.{BenchFault as Fault};
-ghost use Rattle.run_replay.specs.Marks.{marks_shown};
-ghost use Rattle.run_lines.specs.Sheet.{AreSide, HasText, IsTextOf, ShowsRows, block_text, bottom_row, part_of};
-ghost use Rattle.run_lines.specs.Sheet.{row_name, row_text, rows_text_of, trimmed};
+ghost use Rattle.run_lines.specs.Vocabulary.{flat_map, meaning, places_shown, Fault, marks_shown};
+ghost use Rattle.run_lines.specs.Lines.{AreSide, HasText, IsTextOf, ShowsRows, block_text, bottom_row, part_of};
+ghost use Rattle.run_lines.specs.Lines.{row_name, row_text, rows_text_of, trimmed};
 
 use crate::canvas::{Stroke, rows_of};
 use crate::parts::{layered, parts_of_run};
@@ -85,9 +82,8 @@ fn trimmed(text: &[u8]) -> &[u8]
     &text[..end]
 }
 
-/// Adds a row behind the name of its lane, without the blanks at its end; above the lanes a blank one is
-/// left out.
-#[tactic(auto, unfolding(crate::specs::Sheet::row_text))]
+/// Adds a row behind the name of its lane, without the blanks at its end; above the lanes a blank one is left out.
+#[tactic(auto, unfolding(crate::specs::Lines::row_text))]
 fn push_row(
     alloc: Global,
     named: u64,
@@ -162,7 +158,6 @@ fn blocks_of(
 }
 
 /// Draws the marks of a run in rows, told in blocks of at most so many columns, with what was told beside its events.
-///
 /// An `Err` says that memory was refused.
 pub fn sketch_of(
     alloc: Global,
@@ -240,13 +235,8 @@ fn push_block(
     text.push(b'\n')?;
     let drawn = rows_drawn(rows, block.lanes);
     for (row, letters) in drawn.iter().enumerate() {
-        push_row(
-            alloc,
-            block.named,
-            row as u64,
-            part_of(letters, block),
-            text,
-        )?;
+        let part = part_of(letters, block);
+        push_row(alloc, block.named, row as u64, part, text)?;
     }
     Ok(())
 }
@@ -295,9 +285,7 @@ fn text_of(
 }
 
 /// The text of a sketch for a terminal of so many columns, where it shows the marks of a run with what was told beside
-/// its events.
-///
-/// An `Err` is `Misdrawn` where it does not, or says that memory was refused.
+/// its events. An `Err` is `Misdrawn` where it does not, or says that memory was refused.
 pub fn tried(
     alloc: Global,
     columns: u64,

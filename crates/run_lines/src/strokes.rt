@@ -1,8 +1,7 @@
-//! The strokes of signs, from the lowest on. Where no more is said, an `Err` says that memory was refused.
+//! The strokes of signs, from the lowest on.
 
 use crate::canvas::{Ink, Stroke};
-use crate::numbering::Numbering;
-use crate::parts::{refusal_text, step_letter};
+use crate::parts::{Numbering, refusal_text, step_letter};
 use run_layout::{Axis, Mark, Sign, letters};
 use signs::Layout;
 use std::alloc::{AllocError, Global};
@@ -67,13 +66,8 @@ fn push_sign(
             push_ink(strokes, ABOVE - 1, 0, left, Ink::Text(text))
         }
         Mark::Bar | Mark::Open => {
-            push_ink(
-                strokes,
-                row,
-                1,
-                left,
-                Ink::Bar(wide.to.saturating_sub(left)),
-            )
+            let ink = Ink::Bar(wide.to.saturating_sub(left));
+            push_ink(strokes, row, 1, left, ink)
         }
         Mark::Down => {
             let rows = (row.saturating_add(2), lower.saturating_add(2));

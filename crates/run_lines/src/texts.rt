@@ -1,13 +1,12 @@
 //! What stands above and below the rows: headings, notes, eras and the legend.
-//! Where no more is said, an `Err` says that memory was refused.
 
 ghost use Rattle.std.specs.Prelude.{◌≡◌, ◌++◌, ◌+◌, ◌<◌, ◌^◌, IfOk, OnOk, map, option_map};
-ghost use Rattle.run_replay.specs.Marks.{cell_shown, era_shown};
-ghost use Rattle.run_lines.specs.Numbers.{no_notes};
-ghost use Rattle.run_lines.specs.Sheet.{ended, wrapped, padded, headings_text, numbered_note, notes_from, state_text};
-ghost use Rattle.run_lines.specs.Sheet.{cell_line, era_text, eras_from};
+ghost use Rattle.run_lines.specs.Vocabulary.{cell_shown, era_shown};
+ghost use Rattle.run_lines.specs.Parts.{no_notes};
+ghost use Rattle.run_lines.specs.Lines.{ended, wrapped, padded, headings_text, numbered_note, notes_from, state_text};
+ghost use Rattle.run_lines.specs.Lines.{cell_line, era_text, eras_from};
 
-use crate::numbering::Numbering;
+use crate::parts::Numbering;
 use run_layout::{cell_name, cell_state, cell_words, letter_of, meaning_of, push_lines};
 use run_replay::{CellBox, Dot, Era};
 use std::alloc::{AllocError, Global};
@@ -207,12 +206,8 @@ pub fn legend_of(
         }
     }
     if unchanged {
-        push_wrapped(
-            alloc,
-            columns,
-            b"a small letter: that step changed nothing",
-            &mut legend,
-        )?;
+        let meaning = b"a small letter: that step changed nothing";
+        push_wrapped(alloc, columns, meaning, &mut legend)?;
     }
     push_wrapped(alloc, columns, SIGNS.as_bytes(), &mut legend)?;
     Ok(legend)

@@ -1,3 +1,3 @@
+pub mod Vocabulary
 pub mod Parts
-pub mod Drawn
 pub mod Picture

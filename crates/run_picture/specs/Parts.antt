@@ -1,17 +1,9 @@
 -- The shapes that the strip of an SVG is to have, sign by sign, from the lowest on, and those of the boxes of cells.
 use Rattle.std.specs.Prelude.{◌≡◌, ℕ, ◌+◌, ◌==◌, if◌then◌else◌, Bool, true, false, List, [], ◌∷◌, ◌++◌, map, Some, None, option_map, codes, refl}
-use Rattle.std.specs.Fmt.{decimal}
-use Rattle.std.specs.Option.{option_map_or}
-use Rattle.signs.specs.declared.sign.Look.{Look}
+use Rattle.run_picture.specs.Vocabulary.{decimal, option_map_or, Look, Meaning, Dot, Cell, EraMarks, Mark, Sign, part, part_in, cell_name, cell_state, cell_words, letter_of}
 use Rattle.signs.specs.declared.sign.Look.TheVariants as look
 use Rattle.signs.specs.declared.sign.Edge.TheVariants as edge
-use Rattle.signs.specs.Signs.{Meaning}
-use Rattle.run_replay.specs.declared.marks.Dot.{Dot}
-use Rattle.run_replay.specs.Marks.{Cell, EraMarks}
-use Rattle.run_layout.specs.declared.marked.Mark.{Mark}
 use Rattle.run_layout.specs.declared.marked.Mark.TheVariants as mark
-use Rattle.run_layout.specs.Marked.{Sign, part, part_in}
-use Rattle.run_layout.specs.Wording.{cell_name, cell_state, cell_words, letter_of}
 
 -- a mark of a step is pale where the step changed nothing
 abbrev pub step_look : (changed : Bool) → Look

@@ -1,4 +1,4 @@
-//! The list of cells, era by era, below the lanes. Each `Err` says that memory was refused.
+//! The list of cells, era by era, below the lanes.
 
 ghost use Rattle.std.specs.Prelude.{◌<◌, ◌^◌, ◌+◌};
 
@@ -83,11 +83,8 @@ fn push_link(sheet: &mut Sheet, left: u64) -> Result<(), AllocError> {
 
 /// How wide the box of some lines is.
 fn box_width(lines: &[Vec<u8>]) -> u64 {
-    let mut widest = 0;
-    for line in lines {
-        widest = width_of(line).max(widest);
-    }
-    widest.saturating_add(2 * INSIDE)
+    let widest = lines.iter().map(|line| width_of(line)).max();
+    widest.unwrap_or(0).saturating_add(2 * INSIDE)
 }
 
 /// Adds a box with lines of text; the answer is where it ends.

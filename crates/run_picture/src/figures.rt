@@ -1,9 +1,8 @@
-//! A sheet, and the shapes of which a picture is made. Each `Err` says that memory was refused.
+//! A sheet, and the shapes of which a picture is made.
 
-use crate::paint::letter_paint;
 use run_layout::{letter_of, letters};
 use std::alloc::{AllocError, Global};
-use svg_text::{Anchor, Paint, Shape, Spot};
+use svg_text::{Anchor, Colour, Paint, Shape, Spot};
 use uni_core::StepKind;
 
 /// How wide a letter is.
@@ -12,6 +11,37 @@ pub const LETTER: u64 = 8;
 /// How wide a text is, where each letter is so wide.
 pub fn width_of(text: &[u8]) -> u64 {
     letters(text).saturating_mul(LETTER)
+}
+
+/// The colour of the mark of a step: one for each phase of a call.
+fn colour_of(kind: StepKind) -> Colour {
+    match kind {
+        StepKind::Announce => Colour::Orange,
+        StepKind::ScanHead | StepKind::ScanSeq | StepKind::WriteScan => Colour::SkyBlue,
+        StepKind::Test => Colour::Yellow,
+        StepKind::ReadAnnounce | StepKind::ReadHelpSeq => Colour::Green,
+        StepKind::DecideAfter => Colour::Vermilion,
+        StepKind::DecideNew | StepKind::WriteBefore | StepKind::WriteSeq | StepKind::WriteHead =>
+            Colour::Purple,
+        StepKind::Finish => Colour::Blue,
+    }
+}
+
+/// How the mark of a step is painted: it is pale where the step changed nothing.
+pub fn mark_paint(kind: StepKind, changed: bool) -> Paint {
+    if changed {
+        Paint::Mark(colour_of(kind))
+    } else {
+        Paint::Pale(colour_of(kind))
+    }
+}
+
+/// How the letter of a step is painted upon its mark.
+fn letter_paint(kind: StepKind, changed: bool) -> Paint {
+    match (kind, changed) {
+        (StepKind::Finish | StepKind::DecideAfter, true) => Paint::LightLetter,
+        _ => Paint::DarkLetter,
+    }
 }
 
 /// Where the tip of an arrow points.

@@ -1,4 +1,4 @@
-//! Lanes. Each `Err` says that memory was refused.
+//! Lanes.
 
 use crate::figures::Sheet;
 use run_layout::{MOST_LANES, Stretch, name_of};

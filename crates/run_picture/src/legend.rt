@@ -1,8 +1,7 @@
-//! The legend. Each `Err` says that memory was refused.
+//! The legend.
 
-use crate::figures::{Sheet, Toward};
+use crate::figures::{Sheet, Toward, mark_paint};
 use crate::lanes::MARGIN;
-use crate::paint::mark_paint;
 use run_layout::meaning_of;
 use std::alloc::AllocError;
 use svg_text::{Colour, Paint, Shape, Spot};

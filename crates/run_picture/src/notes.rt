@@ -1,4 +1,4 @@
-//! What is told beside the events: headings, captions and refusals. Each `Err` says that memory was refused.
+//! What is told beside the events: headings, captions and refusals.
 
 use crate::figures::{LETTER, Sheet, Toward};
 use crate::lanes::{MARGIN, START};
@@ -72,10 +72,8 @@ fn beside(width: u64, stem: Spot, text: &[u8]) -> (Spot, usize) {
     let room = room_of(text);
     let right = stem.by(STEM_GAP + MARGIN, 0).x;
     if right.saturating_add(room) <= width {
-        (
-            stem.by(STEM_GAP, 0),
-            (width.saturating_sub(right) / LETTER) as usize,
-        )
+        let most = (width.saturating_sub(right) / LETTER) as usize;
+        (stem.by(STEM_GAP, 0), most)
     } else {
         (stem.back(room, 0).back(STEM_GAP, 0), LEAST_LETTERS)
     }
@@ -104,10 +102,8 @@ fn captions_in(
     let mut at = sheet.below(START, MARGIN);
     let (first, told) = told_in(axis, row, remarks);
     for (i, one) in told.iter().enumerate() {
-        let stem = at.by(
-            stem_of(axis, first.saturating_add(i)).saturating_sub(row.from),
-            0,
-        );
+        let stem = stem_of(axis, first.saturating_add(i)).saturating_sub(row.from);
+        let stem = at.by(stem, 0);
         let text = note_text(&one.remark);
         let (left, most) = beside(sheet.width, stem, text);
         let mut lines = Vec::new(sheet.alloc);

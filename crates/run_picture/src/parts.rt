@@ -1,11 +1,7 @@
 //! The shapes that a drawing is to have, from the lowest on.
-//! Where no more is said, an `Err` says that memory was refused.
 
 ghost use Rattle.std.specs.Prelude.{◌≡◌, ◌++◌, ◌∷◌, [], ◌+◌, ◌<◌, ◌^◌, IfOk, OnOk, map};
-ghost use Rattle.std.specs.List.{flat_map};
-ghost use Rattle.signs.specs.Signs.{meaning};
-ghost use Rattle.run_replay.specs.Marks.{cell_shown, era_shown};
-ghost use Rattle.run_layout.specs.Marked.{sign_shown};
+ghost use Rattle.run_picture.specs.Vocabulary.{flat_map, meaning, cell_shown, era_shown, sign_shown};
 ghost use Rattle.run_picture.specs.Parts.{anchor_lines, box_parts, cell_lines, cell_parts, era_parts, eras_from};
 ghost use Rattle.run_picture.specs.Parts.{anywhere, era_name, is_next, parts_of, step_look};
 

@@ -1,27 +1,78 @@
-//! From the bytes of a script to the text of its picture.
+//! A drawing is tried before it becomes a picture, and a picture is made of the bytes of a script.
 
-ghost use Rattle.std.specs.Prelude.{◌≡◌, IfOk, IsErrOf, false};
-ghost use Rattle.uni_script.specs.Objects.{spoken};
-ghost use Rattle.uni_script.specs.Replay.{HasFault, IsFaultOfScript};
-ghost use Rattle.uni_script.specs.Scripts.{scripts_of, own_scripts_of};
-ghost use Rattle.uni_script.specs.declared.fault.BenchFault.{BenchFault as Fault};
-ghost use Rattle.run_replay.specs.Marks.{marks_shown};
-ghost use Rattle.run_layout.specs.Choice.{chosen, chosen_remarks};
-ghost use Rattle.run_layout.specs.Subject.{HasTooManyEvents, HasMoreEvents, marks_of_own};
-ghost use Rattle.run_picture.specs.Drawn.{IsSvgOf};
-ghost use Rattle.run_picture.specs.Picture.{IsPicture, IsPictureOf};
+ghost use Rattle.std.specs.Prelude.{◌≡◌, ◌-◌, IfOk, IsErrOf, IsTrue, false, map};
+ghost use Rattle.run_picture.specs.Vocabulary.{spoken, HasFault, IsFaultOfScript, scripts_of, own_scripts_of, Fault};
+ghost use Rattle.run_picture.specs.Vocabulary.{marks_shown, chosen, chosen_remarks, HasTooManyEvents, HasMoreEvents};
+ghost use Rattle.run_picture.specs.Vocabulary.{marks_of_own, meaning, places_shown};
+ghost use Rattle.run_picture.specs.Picture.{HasBoxes, IsDrawingOf, IsStripOf, IsSvgOf, IsPicture, IsPictureOf};
 
-use crate::sheet::draw;
-use crate::trial::tried;
+use crate::parts::{boxes_of, parts_of};
+use crate::sheet::{Drawn, draw};
 use ready_objects::Spoken;
-use run_layout::{PictureFault, Range, Subject, subject_of, subject_of_object};
+use run_layout::{PictureFault, Range, Subject, signs_of, subject_of, subject_of_object, title_of};
+use run_replay::Marks;
+use signs::{Layout, Part, are_shown, are_within, fill};
 use std::alloc::Global;
-use svg_text::svg_of;
-use uni_script::TextIn;
+use svg_text::{Drawing, svg_of};
+use uni_script::{PlacedRemark, TextIn};
 
-/// The SVG of what a picture shows where these events are chosen.
-///
-/// An `Err` is `Misdrawn` where the drawing does not show it, or says that memory was refused.
+/// Whether the strip of a drawing has these shapes, and the views show all of it from a place on.
+fn is_strip(layout: &Layout, start: u64, parts: &[Part], drawing: &Drawing) -> bool
+    ensures { IsTrue result → IsStripOf (places_shown layout.now) (map meaning parts.now) drawing.now }
+{
+    layout.is_apart()
+        && are_shown(layout, parts, &drawing.strip)
+        && are_within(layout.width, layout.height, &drawing.strip)
+        && fill(start, layout.width, &drawing.shapes)
+}
+
+/// Whether these shapes of a drawing are these boxes.
+fn has_boxes(alloc: Global, from: usize, to: usize, parts: &[Part], drawing: &Drawing) -> bool
+    ensures { IsTrue result → HasBoxes (map meaning parts.now) drawing.now }
+{
+    let sheet = Layout {
+        columns: Vec::new(alloc),
+        lanes: Vec::new(alloc),
+        width: drawing.width,
+        height: drawing.height,
+    };
+    from <= to && to <= drawing.shapes.len() && are_shown(&sheet, parts, &drawing.shapes[from..to])
+}
+
+/// The drawing of the marks of a run, with what was told beside its events, where it shows them. An `Err` is `Misdrawn`
+/// where it does not, or says that memory was refused.
+pub fn tried(
+    alloc: Global,
+    marks: &Marks,
+    remarks: &[PlacedRemark],
+    drawn: Drawn,
+) -> Result<Drawing, PictureFault>
+    ensures drawing { IfOk result (λ drawing. drawing ≡ drawn.drawing) }
+    ensures shown { IfOk result (λ drawing. IsDrawingOf (marks_shown marks.now) remarks.now drawing) }
+    ensures few { IsErrOf result PictureFault.TooManyEvents → ⊥ }
+    ensures memory { (e : Fault) → IsErrOf result (PictureFault.Script e) → e ≡ Fault.Memory }
+{
+    let Drawn {
+        drawing,
+        layout,
+        start,
+        boxes,
+    } = drawn;
+    let parts = parts_of(alloc, &signs_of(alloc, marks, remarks)?)?;
+    let cells = boxes_of(alloc, &marks.dots, &marks.eras)?;
+    let title = title_of(alloc, marks)?;
+    if drawing.title.as_slice() != title.as_slice()
+        || !is_strip(&layout, start, &parts, &drawing)
+        || !has_boxes(alloc, boxes.0, boxes.1, &cells, &drawing)
+        || !are_within(drawing.width, drawing.height, &drawing.shapes)
+    {
+        return Err(PictureFault::Misdrawn);
+    }
+    Ok(drawing)
+}
+
+/// The SVG of what a picture shows where these events are chosen. An `Err` is `Misdrawn` where the drawing does not
+/// show it, or says that memory was refused.
 #[tactic(auto, using(crate::proofs::Looking::svg_of_drawing))]
 fn svg_of_subject(alloc: Global, range: Range, subject: Subject) -> Result<Vec<u8>, PictureFault>
     ensures svg { IfOk result (λ svg. IsSvgOf (chosen range (marks_shown subject.marks))
@@ -35,11 +86,10 @@ fn svg_of_subject(alloc: Global, range: Range, subject: Subject) -> Result<Vec<u
     Ok(svg_of(alloc, &drawing)?)
 }
 
-/// The picture of the run of the script that a reader has, where these events are chosen, as the text of an SVG.
-///
-/// An `Err` is the first fault of the script; `Read` where the reader failed; `Memory` where memory was
-/// refused; `TooManyEvents` of a good script of which more than 2,000 events are chosen; or `Misdrawn` where the
-/// drawing of its run does not show its marks, of which no script is known.
+/// The picture of the run of the script that a reader has, where these events are chosen, as the text of an SVG. An
+/// `Err` is the first fault of the script; `Read` where the reader failed; `Memory` where memory was refused;
+/// `TooManyEvents` of a good script of which more than 2,000 events are chosen; or `Misdrawn` where the drawing of its
+/// run does not show its marks, of which no script is known.
 pub fn picture_of<I: TextIn>(
     alloc: Global,
     range: Range,
@@ -55,9 +105,7 @@ pub fn picture_of<I: TextIn>(
     svg_of_subject(alloc, range, subject)
 }
 
-/// The same of a script over an object, whose header names the object by this word, as for
-/// `uni_script::bench_object`.
-///
+/// The same of a script over an object, whose header names the object by this word, as for `uni_script::bench_object`.
 /// The errors are those of `picture_of`.
 pub fn picture_of_object<O: Spoken + Copy, I: TextIn>(
     alloc: Global,

@@ -1,4 +1,4 @@
-//! The rows of a picture: parts of the strip, one below the other. Each `Err` says that memory was refused.
+//! The rows of a picture: parts of the strip, one below the other.
 
 use crate::figures::Sheet;
 use crate::lanes::{MARGIN, START, lane_middle, lane_top};
@@ -27,35 +27,21 @@ fn reaching(alloc: Global, labels: &[Span]) -> Result<Vec<Span>, AllocError> {
 /// Whether an edge goes through one of the labels that these reach over.
 fn is_cut(edge: u64, labels: &[Span]) -> bool {
     let begun = labels.partition_point(|label| label.from < edge);
-    match labels[..begun].last() {
-        Some(label) => edge < label.to,
-        None => false,
-    }
-}
-
-/// Adds the left edges of columns that go through no label.
-fn push_free_edges(
-    labels: &[Span],
-    columns: &[Span],
-    edges: &mut Vec<u64>,
-) -> Result<(), AllocError> {
-    for column in columns {
-        if !is_cut(column.from, labels) {
-            edges.push(column.from)?;
-        }
-    }
-    Ok(())
+    labels[..begun].last().is_some_and(|label| edge < label.to)
 }
 
 /// Where a row may end, in order: at the left edge of an event or of what is told that goes through none of these
 /// labels, and with the strip.
 fn edges_of(alloc: Global, labels: &[Span], axis: &Axis) -> Result<Vec<u64>, AllocError> {
     let labels = reaching(alloc, labels)?;
-    let mut edges = Vec::new(alloc);
     let columns = axis.layout.columns.as_slice();
     let events = &columns[..columns.len().saturating_sub(1)];
-    push_free_edges(&labels, events, &mut edges)?;
-    push_free_edges(&labels, &axis.remarks, &mut edges)?;
+    let mut edges: Vec<u64> = events
+        .iter()
+        .chain(axis.remarks.iter())
+        .map(|column| column.from)
+        .filter(|edge| !is_cut(*edge, &labels))
+        .collect(alloc)?;
     edges.push(axis.layout.width)?;
     edges.sort_unstable();
     Ok(edges)
@@ -89,7 +75,7 @@ pub fn rows_of(alloc: Global, labels: &[Span], axis: &Axis) -> Result<Vec<Span>,
 }
 
 /// Adds a row: its captions, the names of the lanes that there are where it begins, and its part of the strip.
-fn push_row(
+pub fn push_row(
     sheet: &mut Sheet,
     stretches: &[Stretch],
     remarks: &[PlacedRemark],
@@ -105,19 +91,5 @@ fn push_row(
     let height = lane_top(lanes_between(stretches, row.from, row.to.saturating_add(1)));
     sheet.push(Shape::View(sheet.below(START, 0), width, height, row.from))?;
     sheet.move_down(height);
-    Ok(())
-}
-
-/// Adds the rows of a run.
-pub fn push_rows(
-    sheet: &mut Sheet,
-    stretches: &[Stretch],
-    remarks: &[PlacedRemark],
-    axis: &Axis,
-    rows: &[Span],
-) -> Result<(), AllocError> {
-    for row in rows {
-        push_row(sheet, stretches, remarks, axis, *row)?;
-    }
     Ok(())
 }

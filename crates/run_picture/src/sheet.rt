@@ -1,11 +1,11 @@
-//! The whole picture, drawn and not yet tried. Where no more is said, an `Err` says that memory was refused.
+//! The whole picture, drawn and not yet tried.
 
 use crate::cells::push_cells;
 use crate::figures::Sheet;
 use crate::lanes::{LANE, MARGIN, START, TOP, push_eras};
 use crate::legend::push_legend;
 use crate::notes::{description_of, push_headings, push_rooms};
-use crate::rows::{push_rows, rows_of};
+use crate::rows::{push_row, rows_of};
 use crate::strip::{label_span, push_signs};
 use run_layout::{Axis, Scale, Side, Sign, any_unchanged, axis_of, kinds_of, signs_of, title_of};
 use run_replay::Marks;
@@ -57,19 +57,15 @@ fn labels_of(
     remarks: &[PlacedRemark],
     axis: &Axis,
 ) -> Result<Vec<Span>, AllocError> {
-    let mut labels = Vec::new(alloc);
-    for sign in signs {
-        if let Some(span) = label_span(&axis.layout, sign) {
-            labels.push(span)?;
-        }
-    }
+    let mut labels = signs
+        .iter()
+        .filter_map(|sign| label_span(&axis.layout, sign))
+        .collect(alloc)?;
     push_rooms(remarks, axis, &mut labels)?;
     Ok(labels)
 }
 
-/// Draws the marks of a run, with what was told beside its events.
-///
-/// An `Err` says that memory was refused.
+/// Draws the marks of a run, with what was told beside its events. An `Err` says that memory was refused.
 pub fn draw(alloc: Global, marks: &Marks, remarks: &[PlacedRemark]) -> Result<Drawn, AllocError> {
     let axis = axis_of(alloc, marks, remarks, SCALE)?;
     let stretches = axis.stretches(alloc, &marks.eras, START, Side::Middle)?;
@@ -84,7 +80,9 @@ pub fn draw(alloc: Global, marks: &Marks, remarks: &[PlacedRemark]) -> Result<Dr
     sheet.push(Shape::Text(at, Anchor::Start, Paint::Title, title))?;
     sheet.move_down(32);
     push_headings(&mut sheet, remarks)?;
-    push_rows(&mut sheet, &stretches, remarks, &axis, &rows)?;
+    for row in rows {
+        push_row(&mut sheet, &stretches, remarks, &axis, row)?;
+    }
     let first = sheet.shapes.len();
     push_cells(&mut sheet, &marks.dots, &marks.eras)?;
     let boxes = (first, sheet.shapes.len());

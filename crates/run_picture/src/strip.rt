@@ -1,8 +1,7 @@
-//! The shapes of signs, from the lowest on. Each `Err` says that memory was refused.
+//! The shapes of signs, from the lowest on.
 
-use crate::figures::{Sheet, Toward, width_of};
+use crate::figures::{Sheet, Toward, mark_paint, width_of};
 use crate::lanes::{LANE, TOP};
-use crate::paint::mark_paint;
 use run_layout::{Mark, Sign};
 use signs::{Layout, Span};
 use std::alloc::AllocError;
@@ -50,15 +49,14 @@ pub fn label_span(layout: &Layout, sign: &Sign) -> Option<Span> {
 fn push_step(
     strip: &mut Sheet,
     at: Spot,
-    middle: Spot,
     width: u64,
-    step: (StepKind, bool),
+    kind: StepKind,
+    changed: bool,
     title: Vec<u8>,
 ) -> Result<(), AllocError> {
-    let (kind, changed) = step;
-    let (at, width) = (at.by(1, STEP), width.saturating_sub(2));
-    strip.push(Shape::Titled(at, width, STEP_HEIGHT, mark_paint(kind, changed), title))?;
-    strip.push_letter(middle.by(0, STEP + 17), kind, changed)
+    let (from, inner) = (at.by(1, STEP), width.saturating_sub(2));
+    strip.push(Shape::Titled(from, inner, STEP_HEIGHT, mark_paint(kind, changed), title))?;
+    strip.push_letter(at.by(width / 2, STEP + 17), kind, changed)
 }
 
 /// Adds the arrow of help between two lanes, by the middle of its column at the top of each.
@@ -127,7 +125,7 @@ fn push_sign(
         Mark::Open => push_open_bar(strip, at, width),
         Mark::Down => push_arrow(strip, middle, lower, Toward::Down),
         Mark::Up => push_arrow(strip, middle, lower, Toward::Up),
-        Mark::Step(kind, changed) => push_step(strip, at, middle, width, (kind, changed), text),
+        Mark::Step(kind, changed) => push_step(strip, at, width, kind, changed, text),
         Mark::Dot => strip.push(Shape::Dot(middle.by(0, DOT))),
         Mark::Label => strip.push_label(at.by(0, LABEL), text),
         Mark::Counts => {

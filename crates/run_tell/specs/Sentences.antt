@@ -10,9 +10,9 @@ use Rattle.uni_script.specs.declared.answer.Refusal.{Refusal}
 use Rattle.uni_script.specs.declared.answer.Refusal.TheVariants.{Idle, Count}
 use Rattle.uni_script.specs.declared.remarks.Remark.{Remark}
 use Rattle.uni_script.specs.declared.remarks.Remark.TheVariants.{Heading, Note, Refused}
-use Rattle.run_layout.specs.Refusals.{refused_text}
+use Rattle.run_layout.specs.Wording.{refused_text}
 use Rattle.run_layout.specs.Wording.{counted_text, letter_of}
-use Rattle.run_layout.specs.Wrapping.{lines_of}
+use Rattle.run_layout.specs.Wording.{lines_of}
 use Rattle.run_replay.specs.Held.{Change, Field, Held, alone, cell_text, changes_between}
 use Rattle.run_replay.specs.Scenes.{Begun, Ended, Frame, Stepped, Begins, Steps, Ends}
 use Rattle.run_replay.specs.Scenes.{Start}

@@ -3,7 +3,9 @@ use Rattle.std.specs.Prelude.{◌≡◌, ℕ, ◌+◌, ◌<◌, ◌≤◌, List,
 use Rattle.std.specs.List.{All}
 use Rattle.svg_text.specs.declared.paint.Paint.{Paint}
 use Rattle.svg_text.specs.declared.paint.Paint.TheVariants.{Paper, Faint, Edge, Broken, Thick, Pale}
-use Rattle.svg_text.specs.Figures.{Figure, Rect, Titled, Line, Dot, Tip, Text, View}
+use Rattle.svg_text.specs.declared.shape.Shape.{Shape}
+use Rattle.svg_text.specs.declared.shape.Shape.TheVariants.{Rect, Titled, Line, Dot, Tip, Text, View}
+use Rattle.svg_text.specs.declared.shape.Spot.{Spot}
 use Rattle.signs.specs.declared.sign.Look.{Look}
 use Rattle.signs.specs.declared.sign.Look.TheVariants as look
 use Rattle.signs.specs.declared.sign.Edge.{Edge as Side}
@@ -77,40 +79,45 @@ line_look Broken = Some look.End
 line_look Thick = Some look.Arrow
 line_look _ = Some look.Cross
 
-abbrev pub look_of : Figure → Option Look
-look_of (Rect _ _ _ _ Paper) = None
-look_of (Rect _ _ _ _ _) = Some look.Bar
-look_of (Titled _ _ _ _ (Pale _) _) = Some look.Pale
-look_of (Titled _ _ _ _ _ _) = Some look.Step
-look_of (Line _ _ _ _ paint) = line_look paint
-look_of (Dot _ _) = Some look.Dot
-look_of (Tip _ _ _ _ _ _) = Some look.Tip
-look_of (Text _ _ _ _ _) = Some look.Text
-look_of (View _ _ _ _ _) = None
+abbrev pub look_of : Shape → Option Look
+look_of (Rect _ _ _ Paper) = None
+look_of (Rect _ _ _ _) = Some look.Bar
+look_of (Titled _ _ _ (Pale _) _) = Some look.Pale
+look_of (Titled _ _ _ _ _) = Some look.Step
+look_of (Line _ _ paint) = line_look paint
+look_of (Dot _) = Some look.Dot
+look_of (Tip _ _ _) = Some look.Tip
+look_of (Text _ _ _ _) = Some look.Text
+look_of (View _ _ _ _) = None
 
-abbrev pub text_of : Figure → List ℕ
-text_of (Titled _ _ _ _ _ title) = title
-text_of (Text _ _ _ _ text) = text
+abbrev pub text_of : Shape → List ℕ
+text_of (Titled _ _ _ _ title) = title.items
+text_of (Text _ _ _ text) = text.items
 text_of _ = []
 
 -- all corners, and the point at which a text stands
-abbrev pub corners_of : Figure → List (ℕ × ℕ)
-corners_of (Rect x y width height _) = (x, y) ∷ (x + width, y + height) ∷ []
-corners_of (Titled x y width height _ _) = (x, y) ∷ (x + width, y + height) ∷ []
-corners_of (Line x1 y1 x2 y2 _) = (x1, y1) ∷ (x2, y2) ∷ []
-corners_of (Dot x y) = (x, y) ∷ []
-corners_of (Tip x y x1 y1 x2 y2) = (x, y) ∷ (x1, y1) ∷ (x2, y2) ∷ []
-corners_of (Text x y _ _ _) = (x, y) ∷ []
-corners_of (View x y width height _) = (x, y) ∷ (x + width, y + height) ∷ []
+abbrev pub point : Spot → ℕ × ℕ
+point at = (at.x, at.y)
 
-abbrev pub outline_of : Figure → Outline
-outline_of figure = record { look = look_of figure; text = text_of figure; corners = corners_of figure }
+abbrev pub ends_of : Spot → (width height : ℕ) → List (ℕ × ℕ)
+ends_of at width height = point at ∷ (at.x + width, at.y + height) ∷ []
+
+abbrev pub corners_of : Shape → List (ℕ × ℕ)
+corners_of (Rect at width height _) = ends_of at width height
+corners_of (Titled at width height _ _) = ends_of at width height
+corners_of (Line one other _) = point one ∷ point other ∷ []
+corners_of (Dot at) = point at ∷ []
+corners_of (Tip at one other) = point at ∷ point one ∷ point other ∷ []
+corners_of (Text at _ _ _) = point at ∷ []
+corners_of (View at width height _) = ends_of at width height
+
+abbrev pub outline_of : Shape → Outline
+outline_of shape = record { look = look_of shape; text = text_of shape; corners = corners_of shape }
 
 -- no shape passes an edge
-abbrev pub AreWithin : (width height : ℕ) → List Figure → Type 0
-AreWithin width height [] = ⊤
-AreWithin width height (figure ∷ figures) =
-    IsWithin (record { from = 0; to = width }) (record { from = 0; to = height }) (outline_of figure) × AreWithin width height figures
+abbrev pub AreWithin : (width height : ℕ) → List Shape → Type 0
+AreWithin width height shapes =
+    All (λ shape. IsWithin (record { from = 0; to = width }) (record { from = 0; to = height }) (outline_of shape)) shapes
 
 -- ---- what it shows
 
@@ -138,10 +145,10 @@ pub data AreShown (places : Places) : List Meaning → List Outline → Type 0 w
 -- ---- the rows
 
 -- the views of a strip show all of it, from a place to another: each begins where the one before it ends
-abbrev pub Fills : (from to : ℕ) → List Figure → Type 0
+abbrev pub Fills : (from to : ℕ) → List Shape → Type 0
 Fills from to [] = from ≡ to
-Fills from to (View x y width height left ∷ figures) = (left ≡ from) × Fills (left + width) to figures
-Fills from to (_ ∷ figures) = Fills from to figures
+Fills from to (View _ width _ left ∷ shapes) = (left ≡ from) × Fills (left + width) to shapes
+Fills from to (_ ∷ shapes) = Fills from to shapes
 
 -- ---- what the code has
 
@@ -162,5 +169,5 @@ dot_of_second = refl
 lane_of_first : high_of two_of_one (Some (0, 0)) ≡ record { from = 10; to = 90 }
 lane_of_first = refl
 
-dot_shown : outline_of (Dot 35 50) ≡ record { look = Some look.Dot; text = []; corners = (35, 50) ∷ [] }
+dot_shown : outline_of (Dot (record { x = 35; y = 50 })) ≡ record { look = Some look.Dot; text = []; corners = (35, 50) ∷ [] }
 dot_shown = refl

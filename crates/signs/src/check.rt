@@ -1,7 +1,7 @@
 //! Whether a drawing shows what it is to show.
 
 ghost use Rattle.std.specs.Prelude.{◌≡◌, ◌∷◌, ℕ, IsTrue, IfSome, Some, List, drop, map};
-ghost use Rattle.svg_text.specs.Figures.{Figure, figure};
+ghost use Rattle.svg_text.specs.declared.shape.Shape.{Shape};
 ghost use Rattle.signs.specs.Signs.{AreApart, AreApartFrom, AreShown, AreWithin, Fills, IsWithin, Outline, Shows};
 ghost use Rattle.signs.specs.Signs.{meaning, places_shown};
 
@@ -54,19 +54,14 @@ impl Layout {
 
 /// Whether all shapes are within a width and a height.
 pub fn are_within(width: u64, height: u64, shapes: &[Shape]) -> bool
-    ensures { IsTrue result → AreWithin width height (map figure shapes.now) }
+    ensures { IsTrue result → AreWithin width height shapes.now }
 {
     let wide = Span { from: 0, to: width };
     let high = Span {
         from: 0,
         to: height,
     };
-    for shape in shapes {
-        if !shape.is_within(wide, high) {
-            return false;
-        }
-    }
-    true
+    shapes.iter().all(|shape| shape.is_within(wide, high))
 }
 
 /// Whether a shape of these looks is one that a mark is to have.
@@ -117,8 +112,8 @@ pub fn are_shown<S: Seen>(layout: &Layout, parts: &[Part], shapes: &[S]) -> bool
 /// Up to where a strip is shown by a shape and those before it, which show it up to a place; `None` where it
 /// leaves a gap.
 fn filled(end: u64, shape: &Shape) -> Option<u64>
-    ensures { IfSome result (λ after. (to : ℕ) (rest : List Figure)
-        → Fills after to rest → Fills end to (figure shape.now ∷ rest)) }
+    ensures { IfSome result (λ after. (to : ℕ) (rest : List Shape)
+        → Fills after to rest → Fills end to (shape.now ∷ rest)) }
 {
     match shape {
         Shape::View(_, width, _, left) if *left == end => end.checked_add(*width),
@@ -129,7 +124,7 @@ fn filled(end: u64, shape: &Shape) -> Option<u64>
 
 /// Whether the views of a strip show all of it, from a place to another.
 pub fn fill(from: u64, to: u64, shapes: &[Shape]) -> bool
-    ensures { IsTrue result → Fills from to (map figure shapes.now) }
+    ensures { IsTrue result → Fills from to shapes.now }
 {
     let mut end = from;
     for shape in shapes {

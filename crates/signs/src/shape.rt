@@ -1,7 +1,6 @@
 //! What is looked at of the shapes of an SVG.
 
 ghost use Rattle.std.specs.Prelude.{◌≡◌, ◌+◌, IsTrue};
-ghost use Rattle.svg_text.specs.Figures.{figure};
 ghost use Rattle.signs.specs.Signs.{Holds, line_look};
 
 use crate::check::Seen;
@@ -37,10 +36,9 @@ fn look_of_line(paint: Paint) -> Option<Look>
 }
 
 impl Seen for Shape {
-    ghost use Rattle.svg_text.specs.Figures.{figure};
     ghost use Rattle.signs.specs.Signs.{outline_of};
 
-    ghost seen = { λ shape. outline_of (figure shape) };
+    ghost seen = { λ shape. outline_of shape };
 
     fn look(&self) -> Option<Look> {
         match self {

@@ -1,4 +1,3 @@
 pub mod Vocabulary
 pub mod Escapes
-pub mod Names
 pub mod Trees

@@ -8,6 +8,8 @@ pub use Rattle.std.specs.List.{AllByRecursion, flat_map}
 pub use Rattle.std.specs.Prelude.{List, None, [], codes, false, if◌then◌else◌, refl, true, ℕ, ◌==◌, ◌∷◌, ◌≢◌}
 pub use Rattle.svg_text.specs.declared.paint.Colour.{Colour}
 pub use Rattle.svg_text.specs.declared.shape.Anchor.{Anchor}
-pub use Rattle.svg_text.specs.Figures.{Dot, Figure, Line, Picture, Rect, Text, Tip, Titled, View, figure}
-pub use Rattle.svg_text.specs.Svg.{anchor_name, code_of, figure_node, lines, strip_node, svg_node}
+pub use Rattle.svg_text.specs.declared.shape.Drawing.{Drawing}
+pub use Rattle.svg_text.specs.declared.shape.Shape.{Shape}
+pub use Rattle.svg_text.specs.declared.shape.Shape.TheVariants.{Dot, Line, Rect, Text, Tip, Titled, View}
+pub use Rattle.svg_text.specs.Svg.{anchor_name, code_of, shape_node, lines, strip_node, svg_node}
 pub use Rattle.svg_text.specs.Xml.{IsNoMarkup, are_well_named, escaped, escaped_byte, is_well_named, read_on, unescaped}

@@ -4,11 +4,13 @@ use Rattle.std.specs.Fmt.{decimal}
 use Rattle.svg_text.specs.declared.paint.Colour.{Colour}
 use Rattle.svg_text.specs.declared.paint.Colour.TheVariants.{Orange, SkyBlue, Green, Yellow, Blue, Vermilion, Purple}
 use Rattle.svg_text.specs.declared.paint.Paint.{Paint}
-use Rattle.svg_text.specs.declared.paint.Paint.TheVariants.{Paper, Frame, Ink, Title, DarkLetter, LightLetter, Faint, Edge, Broken, Thick}
-use Rattle.svg_text.specs.declared.paint.Paint.TheVariants.{Cross, Mark, Pale}
+use Rattle.svg_text.specs.declared.paint.Paint.TheVariants.{Paper, Frame, Ink, Title, DarkLetter, LightLetter, Faint, Edge, Broken, Thick, Cross, Mark, Pale}
 use Rattle.svg_text.specs.declared.shape.Anchor.{Anchor}
 use Rattle.svg_text.specs.declared.shape.Anchor.TheVariants as anchors
-use Rattle.svg_text.specs.Figures.{Figure, Rect, Titled, Line, Dot, Tip, Text, View, Picture}
+use Rattle.svg_text.specs.declared.shape.Spot.{Spot}
+use Rattle.svg_text.specs.declared.shape.Shape.{Shape}
+use Rattle.svg_text.specs.declared.shape.Shape.TheVariants.{Rect, Titled, Line, Dot, Tip, Text, View}
+use Rattle.svg_text.specs.declared.shape.Drawing.{Drawing}
 use Rattle.svg_text.specs.Xml.{Attribute, Node, Nodes, Element, Words, End, Then, attributes_onto, node_onto, nodes}
 pub use Rattle.svg_text.specs.Xml.{escaped}
 
@@ -27,12 +29,12 @@ anchor_name anchors.Start = codes "start"
 anchor_name anchors.Middle = codes "middle"
 anchor_name anchors.End = codes "end"
 
--- a point, and the part of the plane that is shown: from its top, and from a place on
-abbrev pub point : (x y : ℕ) → List ℕ
-point x y = decimal x ++ codes "," ++ decimal y
+abbrev pub point : Spot → List ℕ
+point at = decimal at.x ++ codes "," ++ decimal at.y
 
-abbrev pub view_box : (left width height : ℕ) → List ℕ
-view_box left width height = decimal left ++ codes " 0 " ++ decimal width ++ codes " " ++ decimal height
+-- the part of the plane that is shown: from its top, and from a place on
+abbrev pub view_box : (left : List ℕ) (width height : ℕ) → List ℕ
+view_box left width height = left ++ (codes " 0 " ++ (decimal width ++ (codes " " ++ decimal height)))
 
 abbrev pub attribute : (name value : List ℕ) → Attribute
 attribute name value = record { name = name; value = value }
@@ -73,42 +75,43 @@ paint_attributes (Pale c) = fill (code_of c) ∷ stroke (codes "#333333") ∷ at
 unfoldable pub paint_text : Paint → List ℕ
 paint_text paint = attributes_onto (paint_attributes paint) []
 
-abbrev pub figure_node : Figure → Node
-figure_node (Rect x y width height paint) =
-    Element (codes "rect") (number (codes "x") x ∷ number (codes "y") y ∷ number (codes "width") width
-    ∷ number (codes "height") height ∷ paint_attributes paint) End
-figure_node (Titled x y width height paint title) =
-    Element (codes "rect") (number (codes "x") x ∷ number (codes "y") y ∷ number (codes "width") width
-    ∷ number (codes "height") height ∷ paint_attributes paint)
-    (nodes (Element (codes "title") [] (nodes (Words title ∷ [])) ∷ []))
-figure_node (Line x1 y1 x2 y2 paint) =
-    Element (codes "line") (number (codes "x1") x1 ∷ number (codes "y1") y1 ∷ number (codes "x2") x2 ∷ number (codes "y2") y2
+-- where a rectangle stands, and how large it is
+abbrev pub box_attributes : Spot → (width height : ℕ) → List Attribute → List Attribute
+box_attributes at width height more =
+    number (codes "x") at.x ∷ number (codes "y") at.y ∷ number (codes "width") width ∷ number (codes "height") height ∷ more
+
+abbrev pub shape_node : Shape → Node
+shape_node (Rect at width height paint) = Element (codes "rect") (box_attributes at width height (paint_attributes paint)) End
+shape_node (Titled at width height paint title) =
+    Element (codes "rect") (box_attributes at width height (paint_attributes paint))
+    (nodes (Element (codes "title") [] (nodes (Words title.items ∷ [])) ∷ []))
+shape_node (Line one other paint) =
+    Element (codes "line") (number (codes "x1") one.x ∷ number (codes "y1") one.y ∷ number (codes "x2") other.x ∷ number (codes "y2") other.y
     ∷ paint_attributes paint) End
-figure_node (Dot x y) =
-    Element (codes "circle") (number (codes "cx") x ∷ number (codes "cy") y ∷ attribute (codes "r") (codes "6")
+shape_node (Dot at) =
+    Element (codes "circle") (number (codes "cx") at.x ∷ number (codes "cy") at.y ∷ attribute (codes "r") (codes "6")
     ∷ fill (codes "#000000") ∷ stroke (codes "#ffffff") ∷ []) End
-figure_node (Tip x y x1 y1 x2 y2) =
-    Element (codes "polygon") (attribute (codes "points") (point x y ++ codes " " ++ point x1 y1 ++ codes " " ++ point x2 y2)
+shape_node (Tip at one other) =
+    Element (codes "polygon") (attribute (codes "points") (point at ++ codes " " ++ point one ++ codes " " ++ point other)
     ∷ fill (codes "#000000") ∷ []) End
-figure_node (Text x y anchor paint text) =
-    Element (codes "text") (number (codes "x") x ∷ number (codes "y") y ∷ attribute (codes "text-anchor") (anchor_name anchor)
-    ∷ paint_attributes paint) (nodes (Words text ∷ []))
-figure_node (View x y width height left) =
-    Element (codes "svg") (number (codes "x") x ∷ number (codes "y") y ∷ number (codes "width") width
-    ∷ number (codes "height") height ∷ attribute (codes "viewBox") (view_box left width height) ∷ [])
+shape_node (Text at anchor paint text) =
+    Element (codes "text") (number (codes "x") at.x ∷ number (codes "y") at.y ∷ attribute (codes "text-anchor") (anchor_name anchor)
+    ∷ paint_attributes paint) (nodes (Words text.items ∷ []))
+shape_node (View at width height left) =
+    Element (codes "svg") (box_attributes at width height (attribute (codes "viewBox") (view_box (decimal left) width height) ∷ []))
     (nodes (Element (codes "use") (attribute (codes "href") (codes "#strip") ∷ []) End ∷ []))
 
 -- the text of a shape, with the end of its line
-unfoldable pub figure_text : Figure → List ℕ
-figure_text figure = node_onto (figure_node figure) (codes "\n")
+unfoldable pub shape_text : Shape → List ℕ
+shape_text shape = node_onto (shape_node shape) (codes "\n")
 
 abbrev pub line_end : Node
 line_end = Words (codes "\n")
 
 -- shapes, each on a line of its own
-abbrev pub lines : List Figure → Nodes
+abbrev pub lines : List Shape → Nodes
 lines [] = End
-lines (figure ∷ figures) = Then (figure_node figure) (Then line_end (lines figures))
+lines (shape ∷ shapes) = Then (shape_node shape) (Then line_end (lines shapes))
 
 abbrev pub titled : (name id text : List ℕ) → Node
 titled name id text = Element name (attribute (codes "id") id ∷ []) (nodes (Words text ∷ []))
@@ -117,37 +120,26 @@ abbrev pub paper_node : (width height : ℕ) → Node
 paper_node width height =
     Element (codes "rect") (number (codes "width") width ∷ number (codes "height") height ∷ fill (codes "#ffffff") ∷ []) End
 
-abbrev pub strip_node : List Figure → Node
+abbrev pub strip_node : List Shape → Node
 strip_node strip =
     Element (codes "defs") []
     (nodes (line_end ∷ Element (codes "g") (attribute (codes "id") (codes "strip") ∷ []) (Then line_end (lines strip)) ∷ line_end ∷ []))
 
--- the paper, with the end of its line
-unfoldable pub paper_text : (width height : ℕ) → List ℕ
-paper_text width height = node_onto (paper_node width height) (codes "\n")
-
--- the size, and the part of the plane that is shown
-abbrev pub size_attributes : (left width height : ℕ) → List Attribute
-size_attributes left width height =
-    attribute (codes "viewBox") (view_box left width height) ∷ number (codes "width") width ∷ number (codes "height") height ∷ []
-
-unfoldable pub size_text : (left width height : ℕ) → List ℕ
-size_text left width height = attributes_onto (size_attributes left width height) []
-
 abbrev pub svg_attributes : (width height : ℕ) → List Attribute
 svg_attributes width height =
-    (attribute (codes "xmlns") (codes "http://www.w3.org/2000/svg") ∷ size_attributes 0 width height)
-    ++ (attribute (codes "role") (codes "img") ∷ attribute (codes "aria-labelledby") (codes "title description")
-    ∷ attribute (codes "font-family") (codes "monospace") ∷ attribute (codes "font-size") (codes "13") ∷ [])
+    attribute (codes "xmlns") (codes "http://www.w3.org/2000/svg") ∷ attribute (codes "viewBox") (view_box (codes "0") width height)
+    ∷ number (codes "width") width ∷ number (codes "height") height ∷ attribute (codes "role") (codes "img")
+    ∷ attribute (codes "aria-labelledby") (codes "title description") ∷ attribute (codes "font-family") (codes "monospace")
+    ∷ attribute (codes "font-size") (codes "13") ∷ []
 
 -- the tree of a picture: its title, its description, its paper, its strip and its shapes, each on a line of its own
-abbrev pub svg_node : Picture → Node
-svg_node p =
-    Element (codes "svg") (svg_attributes p.width p.height)
-    (Then line_end (Then (titled (codes "title") (codes "title") p.title) (Then line_end
-    (Then (titled (codes "desc") (codes "description") p.description) (Then line_end
-    (Then (paper_node p.width p.height) (Then line_end (Then (strip_node p.strip) (Then line_end (lines p.figures))))))))))
+abbrev pub svg_node : Drawing → Node
+svg_node d =
+    Element (codes "svg") (svg_attributes d.width d.height)
+    (Then line_end (Then (titled (codes "title") (codes "title") d.title.items) (Then line_end
+    (Then (titled (codes "desc") (codes "description") d.description.items) (Then line_end
+    (Then (paper_node d.width d.height) (Then line_end (Then (strip_node d.strip.items) (Then line_end (lines d.shapes.items))))))))))
 
 -- the text of a picture, with a line's end after it
-abbrev pub svg_text : Picture → List ℕ
-svg_text p = node_onto (svg_node p) (codes "\n")
+abbrev pub svg_text : Drawing → List ℕ
+svg_text d = node_onto (svg_node d) (codes "\n")

@@ -4,12 +4,10 @@
 //! is a law, over the trees of `specs/Xml.antt`.
 #![tactic(auto)]
 
-mod laws;
 mod paint;
 mod shape;
 mod svg;
 
-pub use laws::{escaped_has_no_markup, text_is_of_a_tree};
 pub use paint::{Colour, Paint};
 pub use shape::{Anchor, Drawing, Shape, Spot};
-pub use svg::{push_escaped, svg_of};
+pub use svg::{escaped_has_no_markup, push_escaped, svg_of, text_is_of_a_tree};

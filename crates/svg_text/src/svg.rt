@@ -1,19 +1,18 @@
-//! The text of shapes: an SVG. Each `Err` says that memory was refused.
+//! The text of shapes: an SVG. Each `Err` says that memory was refused. The laws are the contracts of functions with an
+//! empty body.
 
-ghost use Rattle.std.specs.Prelude.{◌≡◌, ◌++◌, IfOk, OnOk, map};
-ghost use Rattle.std.specs.List.{flat_map};
-ghost use Rattle.svg_text.specs.Figures.{figure, picture};
-ghost use Rattle.svg_text.specs.Xml.{escaped_byte, escaped};
-ghost use Rattle.svg_text.specs.Svg.{figure_text, paper_text, size_text, svg_text};
+ghost use Rattle.std.specs.Prelude.{◌≡◌, ◌++◌, ℕ, List, IfOk, OnOk, codes, true};
+ghost use Rattle.std.specs.List.{AllByRecursion, flat_map};
+ghost use Rattle.svg_text.specs.declared.shape.Drawing.{Drawing};
+ghost use Rattle.svg_text.specs.Xml.{escaped_byte, escaped, node_text, is_well_named, unescaped, IsNoMarkup};
+ghost use Rattle.svg_text.specs.Svg.{shape_text, svg_node, svg_text};
 
 use crate::shape::{Drawing, Shape, Spot};
 use std::alloc::{AllocError, Global};
 use std::io;
 use std::io::Write;
 
-/// Adds a text with each `<`, `>`, `&` and quote escaped.
-///
-/// An `Err` says that memory was refused.
+/// Adds a text with each `<`, `>`, `&` and quote escaped. An `Err` says that memory was refused.
 pub fn push_escaped(svg: &mut Vec<u8>, text: &[u8]) -> Result<(), AllocError>
     ensures { OnOk result (svg.new.items ≡ svg.old.items ++ escaped text.now) }
 {
@@ -45,9 +44,9 @@ fn push_words(svg: &mut Vec<u8>, words: &str) -> Result<(), AllocError>
 }
 
 /// Adds the text of a shape, and the end of its line.
-#[tactic(auto, using(crate::proofs::Trees::plain_parts), unfolding(crate::specs::Svg::figure_text))]
+#[tactic(auto, using(crate::proofs::Trees::plain_parts), unfolding(crate::specs::Svg::shape_text))]
 fn push_shape(svg: &mut Vec<u8>, shape: &Shape) -> io::Result<()>
-    ensures { OnOk result (svg.new.items ≡ svg.old.items ++ figure_text (figure shape.now)) }
+    ensures { OnOk result (svg.new.items ≡ svg.old.items ++ shape_text shape.now) }
 {
     match shape {
         Shape::Rect(Spot { x, y }, width, height, paint) => {
@@ -107,7 +106,7 @@ fn push_shape(svg: &mut Vec<u8>, shape: &Shape) -> io::Result<()>
 
 /// Adds the texts of shapes.
 fn push_shapes(svg: &mut Vec<u8>, shapes: &[Shape]) -> io::Result<()>
-    ensures { OnOk result (svg.new.items ≡ svg.old.items ++ flat_map figure_text (map figure shapes.now)) }
+    ensures { OnOk result (svg.new.items ≡ svg.old.items ++ flat_map shape_text shapes.now) }
 {
     for shape in shapes {
         push_shape(svg, shape)?;
@@ -115,32 +114,16 @@ fn push_shapes(svg: &mut Vec<u8>, shapes: &[Shape]) -> io::Result<()>
     Ok(())
 }
 
-/// Adds the attributes of the size of a picture, and of the part of the plane that is shown.
-fn push_size(svg: &mut Vec<u8>, left: u64, width: u64, height: u64) -> io::Result<()>
-    ensures { OnOk result (svg.new.items ≡ svg.old.items ++ size_text left width height) }
-{
-    write!(
-        svg,
-        " viewBox=\"{left} 0 {width} {height}\" width=\"{width}\" height=\"{height}\""
-    )
-}
-
-/// Adds the white paper.
-fn push_paper(svg: &mut Vec<u8>, width: u64, height: u64) -> io::Result<()>
-    ensures { OnOk result (svg.new.items ≡ svg.old.items ++ paper_text width height) }
-{
-    write!(
-        svg,
-        "<rect width=\"{width}\" height=\"{height}\" fill=\"#ffffff\"/>\n"
-    )
-}
-
 /// Adds the text of a picture.
 fn push_svg(svg: &mut Vec<u8>, drawing: &Drawing) -> io::Result<()>
-    ensures { OnOk result (svg.new.items ≡ svg.old.items ++ svg_text (picture drawing.now)) }
+    ensures { OnOk result (svg.new.items ≡ svg.old.items ++ svg_text drawing.now) }
 {
-    push_words(svg, "<svg xmlns=\"http://www.w3.org/2000/svg\"")?;
-    push_size(svg, 0, drawing.width, drawing.height)?;
+    let (width, height) = (drawing.width, drawing.height);
+    write!(
+        svg,
+        "<svg xmlns=\"http://www.w3.org/2000/svg\" viewBox=\"0 0 {width} {height}\" \
+        width=\"{width}\" height=\"{height}\""
+    )?;
     push_words(
         svg,
         " role=\"img\" aria-labelledby=\"title description\" font-family=\"monospace\" font-size=\"13\">\n\
@@ -149,22 +132,37 @@ fn push_svg(svg: &mut Vec<u8>, drawing: &Drawing) -> io::Result<()>
     push_escaped(svg, &drawing.title)?;
     push_words(svg, "</title>\n<desc id=\"description\">")?;
     push_escaped(svg, &drawing.description)?;
-    push_words(svg, "</desc>\n")?;
-    push_paper(svg, drawing.width, drawing.height)?;
-    push_words(svg, "<defs>\n<g id=\"strip\">\n")?;
+    write!(
+        svg,
+        "</desc>\n<rect width=\"{width}\" height=\"{height}\" fill=\"#ffffff\"/>\n<defs>\n<g id=\"strip\">\n"
+    )?;
     push_shapes(svg, &drawing.strip)?;
     push_words(svg, "</g>\n</defs>\n")?;
     push_shapes(svg, &drawing.shapes)?;
     write!(svg, "</svg>\n")
 }
 
-/// The text of a picture.
-///
-/// An `Err` says that memory was refused.
+/// The text of a picture. An `Err` says that memory was refused.
 pub fn svg_of(alloc: Global, drawing: &Drawing) -> Result<Vec<u8>, AllocError>
-    ensures { IfOk result (λ svg. svg.items ≡ svg_text (picture drawing.now)) }
+    ensures { IfOk result (λ svg. svg.items ≡ svg_text drawing.now) }
 {
     let mut svg = Vec::new(alloc);
     push_svg(&mut svg, drawing).map_err(|_| AllocError)?;
     Ok(svg)
 }
+
+/// The text of a picture is that of a tree of XML, with a line's end after it. In the text of a
+/// tree each label and each attribute's value is escaped. Each element and each attribute of the
+/// tree has a name, and no element has two attributes of one name. Labels are to have only bytes
+/// from 32 to 126: XML knows no byte below 32 but the tab and the ends of lines.
+pub fn text_is_of_a_tree()
+    ensures text { (picture : Drawing) → svg_text picture ≡ node_text (svg_node picture) ++ codes "\n" }
+    ensures names { (picture : Drawing) → is_well_named (svg_node picture) ≡ true }
+{}
+
+/// What is escaped has no `<`, no `>` and no quote, so it ends neither its element nor its
+/// attribute; and it can be read: each `&` begins the name of a byte, and the text comes back.
+pub fn escaped_has_no_markup()
+    ensures no_markup { (text : List ℕ) → AllByRecursion IsNoMarkup (escaped text) }
+    ensures reads_back { (text : List ℕ) → unescaped (escaped text) ≡ text }
+{}

@@ -1,6 +1,5 @@
 use Rattle.run_layout.proofs.Vocabulary.{Name, [], ap, arith, at, map, name_text, sign_shown, sym, ◌++◌, ◌+◌, ◌-◌, ◌∙◌, ◌∷◌}
-use Rattle.run_layout.proofs.Names.{names_from-more, names_from-none}
-use Rattle.run_layout.proofs.Pushing.{added_first, added_all}
+use Rattle.run_layout.proofs.Adding.{names_from-more, names_from-none, added_first, added_all}
 use Rattle.run_layout.proofs.marked.push_names.Goals as goal
 
 pub loop-process-preserved : goal.loop-process-preserved

@@ -1,6 +1,5 @@
 use Rattle.run_layout.proofs.Vocabulary.{[], ap, drop, label_after, length, map, rules, sym, take, take_rest, times_after, told_shown, ◌++◌, ◌+◌, ◌-◌, ◌∙◌, ◌∷◌, ◌≡◌}
-use Rattle.run_layout.proofs.Telling.{labels_more, labels_none}
-use Rattle.run_layout.proofs.Pushing.{added_first, added_all}
+use Rattle.run_layout.proofs.Adding.{labels_more, labels_none, added_first, added_all}
 use Rattle.run_layout.proofs.refusals.told_of.Goals as goal
 
 pub loop-place-preserved : goal.loop-place-preserved

@@ -1,4 +1,4 @@
-use Rattle.run_layout.specs.Subject.{marks_of_events}
+use Rattle.run_layout.proofs.Vocabulary.{marks_of_events}
 use Rattle.run_layout.proofs.subject.marks_of_events.Goals as goal
 
 pub returns-clause-marks : goal.returns-clause-marks

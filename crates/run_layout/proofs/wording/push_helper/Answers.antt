@@ -1,6 +1,4 @@
-use Rattle.run_layout.proofs.Vocabulary.{None, OnOk, Some, [], ap, at_drop_more, cell_shown, cond, drop, drop_all, find, get_or, is_help, linker_text, option_map_or, subst, sym, ◌++◌, ◌+◌, ◌∙◌, ◌≡◌}
-use Rattle.std.proofs.Common.{append-nil}
-use Rattle.run_replay.specs.declared.marks.Dot.{Dot}
+use Rattle.run_layout.proofs.Vocabulary.{Dot, None, OnOk, Some, [], ap, append-nil, at_drop_more, cell_shown, cond, drop, drop_all, find, get_or, is_help, linker_text, option_map_or, subst, sym, ◌++◌, ◌+◌, ◌∙◌, ◌≡◌}
 use Rattle.run_layout.proofs.wording.push_helper.Goals as goal
 
 pub returns-then-is_help : goal.returns-then-is_help

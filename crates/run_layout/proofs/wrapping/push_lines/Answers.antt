@@ -1,6 +1,5 @@
 use Rattle.run_layout.proofs.Vocabulary.{[], after_space, ap, arith, drop, fitting_len, length, lines_of, map, refl, rules, sym, take, ◌++◌, ◌+◌, ◌-◌, ◌<◌, ◌∙◌, ◌∷◌, ◌≡◌}
-use Rattle.run_layout.proofs.Breaking.{lines_of-empty, lines_of-none, lines_of-more, sliced_front, sliced_rest}
-use Rattle.run_layout.proofs.Pushing.{added_first, added_all, map_pushed}
+use Rattle.run_layout.proofs.Adding.{lines_of-empty, lines_of-none, lines_of-more, sliced_front, sliced_rest, added_first, added_all, map_pushed}
 use Rattle.run_layout.proofs.wrapping.push_lines.Goals as goal
 
 pub returns-then-is_empty-clause-lines : goal.returns-then-is_empty-clause-lines

@@ -1,7 +1,7 @@
 use Rattle.run_lines.proofs.Vocabulary.{ap, arith, common_steps, fill_by_all, get_or, get_or-replicate, letter_at, replicate, rules, take_all, ◌∙◌, ◌≡◌}
 use Rattle.run_lines.proofs.Painting.{letter_at_more}
-use Rattle.run_lines.proofs.canvas.row_of.Goals as goal
 use Rattle.run_lines.proofs.canvas.row_of.Goals.{then-is_in_row, else-is_in_row}
+use Rattle.run_lines.proofs.canvas.row_of.Goals as goal
 
 pub loop-stroke-init : goal.loop-stroke-init
 unfolding letter_at

@@ -1,6 +1,4 @@
-use Rattle.run_lines.proofs.Vocabulary.{AreSide, List, rules}
-use Rattle.signs.proofs.Rest.{more_at, none}
-use Rattle.run_lines.specs.declared.sheet.Block.{Block}
+use Rattle.run_lines.proofs.Vocabulary.{AreSide, Block, List, more_at, none, rules}
 use Rattle.run_lines.proofs.sheet.are_side.Goals as goal
 
 pub loop-block-preserved : goal.loop-block-preserved

@@ -1,4 +1,4 @@
-use Rattle.std.proofs.Common.{◌∙◌, append_assoc}
+use Rattle.run_lines.proofs.Vocabulary.{append_assoc, ◌∙◌}
 use Rattle.run_lines.proofs.texts.cell_line.Goals as goal
 
 pub returns : goal.returns

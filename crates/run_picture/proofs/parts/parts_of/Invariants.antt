@@ -1,5 +1,4 @@
-use Rattle.run_picture.proofs.Vocabulary.{flat_map, map, meaning, parts_of, take, ◌≡◌}
-use Rattle.run_layout.specs.Marked.{sign_shown}
+use Rattle.run_picture.proofs.Vocabulary.{flat_map, map, meaning, parts_of, sign_shown, take, ◌≡◌}
 use Rattle.run_picture.proofs.parts.parts_of.Given as goal
 
 -- those so far

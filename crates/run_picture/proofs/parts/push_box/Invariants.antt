@@ -1,5 +1,4 @@
-use Rattle.run_picture.proofs.Vocabulary.{anywhere, map, meaning, ◌++◌, ◌≡◌}
-use Rattle.signs.specs.declared.sign.Look.TheVariants.{Text}
+use Rattle.run_picture.proofs.Vocabulary.{Text, anywhere, map, meaning, ◌++◌, ◌≡◌}
 use Rattle.run_picture.proofs.parts.push_box.Given as goal
 
 -- those so far, and those of the rest
