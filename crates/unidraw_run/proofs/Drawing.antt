@@ -7,7 +7,7 @@ use Rattle.uni_script.specs.Scripts.{scripts_of}
 use Rattle.uni_script.specs.declared.fault.BenchFault.{BenchFault}
 use Rattle.uni_script.specs.declared.fault.BenchFault.TheVariants.{NoHeader, BadHeader, TooLong, BadByte, BadLine, TooMany, Read, Write, Memory, Audit}
 use Rattle.run_layout.specs.Subject.{HasTooManyEvents}
-use Rattle.run_tell.specs.Written.{WritesSuch}
+use Rattle.run_tell.specs.Told.{WritesSuch}
 use Rattle.unidraw_run.specs.Drawn.{is_streamed, may_write_before, range_of}
 
 -- no fault ends with 0, nor does refused memory for its text

@@ -14,10 +14,10 @@ use Rattle.run_picture.specs.Picture.{IsPicture}
 use Rattle.run_lines.specs.Lines.{IsLines}
 use Rattle.run_tell.specs.Told.{IsTold}
 use Rattle.run_tell.specs.TraceLines.{json_wording, whole_wording}
-use Rattle.run_tell.specs.Steps.{steps_wording}
+use Rattle.run_tell.specs.Sentences.{steps_wording}
 use Rattle.run_tell.specs.Page.{IsPage}
 use Rattle.run_tell.specs.History.{IsHistory}
-use Rattle.run_tell.specs.Written.{Writes, WritesPart}
+use Rattle.run_tell.specs.Told.{Writes, WritesPart}
 pub use Rattle.unidraw_run.specs.CommandLine.{form_of_words}
 use Rattle.unidraw_run.specs.declared.program.Form.{Form}
 use Rattle.unidraw_run.specs.declared.program.Form.TheVariants.{Svg, Lines, Steps, Json, Full, Html, History}

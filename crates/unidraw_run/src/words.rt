@@ -122,8 +122,6 @@ fn described<'a>(alloc: Global) -> Command<'a>
 }
 
 /// A program with these options more.
-///
-/// An `Err` says that memory was refused.
 fn with_options<'a>(
     alloc: Global,
     mut command: Command<'a>,
@@ -164,8 +162,6 @@ fn columns_option<'a>(alloc: Global) -> Arg<'a>
 }
 
 /// The command line of the program.
-///
-/// An `Err` says that memory was refused.
 fn unidraw<'a>(alloc: Global) -> Result<Command<'a>, AllocError>
     ensures { IfOk result (λ command. app_of command ≡ unidraw) }
 {
@@ -277,8 +273,6 @@ fn request_in(matches: &ArgMatches<'_>) -> Option<Request>
 }
 
 /// The fault of options that don't go together.
-///
-/// An `Err` says that memory was refused.
 fn conflict(alloc: Global, matches: &ArgMatches<'_>) -> Result<clap::Error, AllocError>
     ensures { IfOk result (λ error. kind_of error ≡ ErrorKind.ArgumentConflict) }
 {
@@ -289,9 +283,8 @@ fn conflict(alloc: Global, matches: &ArgMatches<'_>) -> Result<clap::Error, Allo
     unidraw(alloc)?.error(ErrorKind::ArgumentConflict, said)
 }
 
-/// Reads a command line, the program's name first: what it asks for.
-///
-/// An `Err` has the fault of the words, or says that memory was refused.
+/// Reads a command line, the program's name first: what it asks for. An `Err` has the fault of the words, or says that
+/// memory was refused.
 pub(crate) fn read_words<S: AsStr>(alloc: Global, words: &[S]) -> Result<Request, clap::Error>
     ensures asked { IfOk result (λ request. request_of_words (map S.text words.now) ≡ Some request) }
     ensures fault { IfErr result (HasKind (faults_of_words (map S.text words.now))) }
