@@ -1,15 +1,11 @@
 //! The program over its ends, and its statuses.
 
-ghost use Rattle.std.specs.Prelude.{◌≡◌, ◌≢◌, ◌⊎◌, ◌↔◌, true, false, None, Some};
-ghost use Rattle.std.specs.Prelude.{IsErrOf, is_some, map};
-ghost use Rattle.uni_script.specs.Replay.{HasFault, IsFaultOfScript};
-ghost use Rattle.uni_script.specs.Scripts.{scripts_of};
-ghost use Rattle.uni_script.specs.declared.fault.BenchFault.{BenchFault as Fault};
-ghost use Rattle.run_layout.specs.Subject.{HasTooManyEvents};
-ghost use Rattle.run_tell.specs.Told.{WritesSuch};
-ghost use Rattle.unidraw_run.specs.CommandLine.{form_of_words, request_of_words, IsRefused};
-ghost use Rattle.unidraw_run.specs.Drawn.{IsDrawn, IsPictureIn, IsTextOf, may_write_before, range_of};
-ghost use Rattle.unidraw_run.specs.Statuses.{IsStatusOfPicture, TellsPictureFault, picture_fault_line};
+ghost use Rattle.std.specs.Prelude.{◌≡◌, ◌≢◌, ◌⊎◌, IsErrOf, None, Some, false, is_some, map, true};
+ghost use Rattle.unidraw_run.specs.Vocabulary.{BenchFault as Fault, HasFault, HasTooManyEvents, IsFaultOfScript};
+ghost use Rattle.unidraw_run.specs.Vocabulary.{WritesSuch, scripts_of};
+ghost use Rattle.unidraw_run.specs.CommandLine.{IsRefused, form_of_words, request_of_words};
+ghost use Rattle.unidraw_run.specs.Drawn.{IsDrawn, IsPictureIn, IsStatusOfPicture, IsTextOf, TellsPictureFault};
+ghost use Rattle.unidraw_run.specs.Drawn.{may_write_before, picture_fault_line, range_of};
 
 use crate::words::{read_words, tip_for};
 use command_line::answer_words;

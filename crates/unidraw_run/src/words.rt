@@ -1,15 +1,11 @@
 //! What a command line asks for.
 
-ghost use Rattle.std.specs.Prelude.{◌≡◌, IfOk, IfErr, map, codes, false, Some};
-ghost use Rattle.clap.specs.Values.{kind_of};
-ghost use Rattle.clap.specs.Words.{HasKind, app_of, found_of, new_app, rows_of, rule_of};
-ghost use Rattle.clap.specs.declared.builder.command.Command.TheViews.{out-Command};
-ghost use Rattle.command_line.specs.Flags.{versioned};
+ghost use Rattle.std.specs.Prelude.{◌≡◌, IfErr, IfOk, Some, codes, false, map};
+ghost use Rattle.unidraw_run.specs.Vocabulary.{HasKind, app_of, found_of, kind_of, new_app, out-Command, rows_of};
+ghost use Rattle.unidraw_run.specs.Vocabulary.{rule_of, versioned};
 ghost use Rattle.unidraw_run.specs.CommandLine.{columns_option, comes_after, event_option, faults_of_words, form_among};
-ghost use Rattle.unidraw_run.specs.CommandLine.{form_in, form_with};
-ghost use Rattle.unidraw_run.specs.CommandLine.{forms_used, range_in, request_in, request_of_words, unidraw};
-ghost use Rattle.unidraw_run.specs.CommandLine.{with_columns, with_options, with_range};
-ghost use Rattle.unidraw_run.specs.Shown.{option_shown};
+ghost use Rattle.unidraw_run.specs.CommandLine.{form_in, form_with, forms_used, option_shown, range_in, request_in};
+ghost use Rattle.unidraw_run.specs.CommandLine.{request_of_words, unidraw, with_columns, with_options, with_range};
 
 use crate::program::{Form, Request};
 use clap::error::ErrorKind;
