@@ -64,9 +64,7 @@ impl<T: TextOut> fmt::Write for Printer<'_, T> {
     }
 }
 
-/// Writes the text of a value.
-///
-/// An `Err` says that the end has failed.
+/// Writes the text of a value. An `Err` says that the end has failed.
 fn print<T: TextOut, D: Display + Drop>(end: &mut T, value: D) -> Result<(), Failed>
     ensures ok { OnOk result (T.has_failed end.new ≡ false) }
     ensures err { OnErr result (T.has_failed end.new ≡ true) }

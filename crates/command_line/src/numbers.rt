@@ -7,8 +7,8 @@ ghost use Rattle.command_line.specs.Numbers.{in_range, number_in, value_of};
 use clap::builder::ValueParser;
 use clap::{Arg, ArgMatches};
 
-/// An option whose value is a number of a range: another one is a fault of the command line, which
-/// names the option and the range.
+/// An option whose value is a number of a range: another one is a fault of the command line, which names the option and
+/// the range.
 pub fn in_range<'a>(number: Arg<'a>, least: u64, most: u64) -> Arg<'a>
     ensures rule { rule_of result ≡ in_range (rule_of number.entry) least most }
     ensures local { result.global ≡ number.entry.global }

@@ -1,6 +1,5 @@
 -- What `escaped` makes.
-use Rattle.std.specs.Prelude.{◌≡◌, ◌≢◌, ℕ, List, [], ◌∷◌, ◌++◌}
-use Rattle.run_tell.proofs.Vocabulary.{AllByRecursion, IsPlain, arith, escaped, escaped_byte, inl, inr, subst, sym}
+use Rattle.run_tell.proofs.Vocabulary.{AllByRecursion, IsPlain, List, [], arith, escaped, escaped_byte, inl, inr, subst, sym, ℕ, ◌++◌, ◌∷◌, ◌≡◌, ◌≢◌}
 use Rattle.std.proofs.lemmas.Bool.{cases_eq, ne_eqb}
 
 plain : (b : ℕ) → b ≢ 60 → b ≢ 38 → IsPlain b

@@ -1,26 +1,15 @@
 -- What is observed of a run, by its frames.
-use Rattle.run_tell.proofs.Vocabulary.{IsLinearizableRun, IsTold, List, None, Option, PlacedRemark, Scene, Some, SpokenObject, Steps, [], ap, append-nil, arith, drop, event_text, false, flat_map, flat_map-append, line_text, option_and_then, option_map, refl, remark_told, scene_of, scenes_from, slice_get, spoken_of, state_text_of, stepped, subst, sym, take, told_before, told_from, told_text, trace_of_events, ℕ, ◌++◌, ◌+◌, ◌-◌, ◌∙◌, ◌∷◌, ◌≡◌}
-use Rattle.std.specs.Option.{option_map_or}
-use Rattle.std.proofs.Common.{Bool, true, if◌then◌else◌, length}
-use Rattle.std.proofs.lemmas.List.{take_all}
-use Rattle.run_layout.specs.declared.choice.Range.{Range}
-use Rattle.run_layout.specs.Choice.{all_events, count_in, is_told_in}
-use Rattle.seq_object.specs.Sequential.{Sequential}
-use Rattle.ready_objects.specs.Spoken.{Language}
-use Rattle.uni_model.specs.AtomicObject.{Act, Invoked}
-use Rattle.uni_model.specs.AtomicObject.Act.{Respond}
-use Rattle.uni_model.specs.Transition.{response_after}
-use Rattle.uni_model.specs.Chain.{invoked_at}
-use Rattle.uni_model.specs.Stages.{Pending}
-use Rattle.uni_model.specs.Invariant.{Invariant}
-use Rattle.uni_model.specs.Worlds.{WorldOf, Event, opened_world, world_after, AreAccepted}
-use Rattle.uni_model.specs.Worlds.Event.{Call, Step, Trim, Reshape}
-use Rattle.uni_model.specs.History.{responses_of}
-use Rattle.uni_model.specs.Linearizable.{observed_at, observed_in}
+use Rattle.run_tell.proofs.Vocabulary.{Act, AreAccepted, Bool, Event, IsHistory, IsLinearizableRun, IsTold, Language, List, None, Option, PlacedRemark, Range, Respond, Scene, Sequential, Some, SpokenObject, Steps, WorldOf, [], act_line, all_events, ap, append-nil, arith, count_in, drop, event_text, false, flat_map, flat_map-append, history_text, history_wording, if◌then◌else◌, is_told_in, length, line_text, observed_in, opened_world, opening_members, option_and_then, option_map, option_map_or, refl, remark_told, replied_line, scene_of, scenes_from, slice_get, spoken_of, state_text_of, subst, sym, take, take_all, told_before, told_from, told_text, trace_of_events, true, word_of_object, world_after, ℕ, ◌++◌, ◌+◌, ◌-◌, ◌∙◌, ◌∷◌, ◌≡◌}
+use Rattle.run_replay.specs.Scenes.{stepped}
 use Rattle.uni_model.proofs.Kept.{Invariant-opened_world, Invariant-world_after}
-use Rattle.uni_script.specs.Schedules.{word_of_object}
-use Rattle.run_tell.specs.History.{IsHistory}
-use Rattle.run_tell.specs.HistoryLines.{act_line, history_text, history_wording, opening_members, replied_line}
+use Rattle.uni_model.specs.AtomicObject.{Invoked}
+use Rattle.uni_model.specs.Chain.{invoked_at}
+use Rattle.uni_model.specs.History.{responses_of}
+use Rattle.uni_model.specs.Invariant.{Invariant}
+use Rattle.uni_model.specs.Linearizable.{observed_at}
+use Rattle.uni_model.specs.Stages.{Pending}
+use Rattle.uni_model.specs.Transition.{response_after}
+use Rattle.uni_model.specs.Worlds.Event.{Call, Reshape, Step, Trim}
 
 -- the line of a scene that there may be
 abbrev line_of_scene : Option Scene → List ℕ

@@ -1,17 +1,132 @@
--- The run of a script, told, by its record.
-use Rattle.run_tell.proofs.Vocabulary.{Err, IfOk, IsLinearizableSession, IsScriptRun, IsToldBy, List, Ok, OnOk, Option, PlacedRemark, Result, ap, events_of_record, session_of_record, subst, sym, ℕ, ◌∙◌, ◌≡◌, ◌≤◌}
-use Rattle.uni_record.specs.Recorded.{Recording}
-use Rattle.uni_script.specs.Objects.{SpokenObject}
-use Rattle.run_tell.specs.Order.{Wording}
-use Rattle.run_tell.specs.Told.{text_of_record}
-use Rattle.uni_script.specs.declared.grammar.Version.{Version}
+-- The run of a script, told, by its record, and what is written of it piece by piece.
+use Rattle.run_tell.proofs.Vocabulary.{Appends, AppendsPrefix, AppendsPrefix-after, AppendsPrefix-more, BenchFault, Bool, Err, Event, Excerpt, IfErr, IfErr-at_err, IfOk, IsErr, IsErrOf, IsFaultOfScript, IsLinearizableSession, IsScriptRun, IsToldBy, Language, List, MatchResult-from_err, Moves, Ok, OnErr, OnOk, Opening, Option, PlacedRemark, Range, Recording, Result, Scene, ScriptSession, Sequential, Some, SpokenObject, Start, Trace, Version, Wording, WorldOf, WritesSuch, WritesText, [], ap, append-nil, append_assoc, arith, count_in, drop, events-run, events_of_record, events_shown, excerpt_of, flat_map, inl, inr, length, length-drop, opened_world, opening, refl, remark_told, scenes_from, session_of_record, slice_get, spoken, subst, suc, sym, take, text_of_record, told_before, told_from, told_text, trace_of_events, world_after, zero, ℕ, ◌++◌, ◌+◌, ◌-◌, ◌<◌, ◌↔◌, ◌∙◌, ◌∷◌, ◌≡◌, ◌≢◌, ◌≤◌, ◌⊎◌}
+use Rattle.std.proofs.KnownBytes.{Appends-nil, Appends-trans}
+use Rattle.run_layout.specs.declared.subject.PictureFault.{PictureFault}
+use Rattle.run_layout.specs.declared.subject.PictureFault.TheVariants.{Script, TooManyEvents}
+use Rattle.uni_script.specs.declared.fault.BenchFault.TheVariants.{Memory, Write}
 use Rattle.uni_script.specs.declared.options.Echo.TheVariants.{Off}
-use Rattle.uni_script.specs.declared.script_run.ScriptRun.{ScriptRun}
 use Rattle.uni_script.specs.declared.script_run.ScriptRecord.{ScriptRecord}
-use Rattle.uni_script.specs.Scripts.{ScriptSession}
-use Rattle.run_layout.specs.declared.choice.Range.{Range}
-use Rattle.run_layout.proofs.Scripts.{events-run}
-use Rattle.run_layout.specs.Choice.{count_in}
+use Rattle.uni_script.specs.declared.script_run.ScriptRun.{ScriptRun}
+
+-- before the first write all of a text is left
+pub Moves-start : (a : Option (List ℕ)) (whole : List ℕ) → Moves a a whole whole
+Moves-start a whole = ([], Appends-nil a, refl)
+
+-- the first of what is left was gathered, and written up to some of it
+pub Moves-more : (a b c : Option (List ℕ)) (whole told left rest : List ℕ) → Moves a b whole (told ++ rest) → Moves b c told left → Moves a c whole (left ++ rest)
+Moves-more a b c whole told left rest so_far write = (
+  so_far.0 ++ write.0,
+  Appends-trans a b c so_far.0 write.0 so_far.1 write.1,
+  so_far.2 ∙ ap (λ t. so_far.0 ++ (t ++ rest)) write.2 ∙ ap (λ t. so_far.0 ++ t) (append_assoc write.0 left rest) ∙ sym (append_assoc so_far.0 write.0 (left ++ rest)),
+)
+
+-- what is written is a prefix, also after a further write that failed, and all of the text where nothing is left
+pub Moves-part : (a b : Option (List ℕ)) (whole rest : List ℕ) → Moves a b whole rest → AppendsPrefix a b whole
+Moves-part a b whole rest so_far = (rest, record { prefix = so_far.0; cut = so_far.2; taken = so_far.1 })
+
+pub Moves-failed : (a b c : Option (List ℕ)) (whole told rest : List ℕ) → Moves a b whole (told ++ rest) → AppendsPrefix b c told → AppendsPrefix a c whole
+Moves-failed a b c whole told rest so_far part = subst (AppendsPrefix a c) (sym so_far.2) (AppendsPrefix-after a b c so_far.0 (told ++ rest) so_far.1 (AppendsPrefix-more b c told rest part))
+
+pub Moves-all : (a b : Option (List ℕ)) (whole : List ℕ) → Moves a b whole [] → Appends a b whole
+Moves-all a b whole moved = subst (Appends a b) (sym (moved.2 ∙ append-nil moved.0)) moved.1
+
+-- an error, after a prefix
+pub WritesText-err : {T E : Type 0} (r : Result T E) (a b : Option (List ℕ)) (text : List ℕ) → IsErr r → AppendsPrefix a b text → WritesText r a b text
+WritesText-err r a b text is part = MatchResult-from_err r (λ _. Appends a b text) (λ _. AppendsPrefix a b text) is (λ _. part)
+
+-- the last write of a text
+pub WritesText-last : {T E : Type 0} (r : Result T E) (a b c : Option (List ℕ)) (whole told left : List ℕ) → Moves a b whole told → OnOk r (Moves b c told left) → OnOk r (0 ≤ length told → left ≡ []) → OnErr r (AppendsPrefix b c told)
+    → WritesText r a c whole
+WritesText-last (Ok u) a b c whole told left so_far moved none part =
+    let more : Moves a c whole (left ++ []) = Moves-more a b c whole told left [] (subst (Moves a b whole) (sym (append-nil told)) so_far) moved in
+    Moves-all a c whole (subst (Moves a c whole) (append-nil left ∙ none (omega arith)) more)
+WritesText-last (Err e) a b c whole told left so_far moved none part = Moves-failed a b c whole told [] (subst (Moves a b whole) (sym (append-nil told)) so_far) part
+
+-- not more than 2,000 are as many at most
+few : (n : ℕ) → ¬ (2000 < n) → n ≤ 2000
+few n not = omega (arith, not)
+
+-- a text of which something holds where it tells few events
+pub WritesSuch-text : {T : Type 0} (r : Result T PictureFault) (Holds : List ℕ → Type 0) (a b : Option (List ℕ)) (text : List ℕ) (n : ℕ) → (IsErrOf r TooManyEvents ↔ (2000 < n)) → (IsErrOf r TooManyEvents → b ≡ a)
+    → WritesText r a b text → (n ≤ 2000 → Holds text) → WritesSuch r Holds a b
+WritesSuch-text (Ok u) Holds a b text n many none writes holds = (text, holds (few n (λ more. let bad : Ok u ≡ Err TooManyEvents = many.1 more in cc)), writes)
+WritesSuch-text (Err TooManyEvents) Holds a b text n many none writes holds = inl (none refl)
+WritesSuch-text (Err f) Holds a b text n many none writes holds = inr (text, holds (few n (λ more. let bad : Err f ≡ Err TooManyEvents = many.1 more in cc)), writes)
+
+-- and of which something else holds then
+pub WritesSuch-weaker : {T E : Type 0} (r : Result T E) (P Q : List ℕ → Type 0) (a b : Option (List ℕ)) → ((text : List ℕ) → P text → Q text) → WritesSuch r P a b → WritesSuch r Q a b
+WritesSuch-weaker (Ok u) P Q a b f writes = (writes.0, f writes.0 writes.1, writes.2)
+WritesSuch-weaker (Err e) P Q a b f (inl same) = inl same
+WritesSuch-weaker (Err e) P Q a b f (inr part) = inr (part.0, f part.0 part.1, part.2)
+
+-- what holds of too many events holds of each error but refused memory and a failed output, and none is a fault of a script
+pub else_many : {T : Type 0} (r : Result T PictureFault) (P : Type 0) → IfErr r (λ e. (e ≡ TooManyEvents) ⊎ (e ≡ Script Memory) ⊎ (e ≡ Script Write)) → (IsErrOf r TooManyEvents → P)
+    → (e : PictureFault) → IsErrOf r e → e ≢ Script Memory → e ≢ Script Write → P
+else_many r P faults many e is memory write =
+    elim (IfErr-at_err (λ e. (e ≡ TooManyEvents) ⊎ (e ≡ Script Memory) ⊎ (e ≡ Script Write)) is faults) [
+      | inl too_many ↦ many (is ∙ ap Err too_many)
+      | inr other ↦ absurd (elim other [ inl m ↦ memory m | inr w ↦ write w ])
+    ]
+
+pub no_fault_of_script : {T : Type 0} (r : Result T PictureFault) → IfErr r (λ e. (e ≡ TooManyEvents) ⊎ (e ≡ Script Memory) ⊎ (e ≡ Script Write)) → (e : BenchFault) → IsErrOf r (Script e) → ¬ (IsFaultOfScript e)
+no_fault_of_script r faults e is fault =
+    else_many r ⊥ faults (λ many. let bad : Script e ≡ TooManyEvents = cc in cc) (Script e) is (λ same. let m : e ≡ Memory = cc in subst IsFaultOfScript m fault) (λ same. let w : e ≡ Write = cc in subst IsFaultOfScript w fault)
+
+-- what is gathered and still to be told, after one more event is gathered with what is told before it
+pub Moves-told_on : (words : Wording) (range : Range) (lines : List ℕ) (a b : Option (List ℕ)) (whole : List ℕ) (k : ℕ) (scenes rest : List (Option Scene)) (scene : Scene) (remarks left : List PlacedRemark) (text told : List ℕ)
+    → scenes ≡ Some scene ∷ rest → left ≡ drop (told_before k remarks) remarks
+    → told ≡ text ++ (flat_map (remark_told words range) (take (told_before k remarks) remarks) ++ words.event k (slice_get lines k) scene)
+    → Moves a b whole (text ++ told_from words range lines k scenes remarks) → Moves a b whole (told ++ told_from words range lines (k + 1) rest left)
+Moves-told_on words range lines a b whole k scenes rest scene remarks left text told is_scenes is_left is_told =
+    let event = flat_map (remark_told words range) (take (told_before k remarks) remarks) ++ words.event k (slice_get lines k) scene in
+    let later = told_from words range lines (k + 1) rest (drop (told_before k remarks) remarks) in
+    subst (Moves a b whole)
+    (ap (λ l. text ++ told_from words range lines k l remarks) is_scenes ∙ sym (append_assoc text event later) ∙ ap (λ l. l ++ later) (sym is_told)
+    ∙ ap (λ l. told ++ told_from words range lines (k + 1) rest l) (sym is_left))
+
+trace_is : {S I R : Type 0} (range : Range) (is_whole : Bool) (o : SpokenObject S I R) (text : S → List ℕ) (name : List ℕ) (n row first count : ℕ) (events : List (Event I)) (start : Option Start) (scenes : List (Option Scene)) (opened : Opening)
+    → count ≡ count_in range (length events)
+    → excerpt_of o.object o.language text is_whole range.from count (opened_world n o.object.initial first) events ≡ record { start = start; scenes = scenes }
+    → opened ≡ opening name n row first (text o.object.initial) start
+    → (let trace : Trace = record { range = range; opening = opened; scenes = scenes } in trace) ≡ trace_of_events range is_whole o text name n row first events
+trace_is range is_whole o text name n row first count events start scenes opened is_count is_part is_opened =
+    let whole = λ (m : ℕ). excerpt_of o.object o.language text is_whole range.from m (opened_world n o.object.initial first) events in
+    let part : Excerpt = record { start = start; scenes = scenes } in
+    let is : part ≡ whole (count_in range (length events)) = sym is_part ∙ ap whole is_count in
+    ap (λ x. let trace : Trace = record { range = range; opening = x; scenes = scenes } in trace) is_opened
+    ∙ ap (λ (e : Excerpt). let trace : Trace = record { range = range; opening = opening name n row first (text o.object.initial) e.start; scenes = e.scenes } in trace) is
+
+-- the text of what was read of a record is that of the record
+pub text_is : {O S I R : Type 0} (words : Wording) (range : Range) (sequential : O → Sequential S I R) (l : Language I R) (text : S → List ℕ) (name : List ℕ) (r : Recording O S I R) (object : O) (is_whole : Bool) (count : ℕ) (start : Option Start) (scenes : List (Option Scene)) (opened : Opening) (lines : List ℕ) (remarks : List PlacedRemark)
+    → object ≡ r.world.object → is_whole ≡ words.is_whole → count ≡ count_in range (length (events_shown r.events))
+    → excerpt_of (sequential object) l text is_whole range.from count (opened_world r.processes (sequential object).initial r.first) (events_shown r.events) ≡ record { start = start; scenes = scenes }
+    → opened ≡ opening name r.processes r.world.row r.first (text (sequential r.world.object).initial) start
+    → (let trace : Trace = record { range = range; opening = opened; scenes = scenes } in told_text words trace lines remarks) ≡ text_of_record words range (spoken sequential l r.world.object) text name r lines remarks
+text_is {O} words range sequential l text name r object is_whole count start scenes opened lines remarks same whole is_count is_part is_opened =
+    let o = spoken sequential l r.world.object in
+    let part : Excerpt = record { start = start; scenes = scenes } in
+    ap (λ trace. told_text words trace lines remarks)
+    (trace_is range is_whole o text name r.processes r.world.row r.first count (events_shown r.events) start scenes opened is_count
+    (subst (λ (x : O). excerpt_of (sequential x) l text is_whole range.from count (opened_world r.processes (sequential x).initial r.first) (events_shown r.events) ≡ part) same is_part) is_opened
+    ∙ ap (λ b. trace_of_events range b o text name r.processes r.world.row r.first (events_shown r.events)) whole)
+
+scenes_length : {S I R : Type 0} (object : Sequential S I R) (l : Language I R) (text : S → List ℕ) (is_whole : Bool) (w : WorldOf S I R) (events : List (Event I)) → length (scenes_from object l text is_whole w events) ≡ length events
+scenes_length object l text is_whole w [] = refl
+scenes_length object l text is_whole w (e ∷ events) = ap suc (scenes_length object l text is_whole (world_after object w e) events)
+
+taken_few : {A : Type 0} (k : ℕ) (xs : List A) → length (take k xs) ≤ length xs
+taken_few zero xs = omega arith
+taken_few (suc k) [] = omega arith
+taken_few (suc k) (x ∷ xs) = let few = taken_few k xs in omega (arith, few)
+
+-- there are as many scenes as events at most, from the one on with which they begin
+pub scenes_few : {S I R : Type 0} (object : Sequential S I R) (l : Language I R) (text : S → List ℕ) (is_whole : Bool) (from most : ℕ) (w : WorldOf S I R) (events : List (Event I)) (scenes : List (Option Scene))
+    → (excerpt_of object l text is_whole from most w events).scenes ≡ scenes → length scenes ≤ length events - from
+scenes_few object l text is_whole from most w events scenes is =
+    let made : length scenes ≡ length (take most (drop from events)) = sym (ap length is) ∙ scenes_length object l text is_whole _ (take most (drop from events)) in
+    let few : length (take most (drop from events)) ≤ length (drop from events) = taken_few most (drop from events) in
+    let rest : length (drop from events) ≡ length events - from = length-drop from events in
+    omega (arith, made, few, rest)
 
 pub IsToldBy-run : (tell : ScriptSession → (lines : List ℕ) → List PlacedRemark → List ℕ) (range : Range) (left : Option (List ℕ)) (run : ScriptRun ScriptRecord) (is : IsScriptRun (record { history = 1048576; echo = Off }) left run) (text : List ℕ) → count_in range (events_of_record run.record) ≤ 2000
     → text ≡ tell (session_of_record is.3.2.version run.record) run.lines.items run.remarks.items

@@ -1,8 +1,9 @@
 -- JSON, as text.
-use Rattle.std.specs.Prelude.{◌≡◌, ℕ, ◌+◌, ◌-◌, ◌/◌, ◌%◌, ◌==◌, nat_lt, if◌then◌else◌, Bool, true, false}
-use Rattle.std.specs.Prelude.{List, [], ◌∷◌, ◌++◌, map, Option, None, Some, codes, refl}
-use Rattle.std.specs.Fmt.{decimal, digits}
-use Rattle.std.specs.List.{flat_map}
+use Rattle.std.specs.Prelude.{Bool, List, None, Option, Some, [], codes, decimal, false, flat_map, if◌then◌else◌, map, nat_lt, option_map, refl, true, ℕ, ◌%◌, ◌++◌, ◌+◌, ◌-◌, ◌/◌, ◌==◌, ◌∷◌, ◌≡◌}
+use Rattle.run_tell.specs.Vocabulary.{digits}
+use Rattle.run_tell.specs.declared.value.Member.{Member as MemberOfCode}
+use Rattle.run_tell.specs.declared.value.Value.{Value as ValueOfCode}
+use Rattle.run_tell.specs.declared.value.Value.TheVariants as code
 
 -- ---- strings
 
@@ -110,3 +111,14 @@ values_that_may_be_missing = refl
 two_elements : list_text (codes "1" ∷ object_text [] ∷ []) ≡ codes "[1,{}]"
 unfolding object_text list_text
 two_elements = refl
+
+abbrev pub value_shown : ValueOfCode → Value
+value_shown (code.Number n) = Number n
+value_shown (code.Text text) = Text text.now
+value_shown (code.Flag flag) = Flag flag
+value_shown (code.MaybeNumber n) = MaybeNumber n
+value_shown (code.MaybeText text) = MaybeText (option_map (λ t. t.items) text.now)
+value_shown (code.Json text) = Json text.now
+
+abbrev pub member_shown : MemberOfCode → Member
+member_shown m = named m.0.now (value_shown m.1)

@@ -1,14 +1,7 @@
+pub mod Vocabulary
 pub mod Json
-pub mod JsonShown
-pub mod Access
-pub mod Opened
-pub mod Order
 pub mod Told
-pub mod Written
 pub mod TraceLines
 pub mod Sentences
-pub mod Steps
-pub mod HistoryLines
 pub mod History
 pub mod Page
-pub mod Rows

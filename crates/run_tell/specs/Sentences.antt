@@ -1,23 +1,26 @@
--- The sentences of a run.
-use Rattle.std.specs.Prelude.{◌≡◌, ℕ, nat_le, if◌then◌else◌, List, [], ◌∷◌, ◌++◌, length, Option, Some, None}
-use Rattle.std.specs.Prelude.{codes, refl}
-use Rattle.std.specs.Fmt.{decimal, digits}
-use Rattle.std.specs.List.{flat_map}
-use Rattle.uni_core.specs.declared.stage.StepKind.{StepKind}
-use Rattle.uni_core.specs.declared.stage.StepKind.TheVariants.{Announce, ScanHead, ScanSeq, WriteScan, Test, ReadAnnounce, ReadHelpSeq}
-use Rattle.uni_core.specs.declared.stage.StepKind.TheVariants.{DecideAfter, DecideNew, WriteBefore, WriteSeq, WriteHead, Finish}
-use Rattle.uni_script.specs.declared.answer.Refusal.{Refusal}
-use Rattle.uni_script.specs.declared.answer.Refusal.TheVariants.{Idle, Count}
-use Rattle.uni_script.specs.declared.remarks.Remark.{Remark}
-use Rattle.uni_script.specs.declared.remarks.Remark.TheVariants.{Heading, Note, Refused}
+-- The sentences of a run, and what steps do to their places.
+use Rattle.std.specs.Prelude.{List, None, Option, Some, [], codes, decimal, false, flat_map, if◌then◌else◌, length, nat_le, refl, ℕ, ◌++◌, ◌∷◌, ◌≡◌}
+use Rattle.run_tell.specs.Vocabulary.{Begins, Begun, Change, Count, Ended, Ends, Field, Frame, Heading, Held, Idle, Note, Refusal, Refused, Remark, Start, StepKind, Stepped, Steps, alone, cell_text, changes_between, counted_text, digits, letter_of}
 use Rattle.run_layout.specs.Wording.{refused_text}
-use Rattle.run_layout.specs.Wording.{counted_text, letter_of}
 use Rattle.run_layout.specs.Wording.{lines_of}
-use Rattle.run_replay.specs.Held.{Change, Field, Held, alone, cell_text, changes_between}
-use Rattle.run_replay.specs.Scenes.{Begun, Ended, Frame, Stepped, Begins, Steps, Ends}
-use Rattle.run_replay.specs.Scenes.{Start}
-use Rattle.run_tell.specs.Access.{access_of}
-use Rattle.run_tell.specs.Opened.{Opening}
+use Rattle.uni_core.specs.declared.stage.StepKind.TheVariants.{Announce, DecideAfter, DecideNew, Finish, ReadAnnounce, ReadHelpSeq, ScanHead, ScanSeq, Test, WriteBefore, WriteHead, WriteScan, WriteSeq}
+use Rattle.run_tell.specs.Told.{Opening, Wording}
+
+-- what a kind of step does to its place
+abbrev pub access_of : StepKind → List ℕ
+access_of Announce = codes "writes"
+access_of ScanHead = codes "reads"
+access_of ScanSeq = codes "reads"
+access_of WriteScan = codes "writes"
+access_of Test = codes "reads"
+access_of ReadAnnounce = codes "reads"
+access_of ReadHelpSeq = codes "reads"
+access_of DecideAfter = codes "proposes"
+access_of DecideNew = codes "proposes"
+access_of WriteBefore = codes "writes"
+access_of WriteSeq = codes "writes"
+access_of WriteHead = codes "writes"
+access_of Finish = codes "writes"
 
 -- ---- lines
 
@@ -67,18 +70,12 @@ role_of Finish = codes "."
 abbrev pub plain_words : Stepped → List ℕ
 plain_words s = access_of s.kind ++ codes " " ++ s.after.field.name ++ codes ": " ++ s.after.field.text ++ role_of s.kind
 
--- how many own steps and turns a call took
-abbrev pub spent_words : (steps turns : ℕ) → List ℕ
-spent_words steps turns =
-    codes " after " ++ counted_text steps (codes "step") (codes "steps") ++ codes " and "
-    ++ counted_text turns (codes "turn") (codes "turns")
-
-abbrev pub holds_words : Held → List ℕ
-holds_words h = codes "; " ++ h.field.name ++ codes " is " ++ h.field.text ++ codes "."
-
--- the last step of a call
+-- the last step of a call: its reply, how many own steps and turns it took, and what its place holds
 abbrev pub return_words : (reply : List ℕ) → Stepped → List ℕ
-return_words reply s = codes "returns " ++ reply ++ spent_words s.steps s.turns ++ holds_words s.after
+return_words reply s =
+    codes "returns " ++ reply ++ codes " after " ++ counted_text s.steps (codes "step") (codes "steps") ++ codes " and "
+    ++ counted_text s.turns (codes "turn") (codes "turns") ++ codes "; " ++ s.after.field.name ++ codes " is " ++ s.after.field.text
+    ++ codes "."
 
 -- what is proposed for a place
 abbrev pub reply_words : Option Field → List ℕ
@@ -94,16 +91,13 @@ outcome_words [] after = codes "; " ++ after.field.text ++ codes " is there alre
 outcome_words (c ∷ changes) after = codes ": won."
 
 -- the sentence of a step
-abbrev pub kept_words : (reply : Option (List ℕ)) → Stepped → List ℕ
-kept_words None s = plain_words s
-kept_words (Some reply) s = return_words reply s
-
-abbrev pub sentence_by : (proposed : Option Held) → Stepped → List ℕ
-sentence_by None s = kept_words s.reply s
-sentence_by (Some proposed) s = proposed_words proposed ++ outcome_words (changes_between s.before s.after) s.after
+abbrev pub sentence_by : (proposed : Option Held) (reply : Option (List ℕ)) → Stepped → List ℕ
+sentence_by (Some proposed) reply s = proposed_words proposed ++ outcome_words (changes_between s.before s.after) s.after
+sentence_by None (Some reply) s = return_words reply s
+sentence_by None None s = plain_words s
 
 abbrev pub sentence : Stepped → List ℕ
-sentence s = sentence_by s.proposed s
+sentence s = sentence_by s.proposed s.reply s
 
 -- the end of an era
 abbrev pub end_word : Option ℕ → List ℕ
@@ -113,11 +107,8 @@ end_word (Some processes) = codes "reshape to " ++ counted_text processes (codes
 unfoldable pub number_words : (number : ℕ) → List ℕ
 number_words number = codes ": the anchor alone is left, with number " ++ decimal number ++ codes " and state "
 
-abbrev pub left_words : (number : ℕ) (anchor : Held) → List ℕ
-left_words number anchor = number_words number ++ anchor.field.text ++ codes "."
-
 abbrev pub end_sentence : Ended → List ℕ
-end_sentence e = end_word e.reshaped ++ left_words e.number e.anchor
+end_sentence e = end_word e.reshaped ++ number_words e.number ++ e.anchor.field.text ++ codes "."
 
 -- what an event did, whose event it is with the letter of its kind, and both with its number
 abbrev pub frame_sentence : Frame → List ℕ
@@ -148,12 +139,9 @@ frame_text k f = line_text (frame_words k f) ++ changes_text (changes_in f)
 abbrev pub refused_words : (command : List ℕ) → Refusal → List ℕ
 refused_words command refusal = refused_text command refusal ++ codes "."
 
-abbrev pub note_words : List ℕ → List ℕ
-note_words text = codes "# " ++ text
-
 abbrev pub remark_words : Remark → List ℕ
-remark_words (Heading text) = note_words text.items
-remark_words (Note text) = note_words text.items
+remark_words (Heading text) = codes "# " ++ text.items
+remark_words (Note text) = codes "# " ++ text.items
 remark_words (Refused command refusal) = refused_words command.items refusal
 
 -- ---- the run
@@ -240,3 +228,13 @@ refused_reshape = refl
 changed_entry : change_words (record { name = codes "announce[1]"; before = codes "anchor"; after = codes "1.0" })
     ≡ codes "announce[1]: anchor -> 1.0"
 changed_entry = refl
+
+-- a run, in words
+abbrev pub steps_wording : Wording
+steps_wording =
+    record {
+      is_whole = false;
+      opening = λ o. line_text (opening_words o);
+      event = λ k line scene. frame_text k scene.frame;
+      remark = λ one. line_text (remark_words one.remark);
+    }

@@ -1,20 +1,9 @@
 -- The lines of a trace, each an object: its members.
-use Rattle.std.specs.Prelude.{◌≡◌, ℕ, Bool, true, false, List, [], ◌∷◌, ◌++◌, map, Option, Some, None, option_map, codes, refl}
-use Rattle.std.specs.List.{flat_map}
-use Rattle.std.specs.Option.{option_map_or}
-use Rattle.run_tell.specs.Json.{Value, Number, Text, Flag, MaybeNumber, MaybeText, Json, Member, named, object_text, list_text}
-use Rattle.uni_core.specs.declared.stage.StepKind.{StepKind}
-use Rattle.uni_script.specs.declared.answer.Refusal.{Refusal}
-use Rattle.uni_script.specs.declared.remarks.Remark.{Remark}
-use Rattle.uni_script.specs.declared.remarks.Remark.TheVariants.{Heading, Note, Refused}
-use Rattle.run_layout.specs.Wording.{lane_of, letter_of, meaning_of, refusal_words}
-use Rattle.run_replay.specs.Held.{Change, Field, Held, alone, cell_text, changes_between}
-use Rattle.run_tell.specs.Access.{access_of}
-use Rattle.run_tell.specs.Opened.{Opening}
-use Rattle.run_tell.specs.Order.{Wording}
-use Rattle.uni_script.specs.declared.remarks.PlacedRemark.{PlacedRemark}
-use Rattle.run_replay.specs.Scenes.{Begun, Ended, Frame, Stepped, Begins, Steps, Ends}
-use Rattle.run_replay.specs.Scenes.{Scene, Start}
+use Rattle.std.specs.Prelude.{Bool, List, None, Option, Some, [], codes, false, flat_map, map, option_map, refl, true, ℕ, ◌++◌, ◌∷◌, ◌≡◌}
+use Rattle.run_tell.specs.Vocabulary.{Begins, Begun, Change, Ended, Ends, Field, Frame, Heading, Held, Note, PlacedRemark, Refusal, Refused, Remark, Scene, Start, StepKind, Stepped, Steps, alone, cell_text, changes_between, lane_of, letter_of, meaning_of, option_map_or, refusal_words}
+use Rattle.run_tell.specs.Json.{Flag, Json, MaybeNumber, MaybeText, Member, Number, Text, Value, list_text, named, object_text}
+use Rattle.run_tell.specs.Sentences.{access_of}
+use Rattle.run_tell.specs.Told.{Opening, Wording}
 
 -- ---- values
 

@@ -1,13 +1,10 @@
 //! From the bytes of a script to the history of its run.
 
 ghost use Rattle.std.specs.Prelude.{◌≡◌, ◌≢◌, IsErrOf, false, true};
-ghost use Rattle.uni_script.specs.Replay.{HasFault, IsFaultOfScript};
-ghost use Rattle.uni_script.specs.Scripts.{scripts_of};
-ghost use Rattle.uni_script.specs.declared.fault.BenchFault.{BenchFault as Fault};
-ghost use Rattle.run_layout.specs.Choice.{all_events};
-ghost use Rattle.run_layout.specs.Subject.{HasTooManyEvents};
+ghost use Rattle.run_tell.specs.Vocabulary.{BenchFault as Fault, HasFault, HasTooManyEvents, IsFaultOfScript};
+ghost use Rattle.run_tell.specs.Vocabulary.{all_events, scripts_of};
 ghost use Rattle.run_tell.specs.History.{IsHistory};
-ghost use Rattle.run_tell.specs.Written.{WritesSuch};
+ghost use Rattle.run_tell.specs.Told.{WritesSuch};
 
 use crate::history_lines::{push_observed, push_opening_line};
 use crate::opened::Opened;
@@ -22,7 +19,7 @@ use uni_script::{PlacedRemark, TextIn, TextOut};
 pub struct InHistory;
 
 impl Telling for InHistory {
-    ghost use Rattle.run_tell.specs.HistoryLines.{history_wording};
+    ghost use Rattle.run_tell.specs.History.{history_wording};
 
     ghost wording = { history_wording };
 
@@ -49,11 +46,10 @@ impl Telling for InHistory {
     }
 }
 
-/// Writes the history of the run of the script that a reader has: lines of JSON. It is linearizable.
-///
-/// An `Err` is the first fault of the script; `Read` where the reader failed; `Memory` where memory was refused;
-/// `TooManyEvents` of a good script that has more than 2,000 events; or `Write` where the output failed. With `Memory`
-/// and `Write` a prefix may be written, else nothing is.
+/// Writes the history of the run of the script that a reader has: lines of JSON. It is linearizable. An `Err` is the
+/// first fault of the script; `Read` where the reader failed; `Memory` where memory was refused; `TooManyEvents` of a
+/// good script that has more than 2,000 events; or `Write` where the output failed. With `Memory` and `Write` a prefix
+/// may be written, else nothing is.
 pub fn tell_history<I: TextIn, W: TextOut>(
     alloc: Global,
     reader: &mut I,

@@ -1,12 +1,11 @@
 //! The lines of a history, each an object of JSON.
 
-ghost use Rattle.std.specs.Prelude.{◌≡◌, ◌++◌, [], OnOk, map, option_map};
-ghost use Rattle.std.specs.Option.{option_map_or};
-ghost use Rattle.run_tell.specs.JsonShown.{member_shown};
-ghost use Rattle.run_replay.specs.Scenes.{frame_shown};
+ghost use Rattle.std.specs.Prelude.{◌++◌, ◌≡◌, OnOk, [], option_map};
+ghost use Rattle.run_tell.specs.Vocabulary.{frame_shown, option_map_or};
+ghost use Rattle.run_tell.specs.History.{call_members, observed_line, opening_line, replied_line};
+ghost use Rattle.run_tell.specs.Json.{member_shown};
+ghost use Rattle.run_tell.specs.Told.{opening_shown};
 ghost use Rattle.run_tell.specs.TraceLines.{line_text};
-ghost use Rattle.run_tell.specs.Opened.{opening_shown};
-ghost use Rattle.run_tell.specs.HistoryLines.{call_members, observed_line, opening_line, replied_line};
 
 use crate::opened::Opened;
 use crate::trace::push_line;
@@ -16,8 +15,6 @@ use seq_object::CallId;
 use std::alloc::{AllocError, Global};
 
 /// Adds the line of a run: the word of its object, how many processes there were first, and its first state.
-///
-/// An `Err` says that memory was refused.
 pub(crate) fn push_opening_line(text: &mut Vec<u8>, opened: &Opened<'_>) -> Result<(), AllocError>
     ensures { OnOk result (text.new.items ≡ text.old.items ++ opening_line (opening_shown opened.now)) }
 {
@@ -32,8 +29,6 @@ pub(crate) fn push_opening_line(text: &mut Vec<u8>, opened: &Opened<'_>) -> Resu
 }
 
 /// Adds the line of a call, of a type, that tells this.
-///
-/// An `Err` says that memory was refused.
 fn push_call<'a>(
     alloc: Global,
     kind: &'a str,
@@ -55,8 +50,6 @@ fn push_call<'a>(
 }
 
 /// Adds the line of what is observed of an event: a call that begins, or a reply.
-///
-/// An `Err` says that memory was refused.
 pub(crate) fn push_observed(
     alloc: Global,
     frame: &Frame,
@@ -75,8 +68,6 @@ pub(crate) fn push_observed(
 }
 
 /// Adds the line of the reply to a call, where there is one.
-///
-/// An `Err` says that memory was refused.
 fn push_reply(
     alloc: Global,
     call: CallId,

@@ -1,32 +1,25 @@
 //! The text of objects and lists.
 
-ghost use Rattle.std.specs.Prelude.{◌≡◌, ◌++◌, ◌<◌, IfOk, OnOk, map};
-ghost use Rattle.std.specs.Fmt.{decimal};
-ghost use Rattle.std.specs.List.{flat_map};
+ghost use Rattle.std.specs.Prelude.{◌++◌, ◌<◌, ◌≡◌, IfOk, OnOk, decimal, flat_map, map};
 ghost use Rattle.run_tell.specs.Json.{after_comma, code_text, escaped, escaped_byte, hex_digit, list_text};
-ghost use Rattle.run_tell.specs.Json.{member_text, object_text, quoted, separated, value_text};
-ghost use Rattle.run_tell.specs.JsonShown.{member_shown, value_shown};
+ghost use Rattle.run_tell.specs.Json.{member_shown, member_text, object_text, quoted, separated, value_shown};
+ghost use Rattle.run_tell.specs.Json.{value_text};
 
 use crate::value::{Member, Value};
 use std::alloc::{AllocError, Global};
 use std::io::Write;
 
-/// Adds an object with these members, in order.
-///
-/// An `Err` says that memory was refused.
+/// Adds an object with these members, in order. An `Err` says that memory was refused.
 #[tactic(auto, unfolding(crate::specs::Json::object_text))]
 pub fn push_object(text: &mut Vec<u8>, members: &[Member<'_>]) -> Result<(), AllocError>
     ensures { OnOk result (text.new.items ≡ text.old.items ++ object_text (map member_shown members.now)) }
 {
     text.push(b'{')?;
     push_members(text, members)?;
-    text.push(b'}')?;
-    Ok(())
+    text.extend_from_slice(b"}")
 }
 
-/// The text of an object with these members.
-///
-/// An `Err` says that memory was refused.
+/// The text of an object with these members. An `Err` says that memory was refused.
 pub fn object_of(alloc: Global, members: &[Member<'_>]) -> Result<Vec<u8>, AllocError>
     ensures { IfOk result (λ text. text.items ≡ object_text (map member_shown members.now)) }
 {
@@ -35,9 +28,7 @@ pub fn object_of(alloc: Global, members: &[Member<'_>]) -> Result<Vec<u8>, Alloc
     Ok(text)
 }
 
-/// Adds members with commas between them.
-///
-/// An `Err` says that memory was refused.
+/// Adds members with commas between them. An `Err` says that memory was refused.
 pub fn push_members(text: &mut Vec<u8>, members: &[Member<'_>]) -> Result<(), AllocError>
     ensures { OnOk result (text.new.items
         ≡ text.old.items ++ separated (map member_text (map member_shown members.now))) }
@@ -49,9 +40,7 @@ pub fn push_members(text: &mut Vec<u8>, members: &[Member<'_>]) -> Result<(), Al
     push_more_members(text, more)
 }
 
-/// Adds members with a comma before each.
-///
-/// An `Err` says that memory was refused.
+/// Adds members with a comma before each. An `Err` says that memory was refused.
 pub fn push_more_members(text: &mut Vec<u8>, members: &[Member<'_>]) -> Result<(), AllocError>
     ensures { OnOk result (text.new.items
         ≡ text.old.items ++ flat_map after_comma (map member_text (map member_shown members.now))) }
@@ -63,9 +52,7 @@ pub fn push_more_members(text: &mut Vec<u8>, members: &[Member<'_>]) -> Result<(
     Ok(())
 }
 
-/// The text of a list whose elements have these texts, which are to be JSON.
-///
-/// An `Err` says that memory was refused.
+/// The text of a list whose elements have these texts, which are to be JSON. An `Err` says that memory was refused.
 #[tactic(auto, unfolding(crate::specs::Json::list_text))]
 pub fn list_of(alloc: Global, elements: &[Vec<u8>]) -> Result<Vec<u8>, AllocError>
     ensures { IfOk result (λ text. text.items ≡ list_text (map (λ e. e.items) elements.now)) }
@@ -78,8 +65,6 @@ pub fn list_of(alloc: Global, elements: &[Vec<u8>]) -> Result<Vec<u8>, AllocErro
 }
 
 /// Adds texts with commas between them.
-///
-/// An `Err` says that memory was refused.
 fn push_elements(text: &mut Vec<u8>, elements: &[Vec<u8>]) -> Result<(), AllocError>
     ensures { OnOk result (text.new.items ≡ text.old.items ++ separated (map (λ e. e.items) elements.now)) }
 {
@@ -91,8 +76,6 @@ fn push_elements(text: &mut Vec<u8>, elements: &[Vec<u8>]) -> Result<(), AllocEr
 }
 
 /// Adds texts with a comma before each.
-///
-/// An `Err` says that memory was refused.
 fn push_more_elements(text: &mut Vec<u8>, elements: &[Vec<u8>]) -> Result<(), AllocError>
     ensures { OnOk result (text.new.items
         ≡ text.old.items ++ flat_map after_comma (map (λ e. e.items) elements.now)) }
@@ -105,8 +88,6 @@ fn push_more_elements(text: &mut Vec<u8>, elements: &[Vec<u8>]) -> Result<(), Al
 }
 
 /// Adds a member.
-///
-/// An `Err` says that memory was refused.
 fn push_member(text: &mut Vec<u8>, one: &Member<'_>) -> Result<(), AllocError>
     ensures { OnOk result (text.new.items ≡ text.old.items ++ member_text (member_shown one.now)) }
 {
@@ -116,8 +97,6 @@ fn push_member(text: &mut Vec<u8>, one: &Member<'_>) -> Result<(), AllocError>
 }
 
 /// Adds a value.
-///
-/// An `Err` says that memory was refused.
 fn push_value(text: &mut Vec<u8>, value: Value<'_>) -> Result<(), AllocError>
     ensures { OnOk result (text.new.items ≡ text.old.items ++ value_text (value_shown value.entry)) }
 {
@@ -134,8 +113,6 @@ fn push_value(text: &mut Vec<u8>, value: Value<'_>) -> Result<(), AllocError>
 }
 
 /// Adds a number.
-///
-/// An `Err` says that memory was refused.
 fn push_number(text: &mut Vec<u8>, number: u64) -> Result<(), AllocError>
     ensures { OnOk result (text.new.items ≡ text.old.items ++ decimal number) }
 {
@@ -143,20 +120,15 @@ fn push_number(text: &mut Vec<u8>, number: u64) -> Result<(), AllocError>
 }
 
 /// Adds a string: its text, escaped, between quotes.
-///
-/// An `Err` says that memory was refused.
 fn push_quoted(text: &mut Vec<u8>, words: &[u8]) -> Result<(), AllocError>
     ensures { OnOk result (text.new.items ≡ text.old.items ++ quoted words.now) }
 {
     text.push(b'"')?;
     push_escaped(text, words)?;
-    text.push(b'"')?;
-    Ok(())
+    text.extend_from_slice(b"\"")
 }
 
 /// Adds a text with each quote, backslash and control byte escaped.
-///
-/// An `Err` says that memory was refused.
 fn push_escaped(text: &mut Vec<u8>, words: &[u8]) -> Result<(), AllocError>
     ensures { OnOk result (text.new.items ≡ text.old.items ++ escaped words.now) }
 {
@@ -167,8 +139,6 @@ fn push_escaped(text: &mut Vec<u8>, words: &[u8]) -> Result<(), AllocError>
 }
 
 /// Adds a byte of a string, escaped.
-///
-/// An `Err` says that memory was refused.
 fn push_escaped_byte(text: &mut Vec<u8>, byte: u8) -> Result<(), AllocError>
     ensures { OnOk result (text.new.items ≡ text.old.items ++ escaped_byte byte) }
 {
@@ -176,24 +146,17 @@ fn push_escaped_byte(text: &mut Vec<u8>, byte: u8) -> Result<(), AllocError>
         b'"' => text.extend_from_slice("\\\"".as_bytes()),
         b'\\' => text.extend_from_slice("\\\\".as_bytes()),
         0..=31 => push_code(text, byte),
-        plain => {
-            text.push(plain)?;
-            Ok(())
-        }
+        plain => text.extend_from_slice(&[plain]),
     }
 }
 
 /// Adds a control byte by its code.
-///
-/// An `Err` says that memory was refused.
 fn push_code(text: &mut Vec<u8>, byte: u8) -> Result<(), AllocError>
     requires { byte < 32 }
     ensures { OnOk result (text.new.items ≡ text.old.items ++ code_text byte) }
 {
     text.extend_from_slice("\\u00".as_bytes())?;
-    text.push(hex_digit(byte / 16))?;
-    text.push(hex_digit(byte % 16))?;
-    Ok(())
+    text.extend_from_slice(&[hex_digit(byte / 16), hex_digit(byte % 16)])
 }
 
 /// The digit of a number below 16, in hexadecimal.

@@ -3,18 +3,18 @@
 //!
 //! What the pieces are, a `Telling` says: lines of JSON, which tell what each event did to the memory (a trace), or the
 //! calls that begin and the replies (a history); sentences for a terminal (steps); or a page for a browser, which needs
-//! no network. What they are stands in `specs`: `TraceLines`, `HistoryLines`, `Sentences` and `Page`; of what JSON they
+//! no network. What they are stands in `specs`: `TraceLines`, `History`, `Sentences` and `Page`; of what JSON they
 //! are made in `Json`. docs/trace.md and docs/pictures.md tell what a reader sees.
+//!
+//! Where nothing else is said, an `Err` says that memory was refused.
 #![tactic(auto)]
 
-mod access;
 mod history;
 mod history_lines;
 mod json;
 mod opened;
 mod order;
 mod page;
-mod page_laws;
 mod rows;
 mod sentences;
 mod steps;
@@ -24,15 +24,15 @@ mod trace_members;
 mod value;
 mod viewer;
 
-pub use access::access_of;
 pub use history::{InHistory, tell_history};
 pub use json::{list_of, object_of, push_members, push_more_members, push_object};
 pub use opened::Opened;
 pub use order::Telling;
-pub use page::{page_of, page_text};
-pub use page_laws::trace_ends_no_element;
+pub use page::{page_of, page_text, trace_ends_no_element};
 pub use rows::InRows;
-pub use sentences::{changes_in, frame_words, opening_words, push_sentence, remark_words};
+pub use sentences::{
+    access_of, changes_in, frame_words, opening_words, push_sentence, remark_words,
+};
 pub use steps::{InWords, push_change_words};
 pub use told::{tell_record, tell_script};
 pub use trace::{InJson, InLines, InWholeJson, push_line};

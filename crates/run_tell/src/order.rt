@@ -1,14 +1,11 @@
 //! The pieces of a run, told in order.
 
-ghost use Rattle.std.specs.Prelude.{◌≡◌, ◌⊎◌, ◌↔◌, ◌+◌, ◌++◌, ◌<◌, ◌≤◌, ◌^◌};
-ghost use Rattle.std.specs.Prelude.{[], IfErr, IfOk, IsErrOf, OnErr, OnOk, drop, false, length, slice_get};
+ghost use Rattle.std.specs.Prelude.{◌++◌, ◌+◌, ◌<◌, ◌^◌, ◌↔◌, ◌≡◌, ◌≤◌, ◌⊎◌};
+ghost use Rattle.std.specs.Prelude.{IfErr, IfOk, IsErrOf, OnErr, OnOk, [], drop, false, flat_map, length, slice_get};
 ghost use Rattle.std.specs.Prelude.{take, true};
-ghost use Rattle.std.specs.List.{flat_map};
-ghost use Rattle.uni_script.specs.Ends.{AppendsPrefix, Moves};
-ghost use Rattle.run_replay.specs.Scenes.{scene_shown};
-ghost use Rattle.run_tell.specs.Opened.{opening_shown, trace_with};
-ghost use Rattle.run_tell.specs.Order.{Wording, remark_told, told_before, told_text};
-ghost use Rattle.run_tell.specs.Written.{WritesText};
+ghost use Rattle.run_tell.specs.Vocabulary.{AppendsPrefix, Moves, scene_shown};
+ghost use Rattle.run_tell.specs.Told.{Wording, WritesText, opening_shown, remark_told, told_before, told_text};
+ghost use Rattle.run_tell.specs.Told.{trace_with};
 
 use crate::opened::Opened;
 use ready_objects::Spoken;
@@ -29,9 +26,7 @@ pub trait Telling {
     fn is_whole() -> bool
         ensures { result ≡ wording.is_whole };
 
-    /// Adds how a run opened.
-    ///
-    /// An `Err` says that memory was refused.
+    /// Adds how a run opened. An `Err` says that memory was refused.
     fn push_opening(
         alloc: Global,
         opened: &Opened<'_>,
@@ -39,9 +34,8 @@ pub trait Telling {
     ) -> Result<(), AllocError>
         ensures { OnOk result (text.new.items ≡ text.old.items ++ wording.opening (opening_shown opened.now)) };
 
-    /// Adds an event, by its number, that of the script's line that stored it, and its scene.
-    ///
-    /// An `Err` says that memory was refused.
+    /// Adds an event, by its number, that of the script's line that stored it, and its scene. An `Err` says that memory
+    /// was refused.
     fn push_scene(
         alloc: Global,
         event: u64,
@@ -52,16 +46,12 @@ pub trait Telling {
         ensures { OnOk result (text.new.items
             ≡ text.old.items ++ wording.event event line (scene_shown scene.now)) };
 
-    /// Adds what is told beside the events.
-    ///
-    /// An `Err` says that memory was refused.
+    /// Adds what is told beside the events. An `Err` says that memory was refused.
     fn push_remark(alloc: Global, one: &PlacedRemark, text: &mut Vec<u8>) -> Result<(), AllocError>
         ensures { OnOk result (text.new.items ≡ text.old.items ++ wording.remark one.now) };
 }
 
 /// Adds those of these remarks that are told where these events are chosen.
-///
-/// An `Err` says that memory was refused.
 fn push_remarks<T: Telling>(
     alloc: Global,
     range: Range,
@@ -99,8 +89,6 @@ fn line_of(event: u64, lines: &[u64]) -> Option<u64>
 }
 
 /// Adds an event, by its scene, behind those of these remarks that are told before it; the answer is the rest of them.
-///
-/// An `Err` says that memory was refused.
 fn push_event<'a, T: Telling>(
     alloc: Global,
     range: Range,
@@ -121,9 +109,8 @@ fn push_event<'a, T: Telling>(
     Ok(left)
 }
 
-/// Writes what was gathered, where it has so many bytes; none of it is left then.
-///
-/// An `Err` is `Write`: the output failed.
+/// Writes what was gathered, where it has so many bytes; none of it is left then. An `Err` is `Write`: the output
+/// failed.
 fn write_from<W: TextOut>(least: usize, text: &mut Vec<u8>, out: &mut W) -> Result<(), BenchFault>
     requires { W.has_failed out.old ≡ false }
     ensures moved { OnOk result (Moves (W.contents out.old) (W.contents out.new) text.old.items text.new.items) }
@@ -145,9 +132,8 @@ fn write_from<W: TextOut>(least: usize, text: &mut Vec<u8>, out: &mut W) -> Resu
 }
 
 /// Writes the events of some scenes, told: how the run opened, each event with its line and behind what is told before
-/// it, and what is told after the last. A scene is told and let go before the next is made.
-///
-/// An `Err` is `Memory` where memory was refused, or `Write` where the output failed; a prefix is written then.
+/// it, and what is told after the last. A scene is told and let go before the next is made. An `Err` is `Memory` where
+/// memory was refused, or `Write` where the output failed; a prefix is written then.
 pub(crate) fn tell_events<T: Telling, O: Spoken, W: TextOut>(
     alloc: Global,
     range: Range,

@@ -1,15 +1,11 @@
 //! From the bytes of a script to the page that shows its run.
 
-ghost use Rattle.std.specs.Prelude.{◌≡◌, ◌<◌, ◌≤◌, ◌++◌, IfOk, OnOk, IsErrOf, false};
-ghost use Rattle.uni_script.specs.Replay.{HasFault, IsFaultOfScript};
-ghost use Rattle.uni_script.specs.Scripts.{scripts_of};
-ghost use Rattle.uni_script.specs.declared.fault.BenchFault.{BenchFault as Fault};
-ghost use Rattle.uni_script.specs.declared.grammar.Version.{Version};
-ghost use Rattle.uni_script.specs.ScriptRun.{session_of_record};
-ghost use Rattle.run_layout.specs.Choice.{count_in};
-ghost use Rattle.run_layout.specs.Subject.{HasTooManyEvents, events_of_record};
+ghost use Rattle.std.specs.Prelude.{◌++◌, ◌<◌, ◌≡◌, ◌≤◌, IfOk, IsErrOf, List, OnOk, false, ℕ};
+ghost use Rattle.run_tell.specs.Vocabulary.{AllByRecursion, BenchFault as Fault, HasFault, HasTooManyEvents};
+ghost use Rattle.run_tell.specs.Vocabulary.{IsFaultOfScript, Version, count_in, events_of_record, scripts_of};
+ghost use Rattle.run_tell.specs.Vocabulary.{session_of_record};
+ghost use Rattle.run_tell.specs.Page.{IsPage, IsPlain, escaped, escaped_byte, page_between, page_text};
 ghost use Rattle.run_tell.specs.Told.{IsLinearizableSession, text_of_session};
-ghost use Rattle.run_tell.specs.Page.{IsPage, escaped, escaped_byte, page_between, page_text};
 
 use crate::order::Telling;
 use crate::rows::InRows;
@@ -21,24 +17,17 @@ use std::alloc::{AllocError, Global};
 use uni_script::{BenchFault, Checked, Options, ScriptRecord, ScriptRun, TextIn, run_of_script};
 
 /// Adds a byte of JSON, escaped.
-///
-/// An `Err` says that memory was refused.
 fn push_escaped_byte(text: &mut Vec<u8>, byte: u8) -> Result<(), AllocError>
     ensures { OnOk result (text.new.items ≡ text.old.items ++ escaped_byte byte) }
 {
     match byte {
         b'<' => text.extend_from_slice("\\u003c".as_bytes()),
         b'&' => text.extend_from_slice("\\u0026".as_bytes()),
-        plain => {
-            text.push(plain)?;
-            Ok(())
-        }
+        plain => text.extend_from_slice(&[plain]),
     }
 }
 
 /// Adds JSON with each `<` and `&`, which it has in strings alone, escaped.
-///
-/// An `Err` says that memory was refused.
 fn push_escaped(text: &mut Vec<u8>, json: &[u8]) -> Result<(), AllocError>
     ensures { OnOk result (text.new.items ≡ text.old.items ++ escaped json.now) }
 {
@@ -48,9 +37,8 @@ fn push_escaped(text: &mut Vec<u8>, json: &[u8]) -> Result<(), AllocError>
     Ok(())
 }
 
-/// The rows of a table, and what a page walks through, escaped, between three texts: a trace, or a graph as JSON.
-///
-/// An `Err` says that memory was refused.
+/// The rows of a table, and what a page walks through, escaped, between three texts: a trace, or a graph as JSON. An
+/// `Err` says that memory was refused.
 #[tactic(auto, unfolding(crate::specs::Page::page_text))]
 pub fn page_text(
     alloc: Global,
@@ -71,9 +59,7 @@ pub fn page_text(
     Ok(text)
 }
 
-/// These events of the run of a script, told.
-///
-/// Errors: `TooManyEvents` where more than 2,000 are chosen; else `Memory`.
+/// These events of the run of a script, told. Errors: `TooManyEvents` where more than 2,000 are chosen; else `Memory`.
 fn text_of_run<T: Telling>(
     alloc: Global,
     range: Range,
@@ -96,9 +82,8 @@ fn text_of_run<T: Telling>(
     }
 }
 
-/// The page of these events of the run of a script.
-///
-/// Errors: `TooManyEvents` where more than 2,000 are chosen; else `Memory`.
+/// The page of these events of the run of a script. Errors: `TooManyEvents` where more than 2,000 are chosen; else
+/// `Memory`.
 fn page_of_run(
     alloc: Global,
     range: Range,
@@ -118,10 +103,9 @@ fn page_of_run(
     Ok(page_text(alloc, START, rows.end(), MIDDLE, lines.end(), END)?)
 }
 
-/// The page that shows these events of the run of the script that a reader has.
-///
-/// An `Err` is the first fault of the script; `Read` where the reader failed; `Memory` where memory was
-/// refused; or `TooManyEvents` of a good script of which more than 2,000 events are chosen.
+/// The page that shows these events of the run of the script that a reader has. An `Err` is the first fault of the
+/// script; `Read` where the reader failed; `Memory` where memory was refused; or `TooManyEvents` of a good script of
+/// which more than 2,000 events are chosen.
 pub fn page_of<I: TextIn>(
     alloc: Global,
     range: Range,
@@ -136,3 +120,9 @@ pub fn page_of<I: TextIn>(
     let run = run_of_script(alloc, reader, &Options::default())?;
     page_of_run(alloc, range, &run)
 }
+
+/// JSON as it stands in a page has no `<` and no `&`, so it begins no element, ends none, and names no character. It is
+/// a law, as the contract of a function that does nothing.
+pub fn trace_ends_no_element()
+    ensures { (json : List ℕ) → AllByRecursion IsPlain (escaped json) }
+{}

@@ -1,14 +1,12 @@
 //! The rows of the table that a page shows where no script runs.
 
-ghost use Rattle.std.specs.Prelude.{◌≡◌, ◌++◌, [], IfOk, OnOk, decimal, map, option_map};
-ghost use Rattle.std.specs.List.{flat_map};
-ghost use Rattle.std.specs.Option.{option_map_or};
-ghost use Rattle.run_replay.specs.Scenes.{change_shown, step_shown};
-ghost use Rattle.run_tell.specs.Rows.{cell, changed_words, reply_words, row_text, stage_words, told_cells};
+ghost use Rattle.std.specs.Prelude.{◌++◌, ◌≡◌, IfOk, OnOk, [], decimal, map, option_map};
+ghost use Rattle.run_tell.specs.Vocabulary.{change_shown, option_map_or, step_shown};
+ghost use Rattle.run_tell.specs.Page.{cell, changed_words, reply_words, row_text, stage_words, told_cells};
 
 use crate::opened::Opened;
 use crate::order::Telling;
-use crate::sentences::{changes_in, opening_words, push_sentence, remark_words};
+use crate::sentences::{changes_in, opening_words, push_all, push_sentence, remark_words};
 use crate::steps::push_change_words;
 use run_layout::{letter_of, name_of, push_counted};
 use run_replay::{Change, Frame, Scene, Step, cell_text};
@@ -18,8 +16,6 @@ use svg_text::push_escaped;
 use uni_script::PlacedRemark;
 
 /// Adds a cell with this text.
-///
-/// An `Err` says that memory was refused.
 fn push_cell(rows: &mut Vec<u8>, text: &[u8]) -> Result<(), AllocError>
     ensures { OnOk result (rows.new.items ≡ rows.old.items ++ cell text.now) }
 {
@@ -28,9 +24,7 @@ fn push_cell(rows: &mut Vec<u8>, text: &[u8]) -> Result<(), AllocError>
 }
 
 /// Adds a row of cells with these texts.
-///
-/// An `Err` says that memory was refused.
-#[tactic(auto, unfolding(crate::specs::Rows::row_text))]
+#[tactic(auto, unfolding(crate::specs::Page::row_text))]
 fn push_row(rows: &mut Vec<u8>, cells: &[&[u8]]) -> Result<(), AllocError>
     ensures { OnOk result (rows.new.items ≡ rows.old.items ++ row_text (map (λ text. text.now) cells.now)) }
 {
@@ -38,13 +32,10 @@ fn push_row(rows: &mut Vec<u8>, cells: &[&[u8]]) -> Result<(), AllocError>
     for text in cells {
         push_cell(rows, text)?;
     }
-    rows.push(b'\n')?;
-    Ok(())
+    rows.extend_from_slice(b"\n")
 }
 
 /// Adds the row of words without an event.
-///
-/// An `Err` says that memory was refused.
 fn push_told_row(rows: &mut Vec<u8>, words: &[u8]) -> Result<(), AllocError>
     ensures { OnOk result (rows.new.items ≡ rows.old.items ++ row_text (told_cells words.now)) }
 {
@@ -52,8 +43,6 @@ fn push_told_row(rows: &mut Vec<u8>, words: &[u8]) -> Result<(), AllocError>
 }
 
 /// The text of a number.
-///
-/// An `Err` says that memory was refused.
 fn number_text(alloc: Global, number: u64) -> Result<Vec<u8>, AllocError>
     ensures { IfOk result (λ text. text.items ≡ decimal number) }
 {
@@ -63,8 +52,6 @@ fn number_text(alloc: Global, number: u64) -> Result<Vec<u8>, AllocError>
 }
 
 /// What has changed, a line for each place.
-///
-/// An `Err` says that memory was refused.
 fn changed_words(alloc: Global, changes: &[Change]) -> Result<Vec<u8>, AllocError>
     ensures { IfOk result (λ words. words.items ≡ changed_words (map change_shown changes.now)) }
 {
@@ -77,24 +64,17 @@ fn changed_words(alloc: Global, changes: &[Change]) -> Result<Vec<u8>, AllocErro
 }
 
 /// Adds the reply of a call that has returned.
-///
-/// An `Err` says that memory was refused.
 fn push_reply(words: &mut Vec<u8>, reply: &Option<Vec<u8>>) -> Result<(), AllocError>
     ensures { OnOk result (words.new.items
         ≡ words.old.items ++ option_map_or reply_words (option_map (λ r. r.items) reply.now) []) }
 {
     match reply {
-        Some(reply) => {
-            words.extend_from_slice(b", reply ")?;
-            words.extend_from_slice(reply)
-        }
+        Some(reply) => push_all(words, &[b", reply ", reply]),
         None => Ok(()),
     }
 }
 
 /// What a call has come to with a step.
-///
-/// An `Err` says that memory was refused.
 fn stage_words(alloc: Global, step: &Step) -> Result<Vec<u8>, AllocError>
     ensures { IfOk result (λ words. words.items ≡ stage_words (step_shown step.now)) }
 {
@@ -110,7 +90,7 @@ fn stage_words(alloc: Global, step: &Step) -> Result<Vec<u8>, AllocError>
 pub struct InRows;
 
 impl Telling for InRows {
-    ghost use Rattle.run_tell.specs.Rows.{rows_wording};
+    ghost use Rattle.run_tell.specs.Page.{rows_wording};
 
     ghost wording = { rows_wording };
 

@@ -1,17 +1,14 @@
 //! The sentences of a run.
 
-ghost use Rattle.std.specs.Prelude.{◌≡◌, ◌++◌, IfOk, OnOk, [], codes, decimal, map, option_map};
-ghost use Rattle.run_replay.specs.Held.{changes_between};
-ghost use Rattle.run_replay.specs.Scenes.{begun_shown, change_shown, end_shown, field_shown, frame_shown};
-ghost use Rattle.run_replay.specs.Scenes.{held_shown, start_shown, step_shown};
-ghost use Rattle.run_tell.specs.Opened.{opening_shown};
-ghost use Rattle.run_tell.specs.Sentences.{begun_sentence, changes_in, end_sentence, end_word, frame_sentence};
-ghost use Rattle.run_tell.specs.Sentences.{frame_start, frame_words, holds_words, kept_words, left_out_words};
-ghost use Rattle.run_tell.specs.Sentences.{left_words, note_words, number_words, opening_words, outcome_words};
-ghost use Rattle.run_tell.specs.Sentences.{plain_words, proposed_words, refused_words, remark_words, reply_words};
-ghost use Rattle.run_tell.specs.Sentences.{return_words, role_of, run_words, sentence, spent_words};
+ghost use Rattle.std.specs.Prelude.{◌++◌, ◌≡◌, IfOk, OnOk, codes, decimal, flat_map, map, option_map};
+ghost use Rattle.run_tell.specs.Vocabulary.{begun_shown, change_shown, changes_between, end_shown, frame_shown};
+ghost use Rattle.run_tell.specs.Vocabulary.{held_shown, start_shown, step_shown};
+ghost use Rattle.run_tell.specs.Sentences.{access_of, begun_sentence, changes_in, end_sentence, end_word};
+ghost use Rattle.run_tell.specs.Sentences.{frame_sentence, frame_start, frame_words, left_out_words, number_words};
+ghost use Rattle.run_tell.specs.Sentences.{opening_words, outcome_words, plain_words, proposed_words, remark_words};
+ghost use Rattle.run_tell.specs.Sentences.{return_words, role_of, run_words, sentence};
+ghost use Rattle.run_tell.specs.Told.{opening_shown};
 
-use crate::access::access_of;
 use crate::opened::Opened;
 use run_layout::{letter_of, push_counted, refused_text};
 use run_replay::{Begun, Change, EndedEra, Field, Frame, Held, Start, Step, cell_text, changes_of};
@@ -20,19 +17,45 @@ use std::io::Write;
 use uni_core::StepKind;
 use uni_script::{Refusal, Remark};
 
+/// What a kind of step does to its place.
+pub fn access_of(kind: StepKind) -> &'static str
+    ensures { result.now ≡ access_of kind }
+{
+    match kind {
+        StepKind::ScanHead
+        | StepKind::ScanSeq
+        | StepKind::Test
+        | StepKind::ReadAnnounce
+        | StepKind::ReadHelpSeq => "reads",
+        StepKind::DecideAfter | StepKind::DecideNew => "proposes",
+        StepKind::Announce
+        | StepKind::WriteScan
+        | StepKind::WriteBefore
+        | StepKind::WriteSeq
+        | StepKind::WriteHead
+        | StepKind::Finish => "writes",
+    }
+}
+
+/// Adds texts, one after another.
+pub(crate) fn push_all(words: &mut Vec<u8>, pieces: &[&[u8]]) -> Result<(), AllocError>
+    ensures { OnOk result (words.new.items ≡ words.old.items ++ flat_map (λ piece. piece.now) pieces.now) }
+{
+    for piece in pieces {
+        words.extend_from_slice(piece)?;
+    }
+    Ok(())
+}
+
 /// Adds the sentence of a call that begins.
-///
-/// An `Err` says that memory was refused.
 fn push_begun_sentence(alloc: Global, begun: &Begun, words: &mut Vec<u8>) -> Result<(), AllocError>
     ensures { OnOk result (words.new.items ≡ words.old.items ++ begun_sentence (begun_shown begun.now)) }
 {
     let cell = cell_text(alloc, Some(begun.call))?;
-    words.extend_from_slice(b"calls ")?;
-    words.extend_from_slice(&begun.words)?;
-    words.extend_from_slice(b": its cell is ")?;
-    words.extend_from_slice(&cell)?;
-    words.push(b'.')?;
-    Ok(())
+    push_all(
+        words,
+        &[b"calls ", &begun.words, b": its cell is ", &cell, b"."],
+    )
 }
 
 /// What the place of a step that reads or writes is to its process, as the end of a sentence.
@@ -54,127 +77,54 @@ fn role_of(kind: StepKind) -> &'static str
 }
 
 /// Adds the sentence of a step that reads or writes.
-///
-/// An `Err` says that memory was refused.
 fn push_plain(words: &mut Vec<u8>, step: &Step) -> Result<(), AllocError>
     ensures { OnOk result (words.new.items ≡ words.old.items ++ plain_words (step_shown step.now)) }
 {
+    let field = &step.after.field;
     words.extend_from_slice(access_of(step.kind).as_bytes())?;
-    words.push(b' ')?;
-    words.extend_from_slice(&step.after.field.name)?;
-    words.extend_from_slice(b": ")?;
-    words.extend_from_slice(&step.after.field.text)?;
+    push_all(words, &[b" ", &field.name, b": ", &field.text])?;
     words.extend_from_slice(role_of(step.kind).as_bytes())
 }
 
-/// Adds how many own steps and turns a call took.
-///
-/// An `Err` says that memory was refused.
-fn push_spent(words: &mut Vec<u8>, steps: u64, turns: u64) -> Result<(), AllocError>
-    ensures { OnOk result (words.new.items ≡ words.old.items ++ spent_words steps turns) }
-{
-    words.extend_from_slice(b" after ")?;
-    push_counted(words, steps, "step", "steps")?;
-    words.extend_from_slice(b" and ")?;
-    push_counted(words, turns, "turn", "turns")
-}
-
-/// Adds what a place holds.
-///
-/// An `Err` says that memory was refused.
-fn push_holds(words: &mut Vec<u8>, held: &Held) -> Result<(), AllocError>
-    ensures { OnOk result (words.new.items ≡ words.old.items ++ holds_words (held_shown held.now)) }
-{
-    words.extend_from_slice(b"; ")?;
-    words.extend_from_slice(&held.field.name)?;
-    words.extend_from_slice(b" is ")?;
-    words.extend_from_slice(&held.field.text)?;
-    words.push(b'.')?;
-    Ok(())
-}
-
 /// Adds the sentence of the last step of a call, which has this reply.
-///
-/// An `Err` says that memory was refused.
 fn push_return(words: &mut Vec<u8>, reply: &[u8], step: &Step) -> Result<(), AllocError>
     ensures { OnOk result (words.new.items ≡ words.old.items ++ return_words reply.now (step_shown step.now)) }
 {
-    words.extend_from_slice(b"returns ")?;
-    words.extend_from_slice(reply)?;
-    push_spent(words, step.steps, step.turns)?;
-    push_holds(words, &step.after)
-}
-
-/// Adds the sentence of a step that proposes nothing.
-///
-/// An `Err` says that memory was refused.
-fn push_kept(words: &mut Vec<u8>, step: &Step) -> Result<(), AllocError>
-    ensures { OnOk result (words.new.items
-        ≡ words.old.items ++ kept_words (step_shown step.now).reply (step_shown step.now)) }
-{
-    match &step.reply {
-        Some(reply) => push_return(words, reply, step),
-        None => push_plain(words, step),
-    }
-}
-
-/// Adds the reply that is proposed with a state, and for which place.
-///
-/// An `Err` says that memory was refused.
-fn push_reply(words: &mut Vec<u8>, reply: &Option<Field>) -> Result<(), AllocError>
-    ensures { OnOk result (words.new.items
-        ≡ words.old.items ++ reply_words (option_map field_shown reply.now)) }
-{
-    let Some(reply) = reply else {
-        return Ok(());
-    };
+    let field = &step.after.field;
+    push_all(words, &[b"returns ", reply, b" after "])?;
+    push_counted(words, step.steps, "step", "steps")?;
     words.extend_from_slice(b" and ")?;
-    words.extend_from_slice(&reply.text)?;
-    words.extend_from_slice(b" for ")?;
-    words.extend_from_slice(&reply.name)
+    push_counted(words, step.turns, "turn", "turns")?;
+    push_all(words, &[b"; ", &field.name, b" is ", &field.text, b"."])
 }
 
-/// Adds what is proposed, and for which place.
-///
-/// An `Err` says that memory was refused.
+/// Adds what is proposed, and for which place: beside a state the reply.
 fn push_proposed(words: &mut Vec<u8>, proposed: &Held) -> Result<(), AllocError>
     ensures { OnOk result (words.new.items ≡ words.old.items ++ proposed_words (held_shown proposed.now)) }
 {
-    words.extend_from_slice(b"proposes ")?;
-    words.extend_from_slice(&proposed.field.text)?;
-    words.extend_from_slice(b" for ")?;
-    words.extend_from_slice(&proposed.field.name)?;
-    push_reply(words, &proposed.reply)
-}
-
-/// Adds that a proposal has lost, by what its place holds.
-///
-/// An `Err` says that memory was refused.
-fn push_lost(words: &mut Vec<u8>, after: &Held) -> Result<(), AllocError>
-    ensures { OnOk result (words.new.items ≡ words.old.items ++ outcome_words [] (held_shown after.now)) }
-{
-    words.extend_from_slice(b"; ")?;
-    words.extend_from_slice(&after.field.text)?;
-    words.extend_from_slice(b" is there already: lost.")?;
-    Ok(())
+    let field = &proposed.field;
+    push_all(words, &[b"proposes ", &field.text, b" for ", &field.name])?;
+    match &proposed.reply {
+        Some(reply) => push_all(words, &[b" and ", &reply.text, b" for ", &reply.name]),
+        None => Ok(()),
+    }
 }
 
 /// Adds what became of a proposal, by what has changed and by what the place holds after it.
-///
-/// An `Err` says that memory was refused.
 fn push_outcome(words: &mut Vec<u8>, changes: &[Change], after: &Held) -> Result<(), AllocError>
     ensures { OnOk result (words.new.items
         ≡ words.old.items ++ outcome_words (map change_shown changes.now) (held_shown after.now)) }
 {
-    match changes.split_first() {
-        Some(_) => words.extend_from_slice(b": won."),
-        None => push_lost(words, after),
+    match changes {
+        [] => push_all(
+            words,
+            &[b"; ", &after.field.text, b" is there already: lost."],
+        ),
+        _ => words.extend_from_slice(b": won."),
     }
 }
 
 /// Adds the sentence of a step, which made these changes.
-///
-/// An `Err` says that memory was refused.
 fn push_step_sentence(
     words: &mut Vec<u8>,
     step: &Step,
@@ -184,18 +134,17 @@ fn push_step_sentence(
         ≡ changes_between (held_shown step.now.before) (held_shown step.now.after) }
     ensures { OnOk result (words.new.items ≡ words.old.items ++ sentence (step_shown step.now)) }
 {
-    match &step.proposed {
-        Some(proposed) => {
+    match (&step.proposed, &step.reply) {
+        (Some(proposed), _) => {
             push_proposed(words, proposed)?;
             push_outcome(words, changes, &step.after)
         }
-        None => push_kept(words, step),
+        (None, Some(reply)) => push_return(words, reply, step),
+        (None, None) => push_plain(words, step),
     }
 }
 
 /// Adds how an era ended.
-///
-/// An `Err` says that memory was refused.
 fn push_end_word(words: &mut Vec<u8>, reshaped: Option<u64>) -> Result<(), AllocError>
     ensures { OnOk result (words.new.items ≡ words.old.items ++ end_word reshaped) }
 {
@@ -209,8 +158,6 @@ fn push_end_word(words: &mut Vec<u8>, reshaped: Option<u64>) -> Result<(), Alloc
 }
 
 /// Adds that the end of an era leaves an anchor with this number.
-///
-/// An `Err` says that memory was refused.
 #[tactic(auto, unfolding(crate::specs::Sentences::number_words))]
 fn push_number(words: &mut Vec<u8>, number: u64) -> Result<(), AllocError>
     ensures { OnOk result (words.new.items ≡ words.old.items ++ number_words number) }
@@ -222,31 +169,16 @@ fn push_number(words: &mut Vec<u8>, number: u64) -> Result<(), AllocError>
     .map_err(|_| AllocError)
 }
 
-/// Adds what the end of an era leaves.
-///
-/// An `Err` says that memory was refused.
-fn push_left(words: &mut Vec<u8>, number: u64, anchor: &Held) -> Result<(), AllocError>
-    ensures { OnOk result (words.new.items ≡ words.old.items ++ left_words number (held_shown anchor.now)) }
-{
-    push_number(words, number)?;
-    words.extend_from_slice(&anchor.field.text)?;
-    words.push(b'.')?;
-    Ok(())
-}
-
 /// Adds the sentence of the end of an era.
-///
-/// An `Err` says that memory was refused.
 fn push_end_sentence(words: &mut Vec<u8>, end: &EndedEra) -> Result<(), AllocError>
     ensures { OnOk result (words.new.items ≡ words.old.items ++ end_sentence (end_shown end.now)) }
 {
     push_end_word(words, end.reshaped)?;
-    push_left(words, end.number, &end.anchor)
+    push_number(words, end.number)?;
+    push_all(words, &[&end.anchor.field.text, b"."])
 }
 
-/// Adds what an event did, which made these changes, in a sentence.
-///
-/// An `Err` says that memory was refused.
+/// Adds what an event did, which made these changes, in a sentence. An `Err` says that memory was refused.
 pub fn push_sentence(
     alloc: Global,
     frame: &Frame,
@@ -264,8 +196,6 @@ pub fn push_sentence(
 }
 
 /// Adds the number of a process.
-///
-/// An `Err` says that memory was refused.
 fn push_process(words: &mut Vec<u8>, process: u32) -> Result<(), AllocError>
     ensures { OnOk result (words.new.items ≡ words.old.items ++ (codes "P" ++ decimal process ++ codes "  ")) }
 {
@@ -273,8 +203,6 @@ fn push_process(words: &mut Vec<u8>, process: u32) -> Result<(), AllocError>
 }
 
 /// Adds whose event it is, with the letter of its kind.
-///
-/// An `Err` says that memory was refused.
 fn push_frame_start(words: &mut Vec<u8>, frame: &Frame) -> Result<(), AllocError>
     ensures { OnOk result (words.new.items ≡ words.old.items ++ frame_start (frame_shown frame.now)) }
 {
@@ -289,9 +217,7 @@ fn push_frame_start(words: &mut Vec<u8>, frame: &Frame) -> Result<(), AllocError
     }
 }
 
-/// The words of an event, which made these changes.
-///
-/// An `Err` says that memory was refused.
+/// The words of an event, which made these changes. An `Err` says that memory was refused.
 pub fn frame_words(
     alloc: Global,
     event: u64,
@@ -308,9 +234,7 @@ pub fn frame_words(
     Ok(words)
 }
 
-/// The places that an event changed.
-///
-/// An `Err` says that memory was refused.
+/// The places that an event changed. An `Err` says that memory was refused.
 pub fn changes_in(alloc: Global, frame: &Frame) -> Result<Vec<Change>, AllocError>
     ensures { IfOk result (λ changes. map change_shown changes.items ≡ changes_in (frame_shown frame.now)) }
 {
@@ -321,56 +245,22 @@ pub fn changes_in(alloc: Global, frame: &Frame) -> Result<Vec<Change>, AllocErro
     }
 }
 
-/// The sentence of a refusal.
-///
-/// An `Err` says that memory was refused.
-fn refused_words(alloc: Global, command: &[u8], refusal: Refusal) -> Result<Vec<u8>, AllocError>
-    ensures { IfOk result (λ words. words.items ≡ refused_words command.now refusal) }
-{
-    let mut words = refused_text(alloc, command, refusal)?;
-    words.push(b'.')?;
-    Ok(words)
-}
-
-/// A note, after its sign.
-///
-/// An `Err` says that memory was refused.
-fn note_words(alloc: Global, note: &[u8]) -> Result<Vec<u8>, AllocError>
-    ensures { IfOk result (λ words. words.items ≡ note_words note.now) }
-{
-    let mut words = Vec::new(alloc);
-    words.extend_from_slice(b"# ")?;
-    words.extend_from_slice(note)?;
-    Ok(words)
-}
-
-/// The line of what is told beside the events.
-///
-/// An `Err` says that memory was refused.
+/// The line of what is told beside the events. An `Err` says that memory was refused.
 pub fn remark_words(alloc: Global, remark: &Remark) -> Result<Vec<u8>, AllocError>
     ensures { IfOk result (λ words. words.items ≡ remark_words remark.now) }
 {
+    let mut words = Vec::new(alloc);
     match remark {
-        Remark::Heading(note) => note_words(alloc, note),
-        Remark::Note(note) => note_words(alloc, note),
-        Remark::Refused { command, refusal } => refused_words(alloc, command, *refusal),
+        Remark::Heading(note) | Remark::Note(note) => push_all(&mut words, &[b"# ", note])?,
+        Remark::Refused { command, refusal } => {
+            let refused = refused_text(alloc, command, *refusal)?;
+            push_all(&mut words, &[&refused, b"."])?;
+        }
     }
-}
-
-/// The sentence of how a run opened, and how many of its events are left out before those that are told.
-///
-/// An `Err` says that memory was refused.
-pub fn opening_words(alloc: Global, opened: &Opened<'_>) -> Result<Vec<u8>, AllocError>
-    ensures { IfOk result (λ words. words.items ≡ opening_words (opening_shown opened.now)) }
-{
-    let mut words = run_words(alloc, opened)?;
-    push_left_out(&mut words, &opened.start)?;
     Ok(words)
 }
 
 /// The sentence of how a run opened.
-///
-/// An `Err` says that memory was refused.
 fn run_words(alloc: Global, opened: &Opened<'_>) -> Result<Vec<u8>, AllocError>
     ensures { IfOk result (λ words. words.items ≡ run_words (opening_shown opened.now)) }
 {
@@ -391,9 +281,17 @@ fn run_words(alloc: Global, opened: &Opened<'_>) -> Result<Vec<u8>, AllocError>
     Ok(words)
 }
 
+/// The sentence of how a run opened, and how many of its events are left out before those that are told. An `Err` says
+/// that memory was refused.
+pub fn opening_words(alloc: Global, opened: &Opened<'_>) -> Result<Vec<u8>, AllocError>
+    ensures { IfOk result (λ words. words.items ≡ opening_words (opening_shown opened.now)) }
+{
+    let mut words = run_words(alloc, opened)?;
+    push_left_out(&mut words, &opened.start)?;
+    Ok(words)
+}
+
 /// Adds how many events are left out first, if some are.
-///
-/// An `Err` says that memory was refused.
 fn push_left_out(words: &mut Vec<u8>, start: &Option<Start>) -> Result<(), AllocError>
     ensures { OnOk result (words.new.items
         ≡ words.old.items ++ left_out_words (option_map start_shown start.now)) }
@@ -402,8 +300,7 @@ fn push_left_out(words: &mut Vec<u8>, start: &Option<Start>) -> Result<(), Alloc
         Some(start) => {
             words.extend_from_slice(b" Left out first: ")?;
             push_counted(words, start.events, "event", "events")?;
-            words.push(b'.')?;
-            Ok(())
+            words.extend_from_slice(b".")
         }
         None => Ok(()),
     }

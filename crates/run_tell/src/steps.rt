@@ -1,14 +1,13 @@
 //! The way to tell a run in words: a line for how it opened, one for each event, note and refusal, in the script's
 //! order, and under an event one for each place of the memory that it changed.
 
-ghost use Rattle.std.specs.Prelude.{◌≡◌, ◌++◌, OnOk, codes, map};
-ghost use Rattle.std.specs.List.{flat_map};
-ghost use Rattle.run_replay.specs.Scenes.{change_shown};
+ghost use Rattle.std.specs.Prelude.{◌++◌, ◌≡◌, OnOk, codes, flat_map, map};
+ghost use Rattle.run_tell.specs.Vocabulary.{change_shown};
 ghost use Rattle.run_tell.specs.Sentences.{broken, change_words, changes_text, indented, line_text};
 
 use crate::opened::Opened;
 use crate::order::Telling;
-use crate::sentences::{changes_in, frame_words, opening_words, remark_words};
+use crate::sentences::{changes_in, frame_words, opening_words, push_all, remark_words};
 use run_layout::push_lines;
 use run_replay::{Change, Scene};
 use std::alloc::{AllocError, Global};
@@ -21,68 +20,52 @@ const COLUMNS: usize = 100;
 const INDENT: &str = "        ";
 
 /// Adds lines that go on from the one above.
-///
-/// An `Err` says that memory was refused.
 fn push_indented(text: &mut Vec<u8>, lines: &[Vec<u8>]) -> Result<(), AllocError>
     ensures { OnOk result (text.new.items
         ≡ text.old.items ++ flat_map indented (map (λ line. line.items) lines.now)) }
 {
     for line in lines {
-        text.extend_from_slice(INDENT.as_bytes())?;
-        text.extend_from_slice(line)?;
-        text.push(b'\n')?;
+        push_all(text, &[INDENT.as_bytes(), line, b"\n"])?;
     }
     Ok(())
 }
 
 /// Adds lines of which each but the first goes on from the one above.
-///
-/// An `Err` says that memory was refused.
 fn push_broken(text: &mut Vec<u8>, lines: &[Vec<u8>]) -> Result<(), AllocError>
     ensures { OnOk result (text.new.items ≡ text.old.items ++ broken (map (λ line. line.items) lines.now)) }
 {
     match lines {
         [] => Ok(()),
         [first, rest @ ..] => {
-            text.extend_from_slice(first)?;
-            text.push(b'\n')?;
+            push_all(text, &[first, b"\n"])?;
             push_indented(text, rest)
         }
     }
 }
 
 /// Adds words in a line, or in several where one hasn't room for them.
-///
-/// An `Err` says that memory was refused.
 fn push_line(alloc: Global, text: &mut Vec<u8>, words: &[u8]) -> Result<(), AllocError>
     ensures { OnOk result (text.new.items ≡ text.old.items ++ line_text words.now) }
 {
     if words.len() <= COLUMNS {
-        text.extend_from_slice(words)?;
-        text.push(b'\n')?;
-        return Ok(());
+        return push_all(text, &[words, b"\n"]);
     }
     let mut lines = Vec::new(alloc);
     push_lines(alloc, words, COLUMNS - INDENT.len(), &mut lines)?;
     push_broken(text, &lines)
 }
 
-/// Adds the words of a place that has changed.
-///
-/// An `Err` says that memory was refused.
+/// Adds the words of a place that has changed. An `Err` says that memory was refused.
 pub fn push_change_words(words: &mut Vec<u8>, change: &Change) -> Result<(), AllocError>
     ensures { OnOk result (words.new.items ≡ words.old.items ++ change_words (change_shown change.now)) }
 {
-    words.extend_from_slice(&change.name)?;
-    words.extend_from_slice(b": ")?;
-    words.extend_from_slice(&change.before)?;
-    words.extend_from_slice(b" -> ")?;
-    words.extend_from_slice(&change.after)
+    push_all(
+        words,
+        &[&change.name, b": ", &change.before, b" -> ", &change.after],
+    )
 }
 
 /// Adds a line for a place that has changed.
-///
-/// An `Err` says that memory was refused.
 fn push_change(alloc: Global, change: &Change, text: &mut Vec<u8>) -> Result<(), AllocError>
     ensures { OnOk result (text.new.items
         ≡ text.old.items ++ line_text (codes "    " ++ change_words (change_shown change.now))) }
@@ -94,8 +77,6 @@ fn push_change(alloc: Global, change: &Change, text: &mut Vec<u8>) -> Result<(),
 }
 
 /// Adds a line for each place that has changed.
-///
-/// An `Err` says that memory was refused.
 fn push_changes(alloc: Global, changes: &[Change], text: &mut Vec<u8>) -> Result<(), AllocError>
     ensures { OnOk result (text.new.items ≡ text.old.items ++ changes_text (map change_shown changes.now)) }
 {
@@ -109,7 +90,7 @@ fn push_changes(alloc: Global, changes: &[Change], text: &mut Vec<u8>) -> Result
 pub struct InWords;
 
 impl Telling for InWords {
-    ghost use Rattle.run_tell.specs.Steps.{steps_wording};
+    ghost use Rattle.run_tell.specs.Sentences.{steps_wording};
 
     ghost wording = { steps_wording };
 

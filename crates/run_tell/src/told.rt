@@ -1,21 +1,12 @@
 //! From the bytes of a script to its run, told.
 
-ghost use Rattle.std.specs.Prelude.{◌≡◌, ◌≢◌, ◌⊎◌, ◌↔◌, ◌<◌, IfErr, IfOk, IsErrOf, false};
+ghost use Rattle.std.specs.Prelude.{◌<◌, ◌↔◌, ◌≡◌, ◌≢◌, ◌⊎◌, IfErr, IfOk, IsErrOf, false};
 ghost use Rattle.std.specs.Prelude.{length, option_map, true};
-ghost use Rattle.uni_record.specs.Event.{events_shown};
-ghost use Rattle.uni_script.specs.Objects.{spoken};
-ghost use Rattle.uni_script.specs.Replay.{HasFault, IsFaultOfScript};
-ghost use Rattle.uni_script.specs.ScriptRun.{session_of_record};
-ghost use Rattle.uni_script.specs.Scripts.{scripts_of};
-ghost use Rattle.uni_script.specs.declared.fault.BenchFault.{BenchFault as Fault};
-ghost use Rattle.uni_script.specs.declared.grammar.Version.{Version};
-ghost use Rattle.run_layout.specs.Choice.{count_in};
-ghost use Rattle.run_layout.specs.Subject.{HasTooManyEvents, events_of_record};
-ghost use Rattle.run_replay.specs.Scenes.{start_shown};
-ghost use Rattle.run_tell.specs.Opened.{opening, opening_shown};
-ghost use Rattle.run_tell.specs.Told.{IsLinearizableRun, IsLinearizableSession, IsTold, text_of_record};
-ghost use Rattle.run_tell.specs.Told.{text_of_session};
-ghost use Rattle.run_tell.specs.Written.{WritesSuch, WritesText};
+ghost use Rattle.run_tell.specs.Vocabulary.{BenchFault as Fault, HasFault, HasTooManyEvents, IsFaultOfScript, Version};
+ghost use Rattle.run_tell.specs.Vocabulary.{count_in, events_of_record, events_shown, scripts_of, session_of_record};
+ghost use Rattle.run_tell.specs.Vocabulary.{spoken, start_shown};
+ghost use Rattle.run_tell.specs.Told.{IsLinearizableRun, IsLinearizableSession, IsTold, WritesSuch, WritesText};
+ghost use Rattle.run_tell.specs.Told.{opening, opening_shown, text_of_record, text_of_session};
 
 use crate::opened::Opened;
 use crate::order::{Telling, tell_events};
@@ -29,8 +20,6 @@ use uni_script::{
 };
 
 /// The text of an object's first state.
-///
-/// An `Err` says that memory was refused.
 fn first_state<O: Spoken>(alloc: Global, object: &O) -> Result<Vec<u8>, AllocError>
     ensures { IfOk result (λ text. text.items ≡ O.state_text (O.sequential object.now).initial) }
 {
@@ -40,8 +29,6 @@ fn first_state<O: Spoken>(alloc: Global, object: &O) -> Result<Vec<u8>, AllocErr
 }
 
 /// How the run opened that a record has stored, on an object of this name, where its events are told from `start` on.
-///
-/// An `Err` says that memory was refused.
 fn opened_of<'a, O: Spoken>(
     alloc: Global,
     name: &'a str,
@@ -65,10 +52,9 @@ fn opened_of<'a, O: Spoken>(
 
 /// Writes these events of the run that a record has stored, told, on an object of this name: of a linearizable run.
 /// `lines` has the number of the script's line that stored each event of the run, where there was a script; `remarks`
-/// is what is told beside the run, of which that is told which belongs to these events.
-///
-/// Errors: `TooManyEvents` where more than 2,000 are chosen, and nothing is written; else `Memory`, or `Write` where
-/// the output failed, and a prefix is written.
+/// is what is told beside the run, of which that is told which belongs to these events. Errors: `TooManyEvents` where
+/// more than 2,000 are chosen, and nothing is written; else `Memory`, or `Write` where the output failed, and a prefix
+/// is written.
 pub fn tell_record<T: Telling, O: Spoken + Copy, W: TextOut>(
     alloc: Global,
     range: Range,
@@ -103,9 +89,7 @@ pub fn tell_record<T: Telling, O: Spoken + Copy, W: TextOut>(
     Ok(())
 }
 
-/// Writes these events of the run of a script, told, by its object.
-///
-/// Errors: as `tell_record` says.
+/// Writes these events of the run of a script, told, by its object. Errors: as `tell_record` says.
 pub(crate) fn tell_run<T: Telling, W: TextOut>(
     alloc: Global,
     range: Range,
@@ -147,9 +131,8 @@ pub(crate) fn tell_run<T: Telling, W: TextOut>(
 }
 
 /// Writes these events of the run of the script that a reader has, told: of a linearizable run. `T` is how: `InWords`
-/// in a sentence for each, `InJson` and `InWholeJson` in lines of JSON, without or with the whole memory after each.
-///
-/// An `Err` is the first fault of the script; `Read` where the reader failed; `Memory` where memory was refused;
+/// in a sentence for each, `InJson` and `InWholeJson` in lines of JSON, without or with the whole memory after each. An
+/// `Err` is the first fault of the script; `Read` where the reader failed; `Memory` where memory was refused;
 /// `TooManyEvents` of a good script of which more than 2,000 events are chosen; or `Write` where the output failed.
 /// With `Memory` and `Write` a prefix may be written, else nothing is.
 pub fn tell_script<T: Telling, I: TextIn, W: TextOut>(

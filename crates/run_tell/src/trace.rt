@@ -1,15 +1,15 @@
 //! A run in lines of JSON, each an object.
 
-ghost use Rattle.std.specs.Prelude.{◌≡◌, ◌++◌, ◌<◌, OnOk, length, map};
-ghost use Rattle.run_replay.specs.Scenes.{begun_shown, end_shown, frame_shown, step_shown};
-ghost use Rattle.run_tell.specs.JsonShown.{member_shown};
+ghost use Rattle.std.specs.Prelude.{◌++◌, ◌<◌, ◌≡◌, OnOk, length, map};
+ghost use Rattle.run_tell.specs.Vocabulary.{begun_shown, end_shown, frame_shown, step_shown};
+ghost use Rattle.run_tell.specs.Json.{member_shown};
 ghost use Rattle.run_tell.specs.TraceLines.{begun_members, end_members, end_word, frame_members, line_text};
 ghost use Rattle.run_tell.specs.TraceLines.{note_members, refusal_members, step_members};
 
-use crate::access::access_of;
 use crate::json::{push_members, push_more_members, push_object};
 use crate::opened::Opened;
 use crate::order::Telling;
+use crate::sentences::access_of;
 use crate::trace_members::{
     changes_json, is_any, memory_json, next_letter, proposed_text, start_json,
 };
@@ -92,20 +92,15 @@ impl<const IS_WHOLE: bool> Telling for InLines<IS_WHOLE> {
     }
 }
 
-/// Adds an object with these members, on a line of its own.
-///
-/// An `Err` says that memory was refused.
+/// Adds an object with these members, on a line of its own. An `Err` says that memory was refused.
 pub fn push_line(text: &mut Vec<u8>, members: &[Member<'_>]) -> Result<(), AllocError>
     ensures { OnOk result (text.new.items ≡ text.old.items ++ line_text (map member_shown members.now)) }
 {
     push_object(text, members)?;
-    text.push(b'\n')?;
-    Ok(())
+    text.extend_from_slice(b"\n")
 }
 
 /// Adds an object with these members, and further ones, on a line of its own.
-///
-/// An `Err` says that memory was refused.
 fn push_line_with(
     text: &mut Vec<u8>,
     members: &[Member<'_>],
@@ -124,8 +119,6 @@ fn push_line_with(
 }
 
 /// Adds the line of an event, with further members.
-///
-/// An `Err` says that memory was refused.
 fn push_frame(
     alloc: Global,
     event: u64,
@@ -145,8 +138,6 @@ fn push_frame(
 }
 
 /// Adds the line of a call that begins, with further members.
-///
-/// An `Err` says that memory was refused.
 fn push_begun(
     alloc: Global,
     event: u64,
@@ -178,8 +169,6 @@ fn push_begun(
 }
 
 /// Adds the line of a step, with further members.
-///
-/// An `Err` says that memory was refused.
 fn push_step(
     alloc: Global,
     event: u64,
@@ -233,8 +222,6 @@ fn end_word(reshaped: Option<u64>) -> &'static str
 }
 
 /// Adds the line of the end of an era, with further members.
-///
-/// An `Err` says that memory was refused.
 fn push_end(
     event: u64,
     line: Option<u64>,
@@ -257,8 +244,6 @@ fn push_end(
 }
 
 /// Adds the line of a note that stands on this line of the script, after so many events.
-///
-/// An `Err` says that memory was refused.
 fn push_note<'a>(
     what: &'a str,
     line: u64,
@@ -279,8 +264,6 @@ fn push_note<'a>(
 }
 
 /// Adds the line of a refusal to this line of the script, after so many events.
-///
-/// An `Err` says that memory was refused.
 fn push_refusal(
     alloc: Global,
     line: u64,

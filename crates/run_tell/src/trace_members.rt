@@ -1,11 +1,10 @@
 //! The values of a line's members.
 
-ghost use Rattle.std.specs.Prelude.{◌≡◌, ◌++◌, ◌∷◌, [], IfOk, OnOk, map, option_map};
-ghost use Rattle.run_replay.specs.Scenes.{change_shown, field_shown, held_shown, start_shown};
-ghost use Rattle.run_tell.specs.Json.{object_text};
-ghost use Rattle.run_tell.specs.JsonShown.{member_shown};
-ghost use Rattle.run_tell.specs.TraceLines.{changes_text, field_text, held_fields, is_any, letter_text};
-ghost use Rattle.run_tell.specs.TraceLines.{memory_text, start_text};
+ghost use Rattle.std.specs.Prelude.{◌++◌, ◌∷◌, ◌≡◌, IfOk, OnOk, [], map, option_map};
+ghost use Rattle.run_tell.specs.Vocabulary.{change_shown, field_shown, held_shown, start_shown};
+ghost use Rattle.run_tell.specs.Json.{member_shown, object_text};
+ghost use Rattle.run_tell.specs.TraceLines.{changes_text, field_text, held_fields, is_any, letter_text, memory_text};
+ghost use Rattle.run_tell.specs.TraceLines.{start_text};
 
 use crate::json::{list_of, object_of};
 use crate::value::{Member, Value};
@@ -14,9 +13,7 @@ use run_replay::{Change, Field, Held, Start};
 use std::alloc::{AllocError, Global};
 use uni_core::StepKind;
 
-/// The letter of a kind of step, where there is one.
-///
-/// An `Err` says that memory was refused.
+/// The letter of a kind of step, where there is one. An `Err` says that memory was refused.
 pub fn next_letter(alloc: Global, next: Option<StepKind>) -> Result<Option<Vec<u8>>, AllocError>
     ensures { IfOk result (λ text. option_map (λ t. t.items) text ≡ option_map letter_text next) }
 {
@@ -26,9 +23,7 @@ pub fn next_letter(alloc: Global, next: Option<StepKind>) -> Result<Option<Vec<u
     }
 }
 
-/// The text of what a step proposed, where it proposed something.
-///
-/// An `Err` says that memory was refused.
+/// The text of what a step proposed, where it proposed something. An `Err` says that memory was refused.
 pub fn proposed_text(alloc: Global, proposed: &Option<Held>) -> Result<Option<Vec<u8>>, AllocError>
     ensures { IfOk result (λ text. option_map (λ t. t.items) text
         ≡ option_map (λ h. h.field.text) (option_map held_shown proposed.now)) }
@@ -47,8 +42,6 @@ pub fn is_any(changes: &[Change]) -> bool
 }
 
 /// Adds the text of an object with these members.
-///
-/// An `Err` says that memory was refused.
 fn push_element(
     alloc: Global,
     members: &[Member<'_>],
@@ -61,9 +54,7 @@ fn push_element(
     Ok(())
 }
 
-/// The text of changes.
-///
-/// An `Err` says that memory was refused.
+/// The text of changes. An `Err` says that memory was refused.
 pub fn changes_json(alloc: Global, changes: &[Change]) -> Result<Vec<u8>, AllocError>
     ensures { IfOk result (λ text. text.items ≡ changes_text (map change_shown changes.now)) }
 {
@@ -80,8 +71,6 @@ pub fn changes_json(alloc: Global, changes: &[Change]) -> Result<Vec<u8>, AllocE
 }
 
 /// Adds the text of a field, and of what it holds.
-///
-/// An `Err` says that memory was refused.
 fn push_field(alloc: Global, field: &Field, elements: &mut Vec<Vec<u8>>) -> Result<(), AllocError>
     ensures { OnOk result (map (λ e. e.items) elements.new.items
         ≡ map (λ e. e.items) elements.old.items ++ field_text (field_shown field.now) ∷ []) }
@@ -94,8 +83,6 @@ fn push_field(alloc: Global, field: &Field, elements: &mut Vec<Vec<u8>>) -> Resu
 }
 
 /// Adds the texts of the fields of a place.
-///
-/// An `Err` says that memory was refused.
 fn push_fields(alloc: Global, held: &Held, elements: &mut Vec<Vec<u8>>) -> Result<(), AllocError>
     ensures { OnOk result (map (λ e. e.items) elements.new.items
         ≡ map (λ e. e.items) elements.old.items ++ map field_text (held_fields (held_shown held.now))) }
@@ -107,9 +94,7 @@ fn push_fields(alloc: Global, held: &Held, elements: &mut Vec<Vec<u8>>) -> Resul
     }
 }
 
-/// The text of a memory.
-///
-/// An `Err` says that memory was refused.
+/// The text of a memory. An `Err` says that memory was refused.
 pub fn memory_json(alloc: Global, memory: &[Held]) -> Result<Vec<u8>, AllocError>
     ensures { IfOk result (λ text. text.items ≡ memory_text (map held_shown memory.now)) }
 {
@@ -120,9 +105,7 @@ pub fn memory_json(alloc: Global, memory: &[Held]) -> Result<Vec<u8>, AllocError
     list_of(alloc, &elements)
 }
 
-/// The text of where events begin.
-///
-/// An `Err` says that memory was refused.
+/// The text of where events begin. An `Err` says that memory was refused.
 pub fn start_json(alloc: Global, start: &Start) -> Result<Vec<u8>, AllocError>
     ensures { IfOk result (λ text. text.items ≡ start_text (start_shown start.now)) }
 {

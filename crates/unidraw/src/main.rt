@@ -1,5 +1,5 @@
-//! The program: hands its words and its standard streams to `run` of `unidraw_run`, and ends with the status
-//! that it answers.
+//! The program: hands its words and its standard streams to `run` of `unidraw_run`, and ends with the status that it
+//! answers.
 #![tactic(auto)]
 
 use script_advice::Kept;

@@ -1,13 +1,11 @@
 -- The command line that the program builds is the one of the definitions, and what refused memory leaves.
-use Rattle.unidraw_run.proofs.Vocabulary.{ArgumentConflict, Bool, Form, HasKind, IsDrawn, Kinds, List, None, Option, OutOfMemory, PictureFault, Script, Some, TellsFault, TellsPictureFault, [], ap, app_of, arith, false, faults_with, inl, inr, is_simple, is_simple_and_free, is_some, memory_of, option_map, picture_fault_line, refl, status_of_picture, subst, sym, true, unidraw, unless_faulty, ℕ, ◌++◌, ◌∙◌, ◌∷◌, ◌≡◌}
+use Rattle.unidraw_run.proofs.Vocabulary.{AppendsPrefix, ArgumentConflict, Bool, Form, HasKind, IsDrawn, Kinds, List, None, Option, OutOfMemory, PictureFault, Script, Some, TellsFault, TellsPictureFault, [], ap, app_of, arith, false, faults_with, inl, inr, is_simple, is_simple_and_free, is_some, kind_of, memory_of, option_map, picture_fault_line, refl, status_of_picture, subst, sym, true, unidraw, unless_faulty, ℕ, ◌++◌, ◌∙◌, ◌∷◌, ◌≡◌}
 use Rattle.std.proofs.lemmas.List.{append-nil}
 use Rattle.std.specs.Io.KnownBytes.{Appends}
-use Rattle.clap.specs.Values.{kind_of}
 use Rattle.clap.specs.declared.builder.command.Command.{Command}
 use Rattle.clap.specs.declared.error.Error.{Error}
-use Rattle.uni_script.specs.Ends.{AppendsPrefix}
-use Rattle.uni_script.specs.Fault.{fault_line}
 use Rattle.script_advice.specs.Told.{TellsMore}
+use Rattle.uni_script.specs.Fault.{fault_line}
 use Rattle.unidraw_run.specs.declared.program.Request.{Request}
 
 pub is_simple_and_free-unidraw : (whole : Command) → app_of whole ≡ unidraw → is_simple_and_free (app_of whole) ≡ true
@@ -29,9 +27,6 @@ faulty (kind ∷ kinds) form e has = has
 pub conflicting : (kinds : Kinds) (form : Option Request) (e : Error) → kinds ≡ [] → form ≡ None → kind_of e ≡ ArgumentConflict → HasKind (faults_with kinds form) e
 conflicting kinds form e none no_form is =
     subst (λ f. HasKind (faults_with kinds f) e) (sym no_form) (subst (λ ks. HasKind (faults_with ks None) e) (sym none) (inr (inl is)))
-
-pub refused_memory : (kinds : Kinds) (form : Option Request) (e : Error) → kind_of e ≡ OutOfMemory → HasKind (faults_with kinds form) e
-refused_memory kinds form e is = inl is
 
 -- an error of words that ask for something is refused memory
 pub memory_of_request : (kinds : Kinds) (e : Error) (request : Option Request) (asked : Request) → HasKind (faults_with kinds request) e → unless_faulty kinds request ≡ Some asked → kind_of e ≡ OutOfMemory
@@ -79,7 +74,3 @@ pub told_of_more : (form : Form) (is_explained : Bool) (old new : Option (List �
 told_of_more form true old new failed status told alone =
     let line = told.1 in told_as form true (Script line.fault) told.0 (fault_line line.fault ++ told.0) old new failed status (λ e. cc) line.status_is refl line.prefix line.whole
 told_of_more form false old new failed status told alone = told_of_fault form false old new failed status (alone refl)
-
--- what is told of a fault that isn't explained may be told where it is
-pub told_wider : (form : Form) (script asked : Bool) (old new : Option (List ℕ)) (failed : Bool) (status : ℕ) → (asked ≡ false → script ≡ false) → TellsPictureFault form script old new failed status → TellsPictureFault form asked old new failed status
-told_wider form script asked old new failed status narrow told = (told.0, λ e. told.1 (narrow e), told.2)

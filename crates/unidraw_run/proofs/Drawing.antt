@@ -1,27 +1,11 @@
 -- What a run of the program has drawn, by its fault.
-use Rattle.unidraw_run.proofs.Vocabulary.{Err, Form, HasNoPicture, IsDrawn, IsErrOf, IsPictureIn, IsStatusOfPicture, List, Misdrawn, Option, PictureFault, Result, Script, TooManyEvents, ap, arith, false, inl, inr, refl, status_of, status_of_picture, subst, sym, true, ℕ, ◌∙◌, ◌≡◌, ◌≢◌, ◌≤◌}
-use Rattle.std.proofs.Common.{Ok}
-use Rattle.std.proofs.lemmas.Result.{MatchResult-at_err, MatchResult-at_ok}
-use Rattle.uni_script.specs.Replay.{HasFault, IsFaultOfScript}
-use Rattle.uni_script.specs.Scripts.{scripts_of}
-use Rattle.uni_script.specs.declared.fault.BenchFault.{BenchFault}
-use Rattle.uni_script.specs.declared.fault.BenchFault.TheVariants.{NoHeader, BadHeader, TooLong, BadByte, BadLine, TooMany, Read, Write, Memory, Audit}
-use Rattle.run_layout.specs.Subject.{HasTooManyEvents}
-use Rattle.run_tell.specs.Written.{WritesSuch}
-use Rattle.unidraw_run.specs.Drawn.{is_streamed, may_write_before, range_of}
+use Rattle.unidraw_run.proofs.Vocabulary.{BenchFault, Err, Form, HasFault, HasNoPicture, HasTooManyEvents, IsDrawn, IsErrOf, IsFaultOfScript, IsPictureIn, IsStatusOfPicture, List, MatchResult-at_err, MatchResult-at_ok, Memory, Misdrawn, Ok, Option, PictureFault, Result, Script, TooManyEvents, Write, WritesSuch, ap, arith, false, inl, inr, is_streamed, may_write_before, range_of, refl, scripts_of, status_of, status_of_picture, subst, sym, true, ℕ, ◌∙◌, ◌≡◌, ◌≢◌, ◌≤◌}
+use Rattle.uni_script.specs.declared.fault.BenchFault.TheVariants.{Audit, Read}
 
 -- no fault ends with 0, nor does refused memory for its text
 least_status : (f : BenchFault) → 2 ≤ status_of f
-least_status (NoHeader l) = omega arith
-least_status (BadHeader l) = omega arith
-least_status (TooLong l) = omega arith
-least_status (BadByte l) = omega arith
-least_status (BadLine l) = omega arith
-least_status TooMany = omega arith
-least_status Read = omega arith
 least_status Write = omega arith
-least_status Memory = omega arith
-least_status (Audit verdict) = omega arith
+least_status f = omega arith
 
 status_not_0 : (f : PictureFault) (status : ℕ) → IsStatusOfPicture f status → status ≢ 0
 status_not_0 TooManyEvents status is zero = omega arith
@@ -45,31 +29,17 @@ no_picture : (form : Form) (left : Option (List ℕ)) (f : PictureFault) → sta
     → ((e : BenchFault) → f ≡ Script e → IsFaultOfScript e → HasFault (scripts_of 1048576) left e) → HasNoPicture form left
 no_picture form left TooManyEvents two many fault = inl (many refl)
 no_picture form left Misdrawn two many fault = absurd (omega arith)
-no_picture form left (Script (NoHeader l)) two many fault = inr (NoHeader l, tt, fault (NoHeader l) refl tt)
-no_picture form left (Script (BadHeader l)) two many fault = inr (BadHeader l, tt, fault (BadHeader l) refl tt)
-no_picture form left (Script (TooLong l)) two many fault = inr (TooLong l, tt, fault (TooLong l) refl tt)
-no_picture form left (Script (BadByte l)) two many fault = inr (BadByte l, tt, fault (BadByte l) refl tt)
-no_picture form left (Script (BadLine l)) two many fault = inr (BadLine l, tt, fault (BadLine l) refl tt)
-no_picture form left (Script TooMany) two many fault = inr (TooMany, tt, fault TooMany refl tt)
 no_picture form left (Script Read) two many fault = absurd (omega arith)
 no_picture form left (Script Write) two many fault = absurd (omega arith)
 no_picture form left (Script Memory) two many fault = absurd (omega arith)
 no_picture form left (Script (Audit verdict)) two many fault = absurd (omega arith)
+no_picture form left (Script e) two many fault = inr (e, tt, fault e refl tt)
 
 -- nothing is written before a fault, but before a failure of the output, and refused memory where the form is streamed
 may_not_write : (form : Form) (f : PictureFault) → f ≢ Script Write → (f ≡ Script Memory → is_streamed form ≡ false) → may_write_before form f ≡ false
-may_not_write form TooManyEvents write memory = refl
-may_not_write form Misdrawn write memory = refl
-may_not_write form (Script (NoHeader l)) write memory = refl
-may_not_write form (Script (BadHeader l)) write memory = refl
-may_not_write form (Script (TooLong l)) write memory = refl
-may_not_write form (Script (BadByte l)) write memory = refl
-may_not_write form (Script (BadLine l)) write memory = refl
-may_not_write form (Script TooMany) write memory = refl
-may_not_write form (Script Read) write memory = refl
 may_not_write form (Script Write) write memory = absurd (write refl)
 may_not_write form (Script Memory) write memory = memory refl
-may_not_write form (Script (Audit verdict)) write memory = refl
+may_not_write form f write memory = refl
 
 -- what may not be written before is no failure of the output, and no refused memory where the form is streamed; nor is a fault of a script
 pub not_write : (form : Form) (e : PictureFault) → may_write_before form e ≡ false → e ≢ Script Write

@@ -1,17 +1,12 @@
 -- What the words of the command line ask for, by clap's own account of a command.
-use Rattle.std.specs.Prelude.{◌≡◌, ◌⊎◌, ◌-◌, ◌^◌, ℕ, List, [], ◌∷◌, map, filter, fold, Option, None, Some, option_and_then}
-use Rattle.std.specs.Prelude.{Bool, codes, false, if◌then◌else◌, nat_lt, option_map, refl, true}
-use Rattle.clap.specs.Words.{App, IsAmong, Kinds, Row, Rule, Text, fault_of, matches_of, new_app, new_rule, with_rule}
+use Rattle.std.specs.Prelude.{Bool, List, None, Option, Some, [], codes, false, filter, fold, if◌then◌else◌, map, nat_lt, option_and_then, option_map, refl, true, ℕ, ◌-◌, ◌^◌, ◌∷◌, ◌≡◌, ◌⊎◌}
+use Rattle.unidraw_run.specs.Vocabulary.{App, ArgumentConflict, DisplayHelp, DisplayVersion, IsAmong, Kinds, Range, Row, Rule, Text, all_events, fault_of, flag, is_set, matches_of, new_app, new_rule, versioned, with_rule}
 use Rattle.clap.proofs.OnLiterals.{clap_on_literals}
-use Rattle.clap.specs.declared.error.kind.ErrorKind.TheVariants.{ArgumentConflict, DisplayHelp, DisplayVersion, UnknownArgument}
-use Rattle.clap.specs.declared.error.kind.ErrorKind.TheVariants.{ValueValidation}
-use Rattle.command_line.specs.Flags.{flag, is_set, versioned}
 use Rattle.command_line.specs.Numbers.{in_range, number_in, value_of}
-use Rattle.run_layout.specs.declared.choice.Range.{Range}
-use Rattle.run_layout.specs.Choice.{all_events}
 use Rattle.unidraw_run.specs.declared.program.Form.{Form}
-use Rattle.unidraw_run.specs.declared.program.Form.TheVariants.{Svg, Lines, Steps, Json, Full, Html, History}
+use Rattle.unidraw_run.specs.declared.program.Form.TheVariants.{Full, History, Html, Json, Lines, Steps, Svg}
 use Rattle.unidraw_run.specs.declared.program.Request.{Request}
+use Rattle.unidraw_run.specs.declared.words.FormOption.{FormOption as FormOptionOfCode}
 
 -- an option that asks for a form
 pub record FormOption : Type 0 where
@@ -150,3 +145,6 @@ history_from_ten_is_a_fault : (name : Text)
     → faults_of_words (name ∷ codes "--history" ∷ codes "--from" ∷ codes "10" ∷ []) ≡ ArgumentConflict ∷ []
 unfolding clap_on_literals
 history_from_ten_is_a_fault name = refl
+
+abbrev pub option_shown : FormOptionOfCode → FormOption
+option_shown o = asks o.name.now o.form

@@ -1,26 +1,13 @@
--- What a run of the program has done when it ends.
-use Rattle.std.specs.Prelude.{◌≡◌, ◌≢◌, ◌⊎◌, ℕ, Bool, true, false, List, Ok, Option, Result, Vec}
+-- What a run of the program has done when it ends, and the statuses with which it ends.
+use Rattle.std.specs.Prelude.{Bool, List, Ok, Option, Result, Vec, [], codes, false, true, ℕ, ◌++◌, ◌∷◌, ◌≡◌, ◌≢◌, ◌⊎◌}
+use Rattle.unidraw_run.specs.Vocabulary.{BenchFault, HasFault, HasTooManyEvents, IsFaultOfScript, IsLines, IsPage, IsPicture, IsStatusOf, IsTold, Memory, Misdrawn, PictureFault, Range, Script, TellsLine, TooManyEvents, Write, Writes, WritesPart, all_events, picture_fault_text, scripts_of, status_of, too_many_text}
 use Rattle.std.specs.declared.alloc.Global.{Global}
-use Rattle.uni_script.specs.Replay.{HasFault, IsFaultOfScript}
-use Rattle.uni_script.specs.Scripts.{scripts_of}
-use Rattle.uni_script.specs.declared.fault.BenchFault.{BenchFault}
-use Rattle.uni_script.specs.declared.fault.BenchFault.TheVariants.{Memory, Write}
-use Rattle.run_layout.specs.declared.choice.Range.{Range}
-use Rattle.run_layout.specs.declared.subject.PictureFault.{PictureFault}
-use Rattle.run_layout.specs.declared.subject.PictureFault.TheVariants.{Script}
-use Rattle.run_layout.specs.Choice.{all_events}
-use Rattle.run_layout.specs.Subject.{HasTooManyEvents}
-use Rattle.run_picture.specs.Picture.{IsPicture}
-use Rattle.run_lines.specs.Lines.{IsLines}
-use Rattle.run_tell.specs.Told.{IsTold}
-use Rattle.run_tell.specs.TraceLines.{json_wording, whole_wording}
-use Rattle.run_tell.specs.Steps.{steps_wording}
-use Rattle.run_tell.specs.Page.{IsPage}
 use Rattle.run_tell.specs.History.{IsHistory}
-use Rattle.run_tell.specs.Written.{Writes, WritesPart}
-pub use Rattle.unidraw_run.specs.CommandLine.{form_of_words}
+use Rattle.run_tell.specs.Sentences.{steps_wording}
+use Rattle.run_tell.specs.TraceLines.{json_wording, whole_wording}
 use Rattle.unidraw_run.specs.declared.program.Form.{Form}
-use Rattle.unidraw_run.specs.declared.program.Form.TheVariants.{Svg, Lines, Steps, Json, Full, Html, History}
+use Rattle.unidraw_run.specs.declared.program.Form.TheVariants.{Full, History, Html, Json, Lines, Steps, Svg}
+pub use Rattle.unidraw_run.specs.CommandLine.{form_of_words}
 
 -- the reader had a script that can be drawn, and this is its picture in a form, or its steps in words, its trace, that with the
 -- whole memory, the page of it, or its history
@@ -75,3 +62,44 @@ pub record IsDrawn (form : Form) (left old new : Option (List ℕ)) (status : �
   pub bad : status ≡ 2 → HasNoPicture form left × (new ≡ old)
   pub part : status ≢ 0 → WritesPart (IsPictureIn form left) old new
   pub nothing : status ≢ 0 → status ≢ 3 → is_streamed form ≡ false → new ≡ old
+
+-- the status that a fault ends with
+abbrev pub status_of_picture : PictureFault → ℕ
+status_of_picture (Script fault) = status_of fault
+status_of_picture TooManyEvents = 2
+status_of_picture Misdrawn = 5
+
+-- the status of a fault, or that of refused memory for its text
+abbrev pub IsStatusOfPicture : PictureFault → (status : ℕ) → Type 0
+IsStatusOfPicture (Script fault) status = IsStatusOf fault status
+IsStatusOfPicture TooManyEvents status = status ≡ 2
+IsStatusOfPicture Misdrawn status = status ≡ 5
+
+-- what a form is called
+abbrev pub form_name : Form → List ℕ
+form_name (Svg range) = codes "an SVG"
+form_name (Lines range columns) = codes "--text"
+form_name (Steps range) = codes "--steps"
+form_name (Json range) = codes "--json"
+form_name (Full range) = codes "--json --full"
+form_name (Html range) = codes "--html"
+form_name History = codes "--history"
+
+-- the text of a fault, where a form was asked for
+abbrev pub fault_text_in : Form → PictureFault → List ℕ
+fault_text_in form (Script fault) = picture_fault_text (Script fault)
+fault_text_in form TooManyEvents = too_many_text (form_name form)
+fault_text_in form Misdrawn = picture_fault_text Misdrawn
+
+-- the line that tells it
+abbrev pub picture_fault_line : Form → PictureFault → List ℕ
+picture_fault_line form fault = fault_text_in form fault ++ 10 ∷ []
+
+-- known bytes grew by the line of a fault that ends with this status, and where it is explained by some text after it: by all of it,
+-- where the end hasn't failed, else by a prefix
+abbrev pub TellsPictureFault : Form → (is_explained : Bool) (old new : Option (List ℕ)) (failed : Bool) (status : ℕ)
+    → Type 0
+TellsPictureFault form is_explained old new failed status =
+    (more : List ℕ) × (is_explained ≡ false → more ≡ [])
+    × TellsLine (λ fault status. status ≡ status_of_picture fault) (λ fault. picture_fault_line form fault ++ more)
+    old new failed status

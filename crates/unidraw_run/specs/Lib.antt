@@ -1,4 +1,3 @@
+pub mod Vocabulary
 pub mod CommandLine
-pub mod Shown
-pub mod Statuses
 pub mod Drawn

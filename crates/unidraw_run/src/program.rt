@@ -1,15 +1,11 @@
 //! The program over its ends, and its statuses.
 
-ghost use Rattle.std.specs.Prelude.{◌≡◌, ◌≢◌, ◌⊎◌, ◌↔◌, true, false, None, Some};
-ghost use Rattle.std.specs.Prelude.{IsErrOf, is_some, map};
-ghost use Rattle.uni_script.specs.Replay.{HasFault, IsFaultOfScript};
-ghost use Rattle.uni_script.specs.Scripts.{scripts_of};
-ghost use Rattle.uni_script.specs.declared.fault.BenchFault.{BenchFault as Fault};
-ghost use Rattle.run_layout.specs.Subject.{HasTooManyEvents};
-ghost use Rattle.run_tell.specs.Written.{WritesSuch};
-ghost use Rattle.unidraw_run.specs.CommandLine.{form_of_words, request_of_words, IsRefused};
-ghost use Rattle.unidraw_run.specs.Drawn.{IsDrawn, IsPictureIn, IsTextOf, may_write_before, range_of};
-ghost use Rattle.unidraw_run.specs.Statuses.{IsStatusOfPicture, TellsPictureFault, picture_fault_line};
+ghost use Rattle.std.specs.Prelude.{◌≡◌, ◌≢◌, ◌⊎◌, IsErrOf, None, Some, false, is_some, map, true};
+ghost use Rattle.unidraw_run.specs.Vocabulary.{BenchFault as Fault, HasFault, HasTooManyEvents, IsFaultOfScript};
+ghost use Rattle.unidraw_run.specs.Vocabulary.{WritesSuch, scripts_of};
+ghost use Rattle.unidraw_run.specs.CommandLine.{IsRefused, form_of_words, request_of_words};
+ghost use Rattle.unidraw_run.specs.Drawn.{IsDrawn, IsPictureIn, IsStatusOfPicture, IsTextOf, TellsPictureFault};
+ghost use Rattle.unidraw_run.specs.Drawn.{may_write_before, picture_fault_line, range_of};
 
 use crate::words::{read_words, tip_for};
 use command_line::answer_words;
@@ -50,18 +46,17 @@ pub struct Request {
     pub is_explained: bool,
 }
 
-/// Draws the script on `input` in the form that the argument texts ask for, the program's name first, and
-/// writes the picture to `output`; the answer is the status that the program ends with. With `--text` the
-/// picture is one of lines, with `--steps` it is a sentence for each event, with `--json` the trace of the run, and
-/// beside that with `--full` the whole memory after each event, with `--html` a page that shows the trace, with
-/// `--history` the calls and the replies of the run, and with no word an SVG. In each form but a history `--from` and
-/// `--to` choose the events; `--columns` says how long lines are at most. With `--explain` the text of a bad line
-/// says why it is bad.
+/// Draws the script on `input` in the form that the argument texts ask for, the program's name first, and writes the
+/// picture to `output`; the answer is the status that the program ends with. With `--text` the picture is one of lines,
+/// with `--steps` it is a sentence for each event, with `--json` the trace of the run, and beside that with `--full`
+/// the whole memory after each event, with `--html` a page that shows the trace, with `--history` the calls and the
+/// replies of the run, and with no word an SVG. In each form but a history `--from` and `--to` choose the events;
+/// `--columns` says how long lines are at most. With `--explain` the text of a bad line says why it is bad.
 ///
 /// The status is 0 where all went well, also for help or the version, which go to `output`; 2 for a bad script, for
-/// more than 2,000 events, or for words that ask for nothing that there is; 3 where `input` or `output`
-/// failed; 4 where memory was refused; and 5 where the drawing does not show its run, of which no script is known. The
-/// text that says so goes to `faults`, as far as that takes it.
+/// more than 2,000 events, or for words that ask for nothing that there is; 3 where `input` or `output` failed; 4 where
+/// memory was refused; and 5 where the drawing does not show its run, of which no script is known. The text that says
+/// so goes to `faults`, as far as that takes it.
 pub fn run<S: AsStr, I: KeepsText, O: TextOut, F: TextOut>(
     alloc: Global,
     words: &[S],
@@ -129,9 +124,8 @@ fn draw<I: KeepsText, O: TextOut, F: TextOut>(
     }
 }
 
-/// Writes a picture, where there is one.
-///
-/// An `Err` is that of the picture, and nothing is written; or `Write` where the output failed, and a prefix is.
+/// Writes a picture, where there is one. An `Err` is that of the picture, and nothing is written; or `Write` where the
+/// output failed, and a prefix is.
 fn write_picture<O: TextOut>(
     picture: Result<Vec<u8>, PictureFault>,
     output: &mut O,
@@ -151,12 +145,11 @@ fn write_picture<O: TextOut>(
     }
 }
 
-/// Writes the picture of the script that a reader has, in a form.
-///
-/// An `Err` is the first fault of the script; `Read` where the reader failed; `Memory` where memory was refused;
-/// `TooManyEvents` of a good script of which more than 2,000 events are chosen; `Misdrawn` where the drawing of its run
-/// does not show it; or `Write` where the output failed. With `Write` a prefix may be written, with `Memory` too where
-/// the form is written while it is told; else nothing is.
+/// Writes the picture of the script that a reader has, in a form. An `Err` is the first fault of the script; `Read`
+/// where the reader failed; `Memory` where memory was refused; `TooManyEvents` of a good script of which more than
+/// 2,000 events are chosen; `Misdrawn` where the drawing of its run does not show it; or `Write` where the output
+/// failed. With `Write` a prefix may be written, with `Memory` too where the form is written while it is told; else
+/// nothing is.
 fn draw_form<I: TextIn, O: TextOut>(
     alloc: Global,
     form: Form,
@@ -203,9 +196,9 @@ fn too_many_line(form: Form) -> &'static str
     }
 }
 
-/// Says why there is no picture in this form and, of a line of the script, why it is bad, where the script is there;
-/// as far as the end takes it. The answer is the status. Where the text of a fault of the script is refused memory,
-/// that is what is told, with its status.
+/// Says why there is no picture in this form and, of a line of the script, why it is bad, where the script is there; as
+/// far as the end takes it. The answer is the status. Where the text of a fault of the script is refused memory, that
+/// is what is told, with its status.
 fn report<F: TextOut>(
     alloc: Global,
     form: Form,

@@ -1,15 +1,11 @@
 //! What a command line asks for.
 
-ghost use Rattle.std.specs.Prelude.{◌≡◌, IfOk, IfErr, map, codes, false, Some};
-ghost use Rattle.clap.specs.Values.{kind_of};
-ghost use Rattle.clap.specs.Words.{HasKind, app_of, found_of, new_app, rows_of, rule_of};
-ghost use Rattle.clap.specs.declared.builder.command.Command.TheViews.{out-Command};
-ghost use Rattle.command_line.specs.Flags.{versioned};
+ghost use Rattle.std.specs.Prelude.{◌≡◌, IfErr, IfOk, Some, codes, false, map};
+ghost use Rattle.unidraw_run.specs.Vocabulary.{HasKind, app_of, found_of, kind_of, new_app, out-Command, rows_of};
+ghost use Rattle.unidraw_run.specs.Vocabulary.{rule_of, versioned};
 ghost use Rattle.unidraw_run.specs.CommandLine.{columns_option, comes_after, event_option, faults_of_words, form_among};
-ghost use Rattle.unidraw_run.specs.CommandLine.{form_in, form_with};
-ghost use Rattle.unidraw_run.specs.CommandLine.{forms_used, range_in, request_in, request_of_words, unidraw};
-ghost use Rattle.unidraw_run.specs.CommandLine.{with_columns, with_options, with_range};
-ghost use Rattle.unidraw_run.specs.Shown.{option_shown};
+ghost use Rattle.unidraw_run.specs.CommandLine.{form_in, form_with, forms_used, option_shown, range_in, request_in};
+ghost use Rattle.unidraw_run.specs.CommandLine.{request_of_words, unidraw, with_columns, with_options, with_range};
 
 use crate::program::{Form, Request};
 use clap::error::ErrorKind;
@@ -122,8 +118,6 @@ fn described<'a>(alloc: Global) -> Command<'a>
 }
 
 /// A program with these options more.
-///
-/// An `Err` says that memory was refused.
 fn with_options<'a>(
     alloc: Global,
     mut command: Command<'a>,
@@ -164,8 +158,6 @@ fn columns_option<'a>(alloc: Global) -> Arg<'a>
 }
 
 /// The command line of the program.
-///
-/// An `Err` says that memory was refused.
 fn unidraw<'a>(alloc: Global) -> Result<Command<'a>, AllocError>
     ensures { IfOk result (λ command. app_of command ≡ unidraw) }
 {
@@ -277,8 +269,6 @@ fn request_in(matches: &ArgMatches<'_>) -> Option<Request>
 }
 
 /// The fault of options that don't go together.
-///
-/// An `Err` says that memory was refused.
 fn conflict(alloc: Global, matches: &ArgMatches<'_>) -> Result<clap::Error, AllocError>
     ensures { IfOk result (λ error. kind_of error ≡ ErrorKind.ArgumentConflict) }
 {
@@ -289,9 +279,8 @@ fn conflict(alloc: Global, matches: &ArgMatches<'_>) -> Result<clap::Error, Allo
     unidraw(alloc)?.error(ErrorKind::ArgumentConflict, said)
 }
 
-/// Reads a command line, the program's name first: what it asks for.
-///
-/// An `Err` has the fault of the words, or says that memory was refused.
+/// Reads a command line, the program's name first: what it asks for. An `Err` has the fault of the words, or says that
+/// memory was refused.
 pub(crate) fn read_words<S: AsStr>(alloc: Global, words: &[S]) -> Result<Request, clap::Error>
     ensures asked { IfOk result (λ request. request_of_words (map S.text words.now) ≡ Some request) }
     ensures fault { IfErr result (HasKind (faults_of_words (map S.text words.now))) }

@@ -1,8 +1,6 @@
-use Rattle.run_tell.proofs.Vocabulary.{IsTold, subst}
-use Rattle.run_layout.specs.Subject.{HasTooManyEvents}
-use Rattle.run_tell.specs.HistoryLines.{history_wording}
+use Rattle.run_tell.proofs.Vocabulary.{HasTooManyEvents, IsTold, history_wording, subst}
 use Rattle.run_tell.proofs.Observed.{IsHistory-told}
-use Rattle.run_tell.proofs.Writing.{WritesSuch-weaker}
+use Rattle.run_tell.proofs.Tellings.{WritesSuch-weaker}
 use Rattle.run_tell.proofs.history.tell_history.Goals as goal
 
 pub returns-clause-told : goal.returns-clause-told

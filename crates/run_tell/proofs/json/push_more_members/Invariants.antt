@@ -1,5 +1,4 @@
-use Rattle.run_tell.proofs.Vocabulary.{after_comma, flat_map, map, member_text, take, ◌++◌, ◌≡◌}
-use Rattle.run_tell.specs.JsonShown.{member_shown}
+use Rattle.run_tell.proofs.Vocabulary.{after_comma, flat_map, map, member_shown, member_text, take, ◌++◌, ◌≡◌}
 use Rattle.run_tell.proofs.json.push_more_members.Given as goal
 
 -- the members so far

@@ -1,12 +1,6 @@
-use Rattle.run_tell.proofs.Vocabulary.{Err, Some, [], ap, inr, arith, length, scene_shown, subst, sym, told_from, told_text, ◌++◌, ◌∙◌, ◌∷◌, ◌≡◌}
-use Rattle.std.proofs.Common.{rules}
-use Rattle.std.proofs.lemmas.Result.{IfErr-weaker, err_from_is_err_and}
-use Rattle.uni_script.specs.Ends.{Moves}
+use Rattle.run_tell.proofs.Vocabulary.{AppendsPrefix-nil, Err, IfErr-weaker, Moves, Some, [], ap, arith, err_from_is_err_and, inr, length, opening_shown, rules, scene_shown, subst, sym, told_from, told_text, trace_with, ◌++◌, ◌∙◌, ◌∷◌, ◌≡◌}
 use Rattle.uni_script.proofs.RunningOn.{stays_false}
-use Rattle.uni_script.proofs.Written.{AppendsPrefix-nil}
-use Rattle.run_tell.specs.Opened.{opening_shown, trace_with}
-use Rattle.run_tell.proofs.ToldOn.{Moves-told_on}
-use Rattle.run_tell.proofs.Writing.{Moves-failed, Moves-more, Moves-part, Moves-start, WritesText-err, WritesText-last}
+use Rattle.run_tell.proofs.Tellings.{Moves-failed, Moves-more, Moves-part, Moves-start, Moves-told_on, WritesText-err, WritesText-last}
 use Rattle.run_tell.proofs.order.tell_events.Goals as goal
 
 pub loop-text-init : goal.loop-text-init

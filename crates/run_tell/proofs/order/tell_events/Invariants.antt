@@ -1,6 +1,4 @@
-use Rattle.run_tell.proofs.Vocabulary.{false, length, told_from, told_text, ◌++◌, ◌+◌, ◌<◌, ◌≡◌}
-use Rattle.uni_script.specs.Ends.{Moves}
-use Rattle.run_tell.specs.Opened.{trace_with}
+use Rattle.run_tell.proofs.Vocabulary.{Moves, false, length, told_from, told_text, trace_with, ◌++◌, ◌+◌, ◌<◌, ◌≡◌}
 use Rattle.run_tell.proofs.order.tell_events.Given as goal
 
 -- what was gathered and what is still to be told is left to write

@@ -1,7 +1,5 @@
-use Rattle.run_tell.proofs.Vocabulary.{ap, append-nil, subst, sym, ◌++◌, ◌∙◌}
-use Rattle.std.specs.Io.KnownBytes.{Appends}
-use Rattle.uni_script.specs.Ends.{AppendsPrefix}
-use Rattle.run_tell.proofs.Writing.{Moves-start}
+use Rattle.run_tell.proofs.Vocabulary.{Appends, AppendsPrefix, ap, append-nil, subst, sym, ◌++◌, ◌∙◌}
+use Rattle.run_tell.proofs.Tellings.{Moves-start}
 use Rattle.run_tell.proofs.order.write_from.Goals as goal
 
 pub returns-then-len-least-clause-moved : goal.returns-then-len-least-clause-moved

@@ -1,6 +1,6 @@
 use Rattle.run_tell.proofs.Vocabulary.{HasTooManyEvents-run, IsPage, default_run, page_between}
-use Rattle.run_tell.proofs.Tellings.{IsToldBy-run, IfOk-two}
-use Rattle.run_tell.specs.declared.viewer.TheConstants.{START, MIDDLE, END}
+use Rattle.run_tell.proofs.Tellings.{IfOk-two, IsToldBy-run}
+use Rattle.run_tell.specs.declared.viewer.TheConstants.{END, MIDDLE, START}
 use Rattle.run_tell.proofs.page.page_of.Goals as goal
 
 pub returns-clause-page : goal.returns-clause-page

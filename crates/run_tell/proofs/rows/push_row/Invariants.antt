@@ -1,5 +1,4 @@
-use Rattle.run_tell.proofs.Vocabulary.{flat_map, map, take, ◌++◌, ◌≡◌}
-use Rattle.run_tell.specs.Rows.{cell}
+use Rattle.run_tell.proofs.Vocabulary.{cell, flat_map, map, take, ◌++◌, ◌≡◌}
 use Rattle.run_tell.proofs.rows.push_row.Given as goal
 
 -- the cells so far

@@ -1,16 +1,5 @@
-use Rattle.run_tell.proofs.Vocabulary.{ap, arith, length, length-map, option_map, subst, sym, ◌<◌, ◌∙◌, ◌≡◌}
-use Rattle.std.proofs.Common.{rules}
-use Rattle.uni_model.specs.Worlds.{opened_world}
-use Rattle.uni_record.specs.Event.{event_shown, events_shown}
-use Rattle.std.specs.Io.KnownBytes.{Appends}
-use Rattle.uni_script.specs.Ends.{AppendsPrefix}
-use Rattle.uni_script.proofs.Written.{AppendsPrefix-nil}
-use Rattle.run_layout.specs.Choice.{count_in}
-use Rattle.run_replay.specs.Scenes.{Excerpt}
-use Rattle.run_replay.specs.Scenes.{start_shown}
-use Rattle.run_tell.specs.Opened.{opening_shown}
-use Rattle.run_tell.proofs.TraceIs.{scenes_few, text_is}
-use Rattle.run_tell.proofs.Writing.{WritesText-err}
+use Rattle.run_tell.proofs.Vocabulary.{Appends, AppendsPrefix, AppendsPrefix-nil, Excerpt, ap, arith, count_in, event_shown, events_shown, length, length-map, opened_world, opening_shown, option_map, rules, start_shown, subst, sym, ◌<◌, ◌∙◌, ◌≡◌}
+use Rattle.run_tell.proofs.Tellings.{WritesText-err, scenes_few, text_is}
 use Rattle.run_tell.proofs.told.tell_record.Goals as goal
 
 pub returns-then-count-gt-MOST_EVENTS-clause-told : goal.returns-then-count-gt-MOST_EVENTS-clause-told

@@ -1,14 +1,12 @@
-use Rattle.run_tell.proofs.Vocabulary.{IsLinearizableSession, ap, session_of_record, spoken_of, state_text_of, subst, sym, text_of_session, ◌∙◌}
-use Rattle.uni_script.specs.declared.grammar.ObjectName.TheVariants as name
-use Rattle.run_tell.specs.Written.{WritesText}
+use Rattle.run_tell.proofs.Vocabulary.{IsLinearizableSession, WritesText, ap, session_of_record, spoken_of, state_text_of, subst, sym, text_of_session, ◌∙◌}
 use Rattle.run_tell.proofs.Tellings.{text_as}
+use Rattle.uni_script.specs.declared.grammar.ObjectName.TheVariants as name
 use Rattle.run_tell.proofs.told.tell_run.Goals as goal
 
 pub returns-in-Queue-clause-told : goal.returns-in-Queue-clause-told
 returns-in-Queue-clause-told g c = λ version.
-    let r = c.in-Queue.recorded in
     subst (WritesText c.tell_record.result _ _)
-    (text_as g.T.Telling.wording c.args.range (spoken_of name.Queue) (state_text_of name.Queue) r _ _ _ _ _ _ c.word-name.ensures c.as_slice-lines.ensures.value c.as_slice-remarks.ensures.value
+    (text_as g.T.Telling.wording c.args.range (spoken_of name.Queue) (state_text_of name.Queue) c.in-Queue.recorded _ _ _ _ _ _ c.word-name.ensures c.as_slice-lines.ensures.value c.as_slice-remarks.ensures.value
     ∙ ap (λ s. text_of_session g.T.Telling.wording c.args.range (session_of_record version s) c.args.run.now.lines.items c.args.run.now.remarks.items) (sym c.in-Queue.is)) c.tell_record.ensures.told
 
 pub returns-in-Queue-clause-linearizable : goal.returns-in-Queue-clause-linearizable
@@ -16,9 +14,8 @@ returns-in-Queue-clause-linearizable g c = λ version. subst (λ s. IsLinearizab
 
 pub returns-in-Directory-clause-told : goal.returns-in-Directory-clause-told
 returns-in-Directory-clause-told g c = λ version.
-    let r = c.in-Directory.recorded in
     subst (WritesText c.tell_record-in-Directory.result _ _)
-    (text_as g.T.Telling.wording c.args.range (spoken_of name.Directory) (state_text_of name.Directory) r _ _ _ _ _ _ c.word-name-in-Directory.ensures c.as_slice-lines.ensures.value c.as_slice-remarks.ensures.value
+    (text_as g.T.Telling.wording c.args.range (spoken_of name.Directory) (state_text_of name.Directory) c.in-Directory.recorded _ _ _ _ _ _ c.word-name-in-Directory.ensures c.as_slice-lines.ensures.value c.as_slice-remarks.ensures.value
     ∙ ap (λ s. text_of_session g.T.Telling.wording c.args.range (session_of_record version s) c.args.run.now.lines.items c.args.run.now.remarks.items) (sym c.in-Directory.is)) c.tell_record-in-Directory.ensures.told
 
 pub returns-in-Directory-clause-linearizable : goal.returns-in-Directory-clause-linearizable
@@ -26,9 +23,8 @@ returns-in-Directory-clause-linearizable g c = λ version. subst (λ s. IsLinear
 
 pub returns-in-Book-clause-told : goal.returns-in-Book-clause-told
 returns-in-Book-clause-told g c = λ version.
-    let r = c.in-Book.recorded in
     subst (WritesText c.tell_record-in-Book.result _ _)
-    (text_as g.T.Telling.wording c.args.range (spoken_of name.Book) (state_text_of name.Book) r _ _ _ _ _ _ c.word-name-in-Book.ensures c.as_slice-lines.ensures.value c.as_slice-remarks.ensures.value
+    (text_as g.T.Telling.wording c.args.range (spoken_of name.Book) (state_text_of name.Book) c.in-Book.recorded _ _ _ _ _ _ c.word-name-in-Book.ensures c.as_slice-lines.ensures.value c.as_slice-remarks.ensures.value
     ∙ ap (λ s. text_of_session g.T.Telling.wording c.args.range (session_of_record version s) c.args.run.now.lines.items c.args.run.now.remarks.items) (sym c.in-Book.is)) c.tell_record-in-Book.ensures.told
 
 pub returns-in-Book-clause-linearizable : goal.returns-in-Book-clause-linearizable
@@ -36,9 +32,8 @@ returns-in-Book-clause-linearizable g c = λ version. subst (λ s. IsLinearizabl
 
 pub returns-in-Sticky-clause-told : goal.returns-in-Sticky-clause-told
 returns-in-Sticky-clause-told g c = λ version.
-    let r = c.in-Sticky.recorded in
     subst (WritesText c.tell_record-in-Sticky.result _ _)
-    (text_as g.T.Telling.wording c.args.range (spoken_of name.Sticky) (state_text_of name.Sticky) r _ _ _ _ _ _ c.word-name-in-Sticky.ensures c.as_slice-lines.ensures.value c.as_slice-remarks.ensures.value
+    (text_as g.T.Telling.wording c.args.range (spoken_of name.Sticky) (state_text_of name.Sticky) c.in-Sticky.recorded _ _ _ _ _ _ c.word-name-in-Sticky.ensures c.as_slice-lines.ensures.value c.as_slice-remarks.ensures.value
     ∙ ap (λ s. text_of_session g.T.Telling.wording c.args.range (session_of_record version s) c.args.run.now.lines.items c.args.run.now.remarks.items) (sym c.in-Sticky.is)) c.tell_record-in-Sticky.ensures.told
 
 pub returns-in-Sticky-clause-linearizable : goal.returns-in-Sticky-clause-linearizable

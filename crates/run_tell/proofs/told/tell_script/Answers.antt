@@ -1,6 +1,5 @@
 use Rattle.run_tell.proofs.Vocabulary.{HasTooManyEvents-run, IsTold, ap, default_run, refl, session_of_record, text_of_session}
-use Rattle.run_tell.proofs.Tellings.{IsToldBy-run}
-use Rattle.run_tell.proofs.Writing.{WritesSuch-text, else_many, no_fault_of_script}
+use Rattle.run_tell.proofs.Tellings.{IsToldBy-run, WritesSuch-text, else_many, no_fault_of_script}
 use Rattle.run_tell.proofs.told.tell_script.Goals as goal
 
 pub returns-clause-told : goal.returns-clause-told

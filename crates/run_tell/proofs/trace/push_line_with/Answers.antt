@@ -1,6 +1,4 @@
-use Rattle.run_tell.proofs.Vocabulary.{List, [], after_comma, ap, append_assoc, arith, flat_map, flat_map-append, length, length-map, line_text, map, map-append, member_text, object_text, separated, sym, ℕ, ◌++◌, ◌<◌, ◌∙◌, ◌∷◌, ◌≡◌}
-use Rattle.run_tell.specs.Json.{Member}
-use Rattle.run_tell.specs.JsonShown.{member_shown}
+use Rattle.run_tell.proofs.Vocabulary.{List, Member, [], after_comma, ap, append_assoc, arith, flat_map, flat_map-append, length, length-map, line_text, map, map-append, member_shown, member_text, object_text, separated, sym, ℕ, ◌++◌, ◌<◌, ◌∙◌, ◌∷◌, ◌≡◌}
 use Rattle.run_tell.proofs.trace.push_line_with.Goals as goal
 
 -- members, and further ones

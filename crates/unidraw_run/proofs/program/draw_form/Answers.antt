@@ -1,12 +1,5 @@
-use Rattle.unidraw_run.proofs.Vocabulary.{IsPictureIn, TooManyEvents, Script, ap, subst, sym}
-use Rattle.std.proofs.lemmas.Result.{IfOk-at_ok}
-use Rattle.run_layout.specs.Subject.{HasTooManyEvents}
-use Rattle.run_lines.specs.Lines.{IsLines}
-use Rattle.run_picture.specs.Picture.{IsPicture}
-use Rattle.run_tell.specs.Page.{IsPage}
-use Rattle.run_tell.specs.Written.{WritesSuch}
-use Rattle.run_tell.proofs.Writing.{WritesSuch-weaker}
-use Rattle.unidraw_run.specs.Drawn.{is_streamed, range_of}
+use Rattle.unidraw_run.proofs.Vocabulary.{HasTooManyEvents, IfOk-at_ok, IsLines, IsPage, IsPicture, IsPictureIn, Script, TooManyEvents, WritesSuch, ap, is_streamed, range_of, subst, sym}
+use Rattle.run_tell.proofs.Tellings.{WritesSuch-weaker}
 use Rattle.unidraw_run.proofs.Drawing.{no_script_write, not_memory, not_write}
 use Rattle.unidraw_run.proofs.program.draw_form.Goals as goal
 

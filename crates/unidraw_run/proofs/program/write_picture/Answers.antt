@@ -1,5 +1,4 @@
-use Rattle.unidraw_run.proofs.Vocabulary.{inr, refl, subst}
-use Rattle.uni_script.specs.Ends.{AppendsPrefix}
+use Rattle.unidraw_run.proofs.Vocabulary.{AppendsPrefix, inr, refl, subst}
 use Rattle.unidraw_run.proofs.program.write_picture.Goals as goal
 
 pub returns-in-Ok-clause-drawn : goal.returns-in-Ok-clause-drawn

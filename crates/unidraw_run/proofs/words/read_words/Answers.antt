@@ -1,5 +1,5 @@
 use Rattle.unidraw_run.proofs.Vocabulary.{HasKind, ap, fault_of, map, matches_of, request_in, subst, sym, ◌∙◌}
-use Rattle.unidraw_run.proofs.CommandLine.{conflicting, faulty, is_simple_and_free-unidraw, is_simple-unidraw, unless_faulty-none}
+use Rattle.unidraw_run.proofs.CommandLine.{conflicting, faulty, is_simple-unidraw, is_simple_and_free-unidraw, unless_faulty-none}
 use Rattle.unidraw_run.proofs.words.read_words.Goals as goal
 
 pub returns-in-Some-clause-asked : goal.returns-in-Some-clause-asked

@@ -1,6 +1,4 @@
-use Rattle.unidraw_run.proofs.Vocabulary.{ap, app_of, ap₂, codes, form_options, new_app, with_options, with_rule, ◌∙◌, ◌≡◌}
-use Rattle.std.proofs.lemmas.Result.{IfOk-weaker}
-use Rattle.command_line.specs.Flags.{versioned}
+use Rattle.unidraw_run.proofs.Vocabulary.{IfOk-weaker, ap, app_of, ap₂, codes, form_options, new_app, versioned, with_options, with_rule, ◌∙◌, ◌≡◌}
 use Rattle.unidraw_run.proofs.words.unidraw.Goals as goal
 
 pub returns : goal.returns

@@ -1,5 +1,4 @@
-use Rattle.unidraw_run.proofs.Vocabulary.{app_of, drop, false, map, option_shown, with_options, ◌≡◌}
-use Rattle.clap.specs.declared.builder.command.Command.TheViews.{out-Command}
+use Rattle.unidraw_run.proofs.Vocabulary.{app_of, drop, false, map, option_shown, out-Command, with_options, ◌≡◌}
 use Rattle.unidraw_run.proofs.words.with_options.Given as goal
 
 -- the options so far, and the rest of them
