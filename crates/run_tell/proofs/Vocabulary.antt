@@ -4,7 +4,7 @@ pub use Rattle.std.proofs.Common.{Bool, Err, IfErr, IfOk, IsErr, IsErrOf, List, 
 pub use Rattle.std.proofs.lemmas.List.{length-map, map-append, take_all}
 pub use Rattle.std.proofs.lemmas.List.Concat.{flat_map-append}
 pub use Rattle.std.proofs.lemmas.Result.{IfErr-at_err, IfErr-weaker, MatchResult-from_err, err_from_is_err_and, on_ok_weaker}
-pub use Rattle.run_layout.proofs.Scripts.{HasTooManyEvents-run, default_run, events-run}
+pub use Rattle.run_layout.proofs.Scripts.{more_run, default_run, events-run}
 pub use Rattle.run_replay.specs.Scenes.{Excerpt, scene_of, scenes_from}
 pub use Rattle.uni_model.specs.Worlds.{WorldOf, world_after}
 pub use Rattle.uni_record.specs.Event.{event_shown}

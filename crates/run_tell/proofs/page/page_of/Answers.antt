@@ -1,4 +1,4 @@
-use Rattle.run_tell.proofs.Vocabulary.{HasTooManyEvents-run, IsPage, default_run, page_between}
+use Rattle.run_tell.proofs.Vocabulary.{more_run, IsPage, default_run, page_between}
 use Rattle.run_tell.proofs.Tellings.{IfOk-two, IsToldBy-run}
 use Rattle.run_tell.specs.declared.viewer.TheConstants.{END, MIDDLE, START}
 use Rattle.run_tell.proofs.page.page_of.Goals as goal
@@ -12,4 +12,4 @@ returns-clause-page g c =
     IfOk-two c.page_of_run.result _ _ _ of.few of.page (λ text few is. IsToldBy-run (page_between START.now MIDDLE.now END.now c.args.range) c.args.range _ run given text.items few (is given.3.2.version) of.linearizable)
 
 pub returns-clause-many : goal.returns-clause-many
-returns-clause-many g c = λ many. HasTooManyEvents-run c.args.range _ c.in_ok-run.run' (default_run _ _ c.in_ok-run.run' c.default.ensures c.in_ok-run.ensures.run) (c.page_of_run.ensures.many many)
+returns-clause-many g c = λ many. more_run c.args.range _ c.in_ok-run.run' (default_run _ _ c.in_ok-run.run' c.default.ensures c.in_ok-run.ensures.run) (c.page_of_run.ensures.many many)

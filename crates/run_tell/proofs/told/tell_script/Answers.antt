@@ -1,4 +1,4 @@
-use Rattle.run_tell.proofs.Vocabulary.{HasTooManyEvents-run, IsTold, ap, default_run, refl, session_of_record, text_of_session}
+use Rattle.run_tell.proofs.Vocabulary.{more_run, IsTold, ap, default_run, refl, session_of_record, text_of_session}
 use Rattle.run_tell.proofs.Tellings.{IsToldBy-run, WritesSuch-text, else_many, no_fault_of_script}
 use Rattle.run_tell.proofs.told.tell_script.Goals as goal
 
@@ -17,7 +17,7 @@ pub returns-clause-unwritten : goal.returns-clause-unwritten
 returns-clause-unwritten g c = else_many c.tell_run.result _ c.tell_run.ensures.fault c.tell_run.ensures.unwritten
 
 pub returns-clause-many : goal.returns-clause-many
-returns-clause-many g c = λ many. HasTooManyEvents-run c.args.range _ c.in_ok-run.run' (default_run _ _ c.in_ok-run.run' c.default.ensures c.in_ok-run.ensures.run) (c.tell_run.ensures.many.0 many)
+returns-clause-many g c = λ many. more_run c.args.range _ c.in_ok-run.run' (default_run _ _ c.in_ok-run.run' c.default.ensures c.in_ok-run.ensures.run) (c.tell_run.ensures.many.0 many)
 
 pub returns-clause-fault : goal.returns-clause-fault
 returns-clause-fault g c = λ e is fault. absurd (no_fault_of_script c.tell_run.result c.tell_run.ensures.fault e is fault)
