@@ -1,7 +1,7 @@
 //! Some events of a run, and what is drawn of it where these are chosen.
 
-ghost use Rattle.std.specs.Prelude.{◌≡◌, ◌≤◌, ◌&&◌, ◌-◌, ◌==◌, not, IfOk, List, length, map, option_map};
-ghost use Rattle.std.specs.Prelude.{option_and_then};
+ghost use Rattle.std.specs.Prelude.{◌≡◌, ◌≤◌, ◌&&◌, ◌-◌, ◌==◌, not, IfOk, List, length, map};
+ghost use Rattle.std.specs.Prelude.{option_and_then, option_map};
 ghost use Rattle.run_layout.specs.Vocabulary.{filter, list_any, bar_shown, cell_shown, end_shown, era_shown};
 ghost use Rattle.run_layout.specs.Vocabulary.{marks_shown, Placed, RunMarks};
 ghost use Rattle.run_layout.specs.Choice.{is_by, is_in, meets, all_events, count_in, step_in, dot_in, line_in, end_in};

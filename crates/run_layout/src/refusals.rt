@@ -1,6 +1,7 @@
 //! Refusals as they are drawn: equal ones side by side have one mark.
 
-ghost use Rattle.std.specs.Prelude.{◌≡◌, ◌++◌, ◌+◌, ◌≤◌, ◌<◌, ◌^◌, ◌∷◌, [], IfOk, OnOk, length, map, option_map};
+ghost use Rattle.std.specs.Prelude.{◌≡◌, ◌++◌, ◌+◌, ◌≤◌, ◌<◌, ◌^◌, ◌∷◌, []};
+ghost use Rattle.std.specs.Prelude.{IfOk, OnOk, length, map, option_map};
 ghost use Rattle.run_layout.specs.Wording.{reason_text, refused_text, have_same_text, comes_again, label_after};
 ghost use Rattle.run_layout.specs.Wording.{times_text, told_shown, told_text, times_after, labels_of};
 

@@ -1,6 +1,7 @@
 //! The strokes that signs are to have, from the lowest on.
 
-ghost use Rattle.std.specs.Prelude.{◌≡◌, ◌++◌, ◌∷◌, ◌+◌, ◌<◌, ◌≤◌, ◌^◌, IfOk, OnOk, map};
+ghost use Rattle.std.specs.Prelude.{◌≡◌, ◌++◌, ◌∷◌, ◌+◌, ◌<◌, ◌≤◌, ◌^◌};
+ghost use Rattle.std.specs.Prelude.{IfOk, OnOk, map};
 ghost use Rattle.run_lines.specs.Vocabulary.{flat_map, meaning, marks_shown, sign_shown};
 ghost use Rattle.run_lines.specs.Parts.{no_notes, numbering_after, is_arrow, layered, number_parts, numbers_from};
 ghost use Rattle.run_lines.specs.Parts.{parts_of, parts_of_run, step_letter};
