@@ -36,7 +36,10 @@ fn has_boxes(alloc: Global, from: usize, to: usize, parts: &[Part], drawing: &Dr
         width: drawing.width,
         height: drawing.height,
     };
-    from <= to && to <= drawing.shapes.len() && are_shown(&sheet, parts, &drawing.shapes[from..to])
+    if from > to || to > drawing.shapes.len() {
+        return false;
+    }
+    are_shown(&sheet, parts, &drawing.shapes[from..to])
 }
 
 /// The drawing of the marks of a run, with what was told beside its events, where it shows them. An `Err` is `Misdrawn`
@@ -73,7 +76,6 @@ pub fn tried(
 
 /// The SVG of what a picture shows where these events are chosen. An `Err` is `Misdrawn` where the drawing does not
 /// show it, or says that memory was refused.
-#[tactic(auto, using(crate::proofs::Looking::svg_of_drawing))]
 fn svg_of_subject(alloc: Global, range: Range, subject: Subject) -> Result<Vec<u8>, PictureFault>
     ensures svg { IfOk result (λ svg. IsSvgOf (chosen range (marks_shown subject.marks))
         (chosen_remarks range subject.remarks.items) svg.items) }
