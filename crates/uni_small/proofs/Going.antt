@@ -1,5 +1,5 @@
 -- Seats that go on with a call.
-use Rattle.uni_small.proofs.Vocabulary.{AreBuffers, Buffers, Goes, GoesBy, Image, IsLeft, IsOf, List, Me, None, Option, Reading, Sequential, Sizes, Some, Stage, View, WritesWithin, [], ap, arith, goes, inl, inr, length, local_of, looked, number_cases, refl, slice_index, slice_set, stage_of, subst, sym, went, with_local, with_seen, wrote, ℕ, ◌++◌, ◌+◌, ◌∙◌, ◌∷◌, ◌≡◌, ◌≢◌, ◌≤◌}
+use Rattle.uni_small.proofs.Vocabulary.{AreBuffers, Buffers, Goes, GoesBy, Image, IsLeft, IsOf, List, Me, None, Option, Reading, Sequential, Sizes, Some, Stage, View, WritesWithin, [], ap, arith, begun, buffer_in, goes, inl, inr, length, local_of, looked, number_cases, refl, slice_index, slice_set, stage_of, subst, sym, went, with_local, with_seen, words_held, wrote, ℕ, ◌%◌, ◌++◌, ◌+◌, ◌/◌, ◌∙◌, ◌∷◌, ◌≡◌, ◌≢◌, ◌≤◌}
 
 pub add_assoc : (x y z : ℕ) → x + y + z ≡ x + (y + z)
 add_assoc x y z = omega arith
@@ -39,6 +39,10 @@ module _ {O : Type 0} (me : Me ℕ (View O)) where
         = ap (λ (m : Me ℕ (View O)). (with_local m.0 (went (local_of m) b st2), m.1)) first in
         let count : (local_of me).steps + a + b ≡ (local_of me).steps + (a + b) = add_assoc (local_of me).steps a b in
         next ∙ here ∙ (λ k. (with_local me.0 (record (local_of me) { stage = st2; steps = count k }), me.1))
+
+-- what an attempt has of a buffer of its own when it begins, and of another one
+pub begun_own : (sizes : Sizes) (p : ℕ) (held : List ℕ) (s : ℕ) → buffer_in s / 2 ≡ p → begun sizes p held s ≡ words_held sizes held (buffer_in s % 2)
+begun_own sizes p held s own = elim (number_cases (buffer_in s / 2) p) [ inl h ↦ rw h.1 refl | inr h ↦ absurd (h.0 own) ]
 
 -- where an announcement is as the copy has it, and where it isn't
 pub looked_same : (copy : List ℕ) (r found : ℕ) → found ≡ slice_index copy r → looked copy r found ≡ None

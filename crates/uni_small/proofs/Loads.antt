@@ -1,5 +1,6 @@
 -- The word steps that load, but the last one of a call.
-use Rattle.uni_small.proofs.Vocabulary.{AreIn, AreWhole, Board, Bool, HasAsked, HasChecked, HasCopied, HasFollowed, HasLooked, HasStarted, HasTurned, Idle, IfFresh, Image, Invoked, IsAsking, IsAt, IsAttemptAt, IsBeginning, IsBoard, IsCallAt, IsClosed, IsCopying, IsGood, IsLooking, IsNamed, IsOpen, IsShown, IsSound, IsSteady, Last, List, Local, MayBeWritten, Me, Meaning, Moves, None, Option, Reading, Ready, Returned, Sequential, Sizes, Some, Stage, State, Step, View, Writing, [], announce_word, ap, argument_word, arith, buffer_in, buffer_word, buffer_words, checked, cond, current_word, false, goes, if◌then◌else◌, in_of, inl, inr, knows, length, length-append, looked, lt_cases, map, most_calls, nothing, number_cases, read_image, refl, reply_of, same_from_push, slice_get, slice_get-append_left, slice_get_within, slice_index, spell, stage_of, subst, sum, sym, true, version_in, with_local, with_seen, ℕ, ◌*◌, ◌++◌, ◌+◌, ◌<◌, ◌==◌, ◌∙◌, ◌∷◌, ◌≡◌, ◌≢◌, ◌≤◌}
+use Rattle.uni_small.proofs.Vocabulary.{AreHeld, AreIn, AreWhole, Board, Bool, HasAsked, HasChecked, HasCopied, HasFollowed, HasLooked, HasStarted, HasTurned, Idle, IfFresh, Image, Invoked, IsAsking, IsAt, IsAttemptAt, IsBeginning, IsBoard, IsCallAt, IsClosed, IsCopying, IsGood, IsLooking, IsNamed, IsOpen, IsShown, IsSound, IsSteady, Last, List, Local, MayBeWritten, Me, Meaning, Moves, None, Option, Reading, Ready, Returned, Sequential, Sizes, Some, Stage, State, Step, View, Writing, [], announce_word, ap, argument_word, arith, begun, buffer_in, buffer_word, buffer_words, checked, cond, current_word, drop, false, get_or-drop, get_or-take, goes, if◌then◌else◌, in_of, inl, inr, knows, length, length-append, length-drop, length-take-le, looked, lt_cases, map, most_calls, nothing, number_cases, read_image, refl, reply_of, same_from_push, slice_get, slice_get-append_left, slice_get_within, slice_index, spell, stage_of, subst, suc, sum, sym, true, version_in, with_local, with_seen, words_held, zero, ℕ, ◌%◌, ◌*◌, ◌++◌, ◌+◌, ◌-◌, ◌/◌, ◌<◌, ◌==◌, ◌∙◌, ◌∷◌, ◌≡◌, ◌≢◌, ◌≤◌}
+use Rattle.uni_small.specs.Invariant.{IsCopied}
 use Rattle.std.proofs.lemmas.Bool.Decides.{nat_tests}
 use Rattle.uni_small.proofs.Frame.{Found, load_law}
 use Rattle.uni_small.proofs.Lists.{due_cases, due_last, due_same, due_snoc, get-contains, get_last, get_snoc, index_last, index_snoc, same_list, sum_most}
@@ -87,19 +88,38 @@ module _ {O : Type 0} (meaning : O → Meaning) (o : O) (sizes : Sizes) (id : �
     by_stage (Writing t s image seen) c = c
     by_stage (Last s loaded) c = c
 
+  -- the words of a buffer of its own are those of the current one, where S names it
+  own_words : (g : Board) (which : ℕ) → IsAt object sizes g p l → IsBoard object sizes g → which ≤ 1 → g.current ≡ 2 * p + which → IsCopied g (words_held sizes l.held which)
+  own_words g which mine board either here i below =
+      let b = buffer_words sizes in
+      let room : i < b = (let t = length-take-le b (drop (which * b) l.held) (let d = length-drop (which * b) l.held in let h = mine.held.long in omega_cases which either d h) in omega arith) in
+      get_or-take b (drop (which * b) l.held) i 0 room ∙ get_or-drop (which * b) l.held i 0 ∙ sym (mine.held.words which i either room)
+      ∙ ap (λ c. g.buffer c i) (sym here) ∙ board.exact i room where
+    omega_cases : (which : ℕ) → which ≤ 1 → length (drop (which * buffer_words sizes) l.held) ≡ length l.held - which * buffer_words sizes → length l.held ≡ 2 * buffer_words sizes
+        → buffer_words sizes ≤ length (drop (which * buffer_words sizes) l.held)
+    omega_cases zero either d h = omega arith
+    omega_cases (suc zero) either d h = omega arith
+    omega_cases (suc (suc k)) either d h = absurd (omega arith)
+
+  copied_own : (g : Board) (s : ℕ) → IsAt object sizes g p l → IsBoard object sizes g → buffer_in s ≡ g.current → (b : Bool) → (buffer_in s / 2 == p) ≡ b
+      → IsCopied g (if b then words_held sizes l.held (buffer_in s % 2) else [])
+  copied_own g s mine board is true e = own_words g (buffer_in s % 2) mine board (omega arith) (let h : buffer_in s / 2 ≡ p = grind (arith, nat_tests, e) in omega arith)
+  copied_own g s mine board is false e = λ i below. absurd (omega arith)
+
   -- an attempt begins
   pub starts : (tries : ℕ) → stage_of me ≡ Ready tries → Moves meaning o sizes id me 0 (λ x. x) nothing (λ found me'. HasStarted st me found me')
   starts tries stage = load_law meaning o sizes id me 0 (λ found me'. HasStarted st me found me') single (λ g local words f.
       let s = slice_index words 0 in
       let is : s ≡ current_word g.version g.current = f.words_are.current in
+      let here : buffer_in s ≡ g.current = ap buffer_in is ∙ buffer_of g.version g.current (let c = f.sound.board.current in omega arith) in
       let since : g.since p + tries ≤ g.version = attempt_at object sizes g p l (Ready tries) f.mine stage in (
-        goes l (Reading tries s [] []),
-        at_next g (Reading tries s [] []) f.mine (call_at object sizes g p l (Ready tries) f.mine stage) (
+        goes l (Reading tries s (begun sizes p l.held s) []),
+        at_next g (Reading tries s (begun sizes p l.held s) []) f.mine (call_at object sizes g p l (Ready tries) f.mine stage) (
           omega arith,
           λ fresh. (
             is,
             (
-              (λ i below. absurd (omega arith)),
+              copied_own g s f.mine f.sound.board here (buffer_in s / 2 == p) refl,
               record {
                 told = λ r inv e. absurd (let h = slice_get_within [] r (Some inv) e in omega arith);
                 caught = λ r below. absurd (omega arith);
@@ -109,7 +129,7 @@ module _ {O : Type 0} (meaning : O → Meaning) (o : O) (sizes : Sizes) (id : �
         ),
         λ tries' stage'.
             let same : tries ≡ tries' = (let e : Ready tries ≡ Ready tries' = sym stage ∙ stage' in cc) in (
-              ap (λ k. (with_local me.0 (goes l (Reading k s [] [])), me.1)) same,
+              (λ i. (with_local me.0 (goes l (Reading (same i) s (begun (sym f.processes i) p l.held s) [])), me.1)),
               subst (λ k. IsNamed k s) (sym f.processes) (subst (IsNamed sizes) (sym is) (named object sizes g few f.sound.board)),
             ),
       ))

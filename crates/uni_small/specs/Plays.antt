@@ -1,8 +1,8 @@
 -- What a step tells the seat that takes it, and how a seat is split.
-use Rattle.std.specs.Prelude.{◌≡◌, ℕ, ◌+◌, ◌-◌, ◌*◌, ◌<◌, ◌≤◌, ◌==◌, List, [], ◌∷◌, ◌++◌, Option, None, Some, if◌then◌else◌, refl}
-use Rattle.std.specs.Prelude.{length, slice_index}
+use Rattle.std.specs.Prelude.{◌≡◌, ℕ, ◌+◌, ◌-◌, ◌*◌, ◌/◌, ◌%◌, ◌<◌, ◌≤◌, ◌==◌, List, [], ◌∷◌, ◌++◌, Option, None, Some, if◌then◌else◌, refl}
+use Rattle.std.specs.Prelude.{drop, length, slice_index, take}
 use Rattle.atomic_table.specs.Table.{Me, Step}
-use Rattle.uni_small.specs.Image.{AreWidths, Image, IsReached, Meaning, counter_sizes, first_held, held_place, read_image}
+use Rattle.uni_small.specs.Image.{AreWidths, Image, IsReached, Meaning, buffer_words, counter_sizes, first_held, held_place, read_image}
 use Rattle.uni_small.specs.View.{Local, ProcessReturned, Stage, announces, at_rest, everyone, goes, brings, returns, knows, wrote}
 use Rattle.uni_small.specs.View.Stage.{Idle, Ready, Reading, Writing, Last}
 use Rattle.uni_small.specs.Board.{buffer_in, buffer_word, version_in}
@@ -57,9 +57,19 @@ HasAnnounced step me number me' = (inv : List ℕ) → stage_of me ≡ Idle inv 
 abbrev pub IsNamed : Sizes → (s : ℕ) → Type 0
 IsNamed sizes s = (buffer_in s < 2 * sizes.processes) × (version_in s ≤ sizes.processes * most_calls)
 
+-- the words of the first or second one of a process's two buffers
+abbrev pub words_held : Sizes → (held : List ℕ) → (which : ℕ) → List ℕ
+words_held sizes held which = take (buffer_words sizes) (drop (which * buffer_words sizes) held)
+
+-- what an attempt of process p has of the buffer that s names when it begins: all its words where it is one of the process's own, and
+-- else none
+abbrev pub begun : Sizes → (p : ℕ) → (held : List ℕ) → (s : ℕ) → List ℕ
+begun sizes p held s = if buffer_in s / 2 == p then words_held sizes held (buffer_in s % 2) else []
+
 abbrev pub HasStarted : {O : Type 0} → Step ℕ → Me ℕ (View O) → (s : ℕ) → Me ℕ (View O) → Type 0
 HasStarted step me s me' =
-    (tries : ℕ) → stage_of me ≡ Ready tries → Goes me (Reading tries s [] []) me' × IsNamed me.0.known.sizes s
+    let v = me.0.known in
+    (tries : ℕ) → stage_of me ≡ Ready tries → Goes me (Reading tries s (begun v.sizes v.first v.local.held s) []) me' × IsNamed v.sizes s
 
 abbrev pub HasCopied : {O : Type 0} → Step ℕ → Me ℕ (View O) → (found : ℕ) → Me ℕ (View O) → Type 0
 HasCopied step me found me' =
@@ -149,3 +159,10 @@ sample_brings = refl
 
 sample_is_in : checked (counter_sizes 2) 0 1 1 256 (1 ∷ 4 ∷ 0 ∷ 7 ∷ 9 ∷ []) (None ∷ None ∷ []) 256 ≡ Last 256 []
 sample_is_in = refl
+
+-- process 0 of two: buffer 1 is its own, with the state 9, and buffer 2 is that of process 1
+sample_own : begun (counter_sizes 2) 0 (0 ∷ 0 ∷ 0 ∷ 0 ∷ 5 ∷ 1 ∷ 0 ∷ 5 ∷ 0 ∷ 9 ∷ []) 129 ≡ 1 ∷ 0 ∷ 5 ∷ 0 ∷ 9 ∷ []
+sample_own = refl
+
+sample_of_another : begun (counter_sizes 2) 0 (0 ∷ 0 ∷ 0 ∷ 0 ∷ 5 ∷ 1 ∷ 0 ∷ 5 ∷ 0 ∷ 9 ∷ []) 258 ≡ []
+sample_of_another = refl

@@ -5,7 +5,7 @@ ghost use Rattle.uni_small.specs.Image.{AreWidths, IsReached, buffer_words, held
 ghost use Rattle.uni_small.specs.View.Stage.{Ready, Reading, Writing};
 ghost use Rattle.uni_small.specs.Board.{buffer_in};
 ghost use Rattle.uni_small.specs.Invariant.{most_calls};
-ghost use Rattle.uni_small.specs.Plays.{stage_of, IsNamed, IsGood};
+ghost use Rattle.uni_small.specs.Plays.{stage_of, IsNamed, IsGood, begun, words_held};
 ghost use Rattle.uni_small.specs.Standing.{GoesBy, GoesWithin, IsAsking, IsCopying, IsLooking, IsOf};
 ghost use Rattle.uni_small.specs.Standing.{EndsWithin, HasCopy, HasRow, WritesWithin, attempt_steps, local_of};
 ghost use Rattle.uni_small.specs.Belongs.{AreBuffers, HasInvocation, HasRoom};
@@ -218,12 +218,92 @@ impl<O: SmallObject> SmallShared<O> {
         }
     }
 
+    /// Loads all words of the buffer that s names.
+    fn load_copy(&self, seat: &mut Seat<u8, View<O>>, p: u64, tries: u64, s: u64, room: &mut Room)
+        requires table { seat.old.table_id ≡ self.now.table.shared.table_id }
+        requires inside { p < self.now.setup.sizes.processes }
+        requires of { IsOf self.now.setup.object self.now.setup.sizes p seat.old.me }
+        requires stage { stage_of seat.old.me ≡ Reading tries s [] [] }
+        requires named { buffer_in s < 2 * self.now.setup.sizes.processes }
+        requires room { HasRoom self.now.setup.sizes room.old }
+        ensures same { (seat.new.table_id ≡ seat.old.table_id) × (seat.new.id ≡ seat.old.id) }
+        ensures goes { GoesBy seat.old.me (buffer_words self.now.setup.sizes)
+            (Reading tries s (spell (image_in self.now.setup.sizes room.new)) []) seat.new.me }
+        ensures room { HasRoom self.now.setup.sizes room.new }
+    {
+        let sizes = &self.setup.sizes;
+        let n = sizes.processes;
+        self.copy_row(seat, p, tries, s, 0, &mut room.applied);
+        self.copy_row(seat, p, tries, s, n, &mut room.reply);
+        self.copy_row(seat, p, tries, s, n + n * sizes.reply, &mut room.state);
+    }
+
+    /// Takes the words of the first or second one of the process's own buffers, which it keeps.
+    fn take_copy(&self, own: &Buffers, which: u64, room: &mut Room)
+        requires which { which ≤ 1 }
+        requires held { length own.now.held.items ≡ 2 * buffer_words self.now.setup.sizes }
+        requires room { HasRoom self.now.setup.sizes room.old }
+        ensures copy { spell (image_in self.now.setup.sizes room.new)
+            ≡ words_held self.now.setup.sizes own.now.held.items which }
+        ensures room { HasRoom self.now.setup.sizes room.new }
+    {
+        let sizes = &self.setup.sizes;
+        let n = sizes.processes as usize;
+        let replies = (sizes.processes * sizes.reply) as usize;
+        let state = sizes.state as usize;
+        let first = (which * self.buffer_words()) as usize;
+        let second = first + n;
+        let third = second + replies;
+        room.applied.copy_from_slice(&own.held[first..second]);
+        room.reply.copy_from_slice(&own.held[second..third]);
+        room.state.copy_from_slice(&own.held[third..third + state]);
+    }
+
+    /// Copies the buffer that s names: where it is one of the process's own, no word of it is loaded.
+    fn copy(
+        &self,
+        seat: &mut Seat<u8, View<O>>,
+        p: u64,
+        tries: u64,
+        s: u64,
+        own: &Buffers,
+        room: &mut Room,
+    )
+        requires table { seat.old.table_id ≡ self.now.table.shared.table_id }
+        requires inside { p < self.now.setup.sizes.processes }
+        requires of { IsOf self.now.setup.object self.now.setup.sizes p seat.old.me }
+        requires stage { stage_of seat.old.me
+            ≡ Reading tries s (begun self.now.setup.sizes p own.now.held.items s) [] }
+        requires named { buffer_in s < 2 * self.now.setup.sizes.processes }
+        requires held { length own.now.held.items ≡ 2 * buffer_words self.now.setup.sizes }
+        requires room { HasRoom self.now.setup.sizes room.old }
+        ensures same { (seat.new.table_id ≡ seat.old.table_id) × (seat.new.id ≡ seat.old.id) }
+        ensures goes { GoesWithin seat.old.me (buffer_words self.now.setup.sizes)
+            (Reading tries s (spell (image_in self.now.setup.sizes room.new)) []) seat.new.me }
+        ensures room { HasRoom self.now.setup.sizes room.new }
+    {
+        let b = s % 128;
+        if b / 2 == p {
+            self.take_copy(own, b % 2, room);
+        } else {
+            self.load_copy(seat, p, tries, s, room);
+        }
+    }
+
     /// Begins an attempt: loads S, copies the buffer that it names, and looks at all processes.
-    fn gather(&self, seat: &mut Seat<u8, View<O>>, p: u64, tries: u64, room: &mut Room) -> u64
+    fn gather(
+        &self,
+        seat: &mut Seat<u8, View<O>>,
+        p: u64,
+        tries: u64,
+        own: &Buffers,
+        room: &mut Room,
+    ) -> u64
         requires table { seat.old.table_id ≡ self.now.table.shared.table_id }
         requires inside { p < self.now.setup.sizes.processes }
         requires of { IsOf self.now.setup.object self.now.setup.sizes p seat.old.me }
         requires stage { stage_of seat.old.me ≡ Ready tries }
+        requires own { AreBuffers self.now.setup.sizes (local_of seat.old.me) own.now }
         requires room { HasRoom self.now.setup.sizes room.old }
         ensures same { (seat.new.table_id ≡ seat.old.table_id) × (seat.new.id ≡ seat.old.id) }
         ensures goes { GoesWithin seat.old.me
@@ -233,12 +313,8 @@ impl<O: SmallObject> SmallShared<O> {
         ensures named { IsNamed self.now.setup.sizes result }
         ensures room { HasRoom self.now.setup.sizes room.new }
     {
-        let sizes = &self.setup.sizes;
-        let n = sizes.processes;
         let s = self.start(seat, p, tries);
-        self.copy_row(seat, p, tries, s, 0, &mut room.applied);
-        self.copy_row(seat, p, tries, s, n, &mut room.reply);
-        self.copy_row(seat, p, tries, s, n + n * sizes.reply, &mut room.state);
+        self.copy(seat, p, tries, s, own, room);
         self.scan(seat, p, tries, s, &room.applied, &mut room.seen);
         s
     }
@@ -335,7 +411,7 @@ impl<O: SmallObject> SmallShared<O> {
         ensures own { AreBuffers self.now.setup.sizes (local_of seat.new.me) own.new }
         ensures room { HasRoom self.now.setup.sizes room.new }
     {
-        let s = self.gather(seat, p, tries, room);
+        let s = self.gather(seat, p, tries, own, room);
         let again = self.check(seat, p, tries, s);
         if again != s {
             return None;

@@ -6,7 +6,7 @@ ghost use Rattle.uni_small.specs.View.{announces, brings, goes, knows, returns, 
 ghost use Rattle.uni_small.specs.View.Stage.{Idle, Last, Reading, Ready, Writing};
 ghost use Rattle.uni_small.specs.Board.{buffer_in, current_word, version_in};
 ghost use Rattle.uni_small.specs.Invariant.{most_calls};
-ghost use Rattle.uni_small.specs.Plays.{Goes, IsLeft, stage_of, IsNamed, looked, checked, IsGood, brought};
+ghost use Rattle.uni_small.specs.Plays.{Goes, IsLeft, stage_of, IsNamed, begun, looked, checked, IsGood, brought};
 ghost use Rattle.uni_small.specs.Standing.{HasWrittenAll, IsAsking, IsCopying, IsLoading, IsLooking, IsOf};
 ghost use Rattle.uni_small.specs.Standing.{IsStoring, IsWriting, local_of};
 
@@ -51,14 +51,15 @@ impl<O: SmallObject> SmallShared<O> {
             .store::<Announces>(seat, self.announce_word(p), number);
     }
 
-    /// Loads S, with which an attempt begins.
+    /// Loads S, with which an attempt begins. Where S names a buffer of the process's own, the attempt has its words.
     pub(crate) fn start(&self, seat: &mut Seat<u8, View<O>>, p: u64, tries: u64) -> u64
         requires table { seat.old.table_id ≡ self.now.table.shared.table_id }
         requires inside { p < self.now.setup.sizes.processes }
         requires of { IsOf self.now.setup.object self.now.setup.sizes p seat.old.me }
         requires stage { stage_of seat.old.me ≡ Ready tries }
         ensures same { (seat.new.table_id ≡ seat.old.table_id) × (seat.new.id ≡ seat.old.id) }
-        ensures left { Goes seat.old.me (Reading tries result [] []) seat.new.me }
+        ensures left { Goes seat.old.me
+            (Reading tries result (begun self.now.setup.sizes p (local_of seat.old.me).held result) []) seat.new.me }
         ensures named { IsNamed self.now.setup.sizes result }
     {
         self.table.shared.load::<Starts>(seat, 0)
