@@ -1,9 +1,9 @@
 -- What the functions of the word steps ask, in parts.
-use Rattle.uni_small.proofs.Vocabulary.{Act, Allows, Board, List, Me, Meaning, Moves, Rule, Setup, View, keeps, subst, sym, ℕ, ◌≡◌}
+use Rattle.uni_small.proofs.Vocabulary.{Act, Allows, Board, List, Me, Meaning, Moves, Rule, Seen, Setup, View, keeps, subst, sym, ℕ, ◌≡◌}
 
 -- what the table was told is what the object has, the word is this one, and the step moves the board
 pub by_key : {O : Type 0} (meaning : O → Meaning) (told setup : Setup O) → told ≡ setup
-    → (slots id : ℕ) (me : Me ℕ (View O)) (i j : ℕ) → i ≡ j → (f : ℕ → ℕ) (says : ℕ → Me ℕ (View O) → Type 0) (acts : Board → ℕ → List (Act (List ℕ) (List ℕ)))
+    → (slots id : ℕ) (me : Me Seen (View O)) (i j : ℕ) → i ≡ j → (f : ℕ → ℕ) (says : ℕ → Me Seen (View O) → Type 0) (acts : Board → ℕ → List (Act (List ℕ) (List ℕ)))
     → Moves meaning setup.object setup.sizes id me j f acts says → Allows (Rule meaning told) slots id me i f says
 by_key meaning told setup same slots id me i j word f says acts moves =
     subst (λ k. Allows (Rule meaning told) slots id me k f says) (sym word) (subst (λ key. Allows (Rule meaning key) slots id me j f says) (sym same)

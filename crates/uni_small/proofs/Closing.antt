@@ -1,12 +1,12 @@
 -- What the words of a closed table show.
-use Rattle.uni_small.proofs.Vocabulary.{AreWords, Board, Contains, Idle, Image, IsBoard, IsClosed, IsFinal, IsShown, List, Local, Meaning, ProcessReturned, Rule, Sequential, Setup, Sizes, State, View, [], ap, arith, buffer_in, get_elem?, map, plain, refl, sequential_acts, slice_get, slice_index, some, state_place, subst, suc, sym, zero, ℕ, ◌*◌, ◌<◌, ◌∙◌, ◌∷◌, ◌≡◌, ◌≤◌}
+use Rattle.uni_small.proofs.Vocabulary.{AreWords, Board, Contains, Idle, Image, IsBoard, IsClosed, IsFinal, IsShown, List, Local, Meaning, ProcessReturned, Rule, Seen, Sequential, Setup, Sizes, State, View, [], ap, arith, buffer_in, get_elem?, map, plain, refl, sequential_acts, slice_get, slice_index, some, state_place, subst, suc, sym, zero, ℕ, ◌*◌, ◌<◌, ◌∙◌, ◌∷◌, ◌≡◌, ◌≤◌}
 use Rattle.uni_small.specs.Reading.{IsStateIn}
 use Rattle.uni_small.proofs.Images.{reached_from, spell-state}
 use Rattle.uni_small.proofs.Lists.{same_list}
 use Rattle.uni_small.proofs.Loads.{buffer_of, call_at}
 
 -- the words are those of a table that shows a board, and the seats of these views, if any, are among those that it has
-module _ {O : Type 0} (meaning : O → Meaning) (setup : Setup O) (few : setup.sizes.processes ≤ 64) (last : State ℕ (View O)) (holds : Rule meaning setup last) (words : List ℕ) (words_of_last : last.words ≡ words) where
+module _ {O : Type 0} (meaning : O → Meaning) (setup : Setup O) (few : setup.sizes.processes ≤ 64) (last : State Seen (View O)) (holds : Rule meaning setup last) (words : List ℕ) (words_of_last : last.words ≡ words) where
   abbrev sizes : Sizes
   sizes = setup.sizes
 

@@ -1,5 +1,5 @@
 -- How an attempt goes on after its check, and how a call ends.
-use Rattle.uni_small.proofs.Vocabulary.{AreBuffers, Buffers, CallEnds, EndsWithin, Goes, GoesBy, HasRows, Idle, Image, IsEnd, IsGood, IsLeft, Last, List, Local, Me, Meaning, None, Option, Reading, Ready, ReplyEnds, Returned, Sizes, Some, Stage, View, WritesWithin, Writing, [], announces, ap, arith, attempt_steps, brings, brought, buffer_in, buffer_words, call_steps, checked, end_of, goes, inl, inr, length, local_of, number_cases, read_image, refl, returns, slice_index, spell, stage_of, subst, sym, version_in, went, with_local, ℕ, ◌*◌, ◌+◌, ◌-◌, ◌<◌, ◌∙◌, ◌≡◌, ◌≢◌, ◌≤◌}
+use Rattle.uni_small.proofs.Vocabulary.{AreBuffers, Buffers, CallEnds, EndsWithin, Goes, GoesBy, HasRows, Idle, Image, IsEnd, IsGood, IsLeft, Last, List, Local, Me, Meaning, None, Option, Reading, Ready, ReplyEnds, Returned, Seen, Sizes, Some, Stage, View, WritesWithin, Writing, [], announces, ap, arith, attempt_steps, brings, brought, buffer_in, buffer_words, call_steps, checked, end_of, goes, inl, inr, length, local_of, number_cases, read_image, refl, returns, slice_index, spell, stage_of, subst, sym, version_in, went, with_local, ℕ, ◌*◌, ◌+◌, ◌-◌, ◌<◌, ◌∙◌, ◌≡◌, ◌≢◌, ◌≤◌}
 use Rattle.std.proofs.Math.Nat.{add-mul, mul_assoc, mul_comm}
 use Rattle.uni_small.proofs.Going.{add_assoc, stage_after, own_after, spare_after, held_after, goes_on}
 use Rattle.uni_small.proofs.Images.{read-spell, spell-applied}
@@ -20,10 +20,10 @@ checked_on sizes p made tries s copy seen found same other = elim (number_cases 
 ]
 
 -- one change of a local after another
-pub left_more : {O : Type 0} (me me1 me2 : Me ℕ (View O)) (F : Local → Local) (x : Local) → IsLeft me x me1 → IsLeft me1 (F (local_of me1)) me2 → IsLeft me (F x) me2
+pub left_more : {O : Type 0} (me me1 me2 : Me Seen (View O)) (F : Local → Local) (x : Local) → IsLeft me x me1 → IsLeft me1 (F (local_of me1)) me2 → IsLeft me (F x) me2
 left_more me me1 me2 F x first next = next ∙ ap (λ m. (with_local m.0 (F (local_of m)), m.1)) first
 
-module _ {O : Type 0} (meaning : Meaning) (sizes : Sizes) (p tries s words : ℕ) (image : Image) (rows : HasRows sizes image) (inside : p < sizes.processes) (seen : List (Option (List ℕ))) (me me1 me2 : Me ℕ (View O))
+module _ {O : Type 0} (meaning : Meaning) (sizes : Sizes) (p tries s words : ℕ) (image : Image) (rows : HasRows sizes image) (inside : p < sizes.processes) (seen : List (Option (List ℕ))) (me me1 me2 : Me Seen (View O))
     (first : GoesBy me words (Reading tries s (spell image) seen) me1) (again : ℕ)
     (told : (copy : List ℕ) (seen : List (Option (List ℕ))) → stage_of me1 ≡ Reading tries s copy seen
     → Goes me1 (checked sizes p (length (local_of me1).own + 1) tries s copy seen again) me2 × (again ≡ s → IsGood meaning sizes (read_image sizes copy))) where
@@ -49,7 +49,7 @@ module _ {O : Type 0} (meaning : Meaning) (sizes : Sizes) (p tries s words : ℕ
   pub good : again ≡ s → IsGood meaning sizes image
   good same = subst (IsGood meaning sizes) (read-spell sizes image rows) ((told (spell image) seen at).1 same)
 
-module _ {O : Type 0} (sizes : Sizes) (tries words : ℕ) (stage : Stage) (own : Buffers) (me me1 : Me ℕ (View O)) (first : GoesBy me words stage me1) (are : AreBuffers sizes (local_of me) own) where
+module _ {O : Type 0} (sizes : Sizes) (tries words : ℕ) (stage : Stage) (own : Buffers) (me me1 : Me Seen (View O)) (first : GoesBy me words stage me1) (are : AreBuffers sizes (local_of me) own) where
   -- the process's buffers stay
   pub buffers_stay : AreBuffers sizes (local_of me1) own
   buffers_stay = record {
@@ -65,7 +65,7 @@ module _ {O : Type 0} (sizes : Sizes) (tries words : ℕ) (stage : Stage) (own :
       (words, few, named, first ∙ (λ k. (with_local me.0 (record (local_of me) { stage = is k; spare = are.spare k; held = are.held k; steps = (local_of me).steps + words }), me.1)))
 
   -- it ends later
-  pub ends_later : (me2 : Me ℕ (View O)) (later most : ℕ) (ended : Option ℕ) (own2 : Buffers) → EndsWithin sizes later tries me1 ended own2 me2 → words + later ≤ most → EndsWithin sizes most tries me ended own2 me2
+  pub ends_later : (me2 : Me Seen (View O)) (later most : ℕ) (ended : Option ℕ) (own2 : Buffers) → EndsWithin sizes later tries me1 ended own2 me2 → words + later ≤ most → EndsWithin sizes most tries me ended own2 me2
   ends_later me2 later most ended own2 h few =
       let count : (local_of me).steps + words + h.0 ≡ (local_of me).steps + (words + h.0) = add_assoc (local_of me).steps words h.0 in (
         words + h.0,
@@ -82,7 +82,7 @@ brought_missed l tries s new found apart = elim (number_cases found s) [ inl h �
 brought_hit : (l : Local) (tries s new found : ℕ) → found ≡ s → brought l tries s new found ≡ brings l new
 brought_hit l tries s new found same = elim (number_cases found s) [ inl h ↦ rw h.1 refl | inr h ↦ absurd (h.0 same) ]
 
-module _ {O : Type 0} (sizes : Sizes) (most tries s new found : ℕ) (own : Buffers) (me me1 me2 : Me ℕ (View O)) (first : WritesWithin me most own.held.items me1) (spare_is : (local_of me).spare ≡ own.spare)
+module _ {O : Type 0} (sizes : Sizes) (most tries s new found : ℕ) (own : Buffers) (me me1 me2 : Me Seen (View O)) (first : WritesWithin me most own.held.items me1) (spare_is : (local_of me).spare ≡ own.spare)
     (next : IsLeft me1 (brought (local_of me1) tries s new found) me2) where
   count : (local_of me).steps + first.0 + 1 ≡ (local_of me).steps + (first.0 + 1)
   count = add_assoc (local_of me).steps first.0 1
@@ -93,7 +93,7 @@ module _ {O : Type 0} (sizes : Sizes) (most tries s new found : ℕ) (own : Buff
     (let a = first.1 in omega arith),
     tt,
     next ∙ ap (λ l. (with_local me1.0 l, me1.1)) (brought_missed (local_of me1) tries s new found apart)
-        ∙ ap (λ (m : Me ℕ (View O)). (with_local m.0 (goes (local_of m) (Ready (tries + 1))), m.1)) first.2
+        ∙ ap (λ (m : Me Seen (View O)). (with_local m.0 (goes (local_of m) (Ready (tries + 1))), m.1)) first.2
         ∙ (λ k. (with_local me.0 (record (local_of me) { stage = Ready (tries + 1); spare = spare_is k; held = own.held.items; steps = count k }), me.1)),
   )
 
@@ -103,17 +103,17 @@ module _ {O : Type 0} (sizes : Sizes) (most tries s new found : ℕ) (own : Buff
     (let a = first.1 in omega arith),
     named,
     next ∙ ap (λ l. (with_local me1.0 l, me1.1)) (brought_hit (local_of me1) tries s new found same)
-        ∙ ap (λ (m : Me ℕ (View O)). (with_local m.0 (brings (local_of m) new), m.1)) first.2
+        ∙ ap (λ (m : Me Seen (View O)). (with_local m.0 (brings (local_of m) new), m.1)) first.2
         ∙ (λ k. (with_local me.0 (record (local_of me) { stage = Last new []; spare = 1 - spare_is k; held = own.held.items; steps = count k }), me.1)),
   )
 
 -- what is known of the buffers when an attempt has ended
-pub buffers_at_end : {O : Type 0} (sizes : Sizes) (most tries : ℕ) (ended : Option ℕ) (own : Buffers) (me me1 : Me ℕ (View O)) → EndsWithin sizes most tries me ended own me1 → own.spare ≤ 1
+pub buffers_at_end : {O : Type 0} (sizes : Sizes) (most tries : ℕ) (ended : Option ℕ) (own : Buffers) (me me1 : Me Seen (View O)) → EndsWithin sizes most tries me ended own me1 → own.spare ≤ 1
     → length own.held.items ≡ 2 * buffer_words sizes → AreBuffers sizes (local_of me1) own
 buffers_at_end sizes most tries ended own me me1 h either long = record {
-  spare = ap (λ (m : Me ℕ (View _)). (local_of m).spare) h.3;
+  spare = ap (λ (m : Me Seen (View _)). (local_of m).spare) h.3;
   which = either;
-  held = ap (λ (m : Me ℕ (View _)). (local_of m).held) h.3;
+  held = ap (λ (m : Me Seen (View _)). (local_of m).held) h.3;
   long = long;
 }
 
@@ -129,15 +129,15 @@ steps_are sizes =
     omega arith
 
 -- a call from its first store to its reply
-module _ {O : Type 0} (sizes : Sizes) (inv reply : List ℕ) (version : ℕ) (me me1 me2 : Me ℕ (View O)) (stored : GoesBy me sizes.invocation (Idle inv) me1) (announced : IsLeft me1 (announces (local_of me1) inv) me2) where
+module _ {O : Type 0} (sizes : Sizes) (inv reply : List ℕ) (version : ℕ) (me me1 me2 : Me Seen (View O)) (stored : GoesBy me sizes.invocation (Idle inv) me1) (announced : IsLeft me1 (announces (local_of me1) inv) me2) where
   begun : IsLeft me (announces (went (local_of me) sizes.invocation (Idle inv)) inv) me2
   begun = left_more me me1 me2 (λ l. announces l inv) (went (local_of me) sizes.invocation (Idle inv)) stored announced
 
   -- the reply is read in the buffer that s names
-  abbrev HasEnded : (s : ℕ) → Me ℕ (View O) → Me ℕ (View O) → Type 0
+  abbrev HasEnded : (s : ℕ) → Me Seen (View O) → Me Seen (View O) → Type 0
   HasEnded s me3 me4 = ReplyEnds me3 s reply sizes.reply me4 × (version ≡ version_in s) × ((local_of me3).after < version_in s)
 
-  ends : (s words : ℕ) (own : Buffers) (me3 me4 : Me ℕ (View O)) → words + (sizes.invocation + sizes.reply + 1) ≤ call_steps sizes
+  ends : (s words : ℕ) (own : Buffers) (me3 me4 : Me Seen (View O)) → words + (sizes.invocation + sizes.reply + 1) ≤ call_steps sizes
       → IsLeft me2 (record (local_of me2) { stage = Last s []; spare = own.spare; held = own.held.items; steps = (local_of me2).steps + words }) me3
       → HasEnded s me3 me4 → CallEnds sizes me inv reply version own me4
   ends s words own me3 me4 few there returned =
@@ -145,7 +145,7 @@ module _ {O : Type 0} (sizes : Sizes) (inv reply : List ℕ) (version : ℕ) (me
       let b = left_more me me3 me4 (λ l. record (returns l s reply) { steps = l.steps + sizes.reply })
       (record (announces (went (local_of me) sizes.invocation (Idle inv)) inv) { stage = Last s []; spare = own.spare; held = own.held.items; steps = (local_of me).steps + sizes.invocation + 1 + words }) a returned.0 in
       let count : (local_of me).steps + sizes.invocation + 1 + words + sizes.reply ≡ (local_of me).steps + (words + (sizes.invocation + sizes.reply + 1)) = omega (arith) in
-      let same : (local_of me3).after ≡ (local_of me).after = ap (λ (m : Me ℕ (View O)). (local_of m).after) a in
+      let same : (local_of me3).after ≡ (local_of me).after = ap (λ (m : Me Seen (View O)). (local_of m).after) a in
       subst (λ v. CallEnds sizes me inv reply v own me4) (sym returned.1) (
         words + (sizes.invocation + sizes.reply + 1),
         few,
@@ -154,11 +154,11 @@ module _ {O : Type 0} (sizes : Sizes) (inv reply : List ℕ) (version : ℕ) (me
       )
 
   -- the first attempt ends it
-  pub ends_first : (s : ℕ) (own : Buffers) (me3 me4 : Me ℕ (View O)) → EndsWithin sizes (attempt_steps sizes) 0 me2 (Some s) own me3 → HasEnded s me3 me4 → CallEnds sizes me inv reply version own me4
+  pub ends_first : (s : ℕ) (own : Buffers) (me3 me4 : Me Seen (View O)) → EndsWithin sizes (attempt_steps sizes) 0 me2 (Some s) own me3 → HasEnded s me3 me4 → CallEnds sizes me inv reply version own me4
   ends_first s own me3 me4 h returned = ends s h.0 own me3 me4 (let f = h.1 in let e = steps_are sizes in omega arith) h.3 returned
 
   -- the second one does
-  pub ends_second : (s : ℕ) (own0 own : Buffers) (me3 me4 me5 : Me ℕ (View O)) → EndsWithin sizes (attempt_steps sizes) 0 me2 None own0 me3 → EndsWithin sizes (attempt_steps sizes) 1 me3 (Some s) own me4 → HasEnded s me4 me5
+  pub ends_second : (s : ℕ) (own0 own : Buffers) (me3 me4 me5 : Me Seen (View O)) → EndsWithin sizes (attempt_steps sizes) 0 me2 None own0 me3 → EndsWithin sizes (attempt_steps sizes) 1 me3 (Some s) own me4 → HasEnded s me4 me5
       → CallEnds sizes me inv reply version own me5
   ends_second s own0 own me3 me4 me5 failed h returned =
       let a = left_more me2 me3 me4 (λ l. record l { stage = Last s []; spare = own.spare; held = own.held.items; steps = l.steps + h.0 })
@@ -168,7 +168,7 @@ module _ {O : Type 0} (sizes : Sizes) (inv reply : List ℕ) (version : ℕ) (me
       (a ∙ (λ k. (with_local me2.0 (record (local_of me2) { stage = Last s []; spare = own.spare; held = own.held.items; steps = count k }), me2.1))) returned
 
   -- both have failed
-  pub ends_last : (s : ℕ) (own0 own : Buffers) (me3 me4 me5 me6 : Me ℕ (View O)) → EndsWithin sizes (attempt_steps sizes) 0 me2 None own0 me3 → EndsWithin sizes (attempt_steps sizes) 1 me3 None own me4
+  pub ends_last : (s : ℕ) (own0 own : Buffers) (me3 me4 me5 me6 : Me Seen (View O)) → EndsWithin sizes (attempt_steps sizes) 0 me2 None own0 me3 → EndsWithin sizes (attempt_steps sizes) 1 me3 None own me4
       → Goes me4 (Last s []) me5 → HasEnded s me5 me6 → CallEnds sizes me inv reply version own me6
   ends_last s own0 own me3 me4 me5 me6 failed again turned returned =
       let a = left_more me2 me3 me4 (λ l. record l { stage = Ready 2; spare = own.spare; held = own.held.items; steps = l.steps + again.0 })

@@ -1,5 +1,5 @@
 -- The exchange that makes a spare buffer current.
-use Rattle.uni_small.proofs.Vocabulary.{AcceptsAll-append, AreIn, AreWhole, AreWords, Board, Bool, Contains-append_cases, HasBrought, HasRows, HasSeen, HasTaken, HasWrittenAll, Idle, Image, Invoked, IsAttemptAt, IsBoard, IsCallAt, IsClosed, IsOpen, IsOrdered, IsSound, IsSteady, Last, Linearize, List, Local, MayBeWritten, Me, Meaning, Moves, None, Option, Reading, Ready, Returned, Sequential, Sizes, Some, Stage, StandsIn, Step, View, Writing, [], acts_by, ap, append-nil, arith, at_start, brings, brought, buffer_in, buffer_words, calls_seen, current_word, due_at, either, eqb, exchanged, false, first_image, goes, if◌then◌else◌, image_from, in_of, inl, inr, length, length-append, lt_cases, map, map-append, nat_lt, number_cases, refl, reply_of, reply_place, response_at, response_at-append, set-get_or, set_at, set_at-cases, set_at_elsewhere, set_at_same, slice_get, slice_get-append_left, slice_get-append_right, slice_get_within, slice_index, slice_set, spell, state_after, subst, suc, sym, take, takes_effect, true, version_in, with_local, with_seen, zero, ℕ, ◌*◌, ◌++◌, ◌+◌, ◌<◌, ◌==◌, ◌∙◌, ◌∷◌, ◌≡◌, ◌≢◌, ◌≤◌, ◌⊎◌}
+use Rattle.uni_small.proofs.Vocabulary.{AcceptsAll-append, AreIn, AreWhole, AreWords, Board, Bool, Contains-append_cases, HasBrought, HasRows, HasSeen, HasTaken, HasWrittenAll, Idle, Image, Invoked, IsAttemptAt, IsBoard, IsCallAt, IsClosed, IsOpen, IsOrdered, IsSound, IsSteady, Last, Linearize, List, Local, MayBeWritten, Me, Meaning, Moves, None, Option, Reading, Ready, Returned, Seen, Sequential, Sizes, Some, Stage, StandsIn, Step, View, Writing, [], acts_by, ap, append-nil, arith, at_start, brings, brought, buffer_in, buffer_words, calls_seen, current_word, due_at, either, eqb, exchanged, false, first_image, goes, if◌then◌else◌, image_from, in_of, inl, inr, length, length-append, lt_cases, map, map-append, nat_lt, number_cases, refl, reply_of, reply_place, response_at, response_at-append, set-get_or, set_at, set_at-cases, set_at_elsewhere, set_at_same, slice_get, slice_get-append_left, slice_get-append_right, slice_get_within, slice_index, slice_set, spell, state_after, subst, suc, sym, take, takes_effect, true, version_in, with_local, with_seen, zero, ℕ, ◌*◌, ◌++◌, ◌+◌, ◌<◌, ◌==◌, ◌∙◌, ◌∷◌, ◌≡◌, ◌≢◌, ◌≤◌, ◌⊎◌}
 use Rattle.uni_small.proofs.Frame.{Found, Given, step_law, sound_with, sound_same}
 use Rattle.uni_small.proofs.Lists.{due_cases, get-append, get-contains}
 use Rattle.uni_small.proofs.Acts.{acts_by-append, acts_by-linearized}
@@ -334,7 +334,7 @@ module _ (object : Sequential (List ℕ) (List ℕ) (List ℕ)) (sizes : Sizes) 
         subst (λ k. g.atomic.open_call k ≡ Some (record { process = k; nth = slice_index g.image.applied k; inv = inv })) z
         (open_at j inv inside told.0 (argument_is j inv at) (local j) (local j).stage (sound.each j inside).call)
 
-module _ {O : Type 0} (meaning : O → Meaning) (o : O) (sizes : Sizes) (id : ℕ) (few : sizes.processes ≤ 64) (st : Step ℕ) (me : Me ℕ (View O)) (single : me.0.known.count ≡ 1)
+module _ {O : Type 0} (meaning : O → Meaning) (o : O) (sizes : Sizes) (id : ℕ) (few : sizes.processes ≤ 64) (st : Step Seen) (me : Me Seen (View O)) (single : me.0.known.count ≡ 1)
     (steady : IsSteady (meaning o).object (meaning o).reply) where
   abbrev object : Sequential (List ℕ) (List ℕ) (List ℕ)
   object = (meaning o).object

@@ -1,5 +1,5 @@
 -- A word step of a seat of one process keeps the rule: what has to be shown of the board.
-use Rattle.uni_small.proofs.Vocabulary.{Act, AreWidths, AreWords, Board, IsAt, IsBoard, IsShown, IsSound, List, Local, Me, Meaning, Moves, Sequential, Sizes, Some, State, Tells, View, ap, append-nil, arith, at_set, get_elem?, inl, inr, nothing, set, set-get_or, set_at, set_at-cases, set_at_elsewhere, set_at_same, slice_index, slice_set, some, subst, sym, with_local, ℕ, ⊎_elim, ◌++◌, ◌<◌, ◌∙◌, ◌≡◌, ◌≢◌}
+use Rattle.uni_small.proofs.Vocabulary.{Act, AreWidths, AreWords, Board, IsAt, IsBoard, IsShown, IsSound, List, Local, Me, Meaning, Moves, Seen, Sequential, Sizes, Some, State, Tells, View, ap, append-nil, arith, at_set, get_elem?, inl, inr, nothing, set, set-get_or, set_at, set_at-cases, set_at_elsewhere, set_at_same, slice_index, slice_set, some, subst, sym, with_local, ℕ, ⊎_elim, ◌++◌, ◌<◌, ◌∙◌, ◌≡◌, ◌≢◌}
 
 -- one process gets another local, and the others stay where they are
 pub sound_with : (object : Sequential (List ℕ) (List ℕ) (List ℕ)) (sizes : Sizes) (g g' : Board) (local : ℕ → Local) (p : ℕ) (l' : Local) → IsSound object sizes g local
@@ -19,7 +19,7 @@ pub sound_same : (object : Sequential (List ℕ) (List ℕ) (List ℕ)) (sizes :
 sound_same object sizes g local p l' sound mine = sound_with object sizes g g local p l' sound sound.board (λ q inside apart h. h) mine
 
 -- what is found of the seat and of the board when a step is taken
-pub record Found {O : Type 0} (meaning : O → Meaning) (o : O) (sizes : Sizes) (me : Me ℕ (View O)) (g : Board) (local : ℕ → Local) (words : List ℕ) : Type 0 where
+pub record Found {O : Type 0} (meaning : O → Meaning) (o : O) (sizes : Sizes) (me : Me Seen (View O)) (g : Board) (local : ℕ → Local) (words : List ℕ) : Type 0 where
   pub object : me.0.object ≡ Some o
   pub widths : AreWidths (meaning o) sizes
   pub processes : me.0.known.sizes ≡ sizes
@@ -30,7 +30,7 @@ pub record Found {O : Type 0} (meaning : O → Meaning) (o : O) (sizes : Sizes) 
   pub mine : IsAt (meaning o).object sizes g me.0.known.first me.0.known.local
 
 -- what has to be given: the board afterwards, with these acts more, and what the process knows then
-pub record Given {O : Type 0} (meaning : O → Meaning) (o : O) (sizes : Sizes) (me : Me ℕ (View O)) (g : Board) (local : ℕ → Local) (words' : List ℕ) (acts : List (Act (List ℕ) (List ℕ))) (says : Me ℕ (View O) → Type 0) : Type 0 where
+pub record Given {O : Type 0} (meaning : O → Meaning) (o : O) (sizes : Sizes) (me : Me Seen (View O)) (g : Board) (local : ℕ → Local) (words' : List ℕ) (acts : List (Act (List ℕ) (List ℕ))) (says : Me Seen (View O) → Type 0) : Type 0 where
   pub board : Board
   pub local' : Local
   pub sound : IsSound (meaning o).object sizes board (set_at local me.0.known.first local')
@@ -38,12 +38,12 @@ pub record Given {O : Type 0} (meaning : O → Meaning) (o : O) (sizes : Sizes) 
   pub said : says (with_local me.0 local', me.1)
   pub appended : board.acts ≡ g.acts ++ acts
 
-module _ {O : Type 0} (meaning : O → Meaning) (o : O) (sizes : Sizes) (id : ℕ) (me : Me ℕ (View O)) (i : ℕ) (f : ℕ → ℕ) (acts : Board → ℕ → List (Act (List ℕ) (List ℕ))) (says : ℕ → Me ℕ (View O) → Type 0)
+module _ {O : Type 0} (meaning : O → Meaning) (o : O) (sizes : Sizes) (id : ℕ) (me : Me Seen (View O)) (i : ℕ) (f : ℕ → ℕ) (acts : Board → ℕ → List (Act (List ℕ) (List ℕ))) (says : ℕ → Me Seen (View O) → Type 0)
     (single : me.0.known.count ≡ 1) where
   abbrev p : ℕ
   p = me.0.known.first
 
-  module _ (s : State ℕ (View O)) (g : Board) (local : ℕ → Local) (seat_of : ℕ → ℕ) (is : IsShown sizes meaning o g local seat_of s) (at : get_elem? s.views id ≡ some me.0) where
+  module _ (s : State Seen (View O)) (g : Board) (local : ℕ → Local) (seat_of : ℕ → ℕ) (is : IsShown sizes meaning o g local seat_of s) (at : get_elem? s.views id ≡ some me.0) where
     told : Tells sizes o local seat_of id me.0
     told = is.seats id me.0 at
 
@@ -119,7 +119,7 @@ module _ {O : Type 0} (meaning : O → Meaning) (o : O) (sizes : Sizes) (id : �
       )
 
 -- a load leaves the words and the board as they are
-pub load_law : {O : Type 0} (meaning : O → Meaning) (o : O) (sizes : Sizes) (id : ℕ) (me : Me ℕ (View O)) (i : ℕ) (says : ℕ → Me ℕ (View O) → Type 0)
+pub load_law : {O : Type 0} (meaning : O → Meaning) (o : O) (sizes : Sizes) (id : ℕ) (me : Me Seen (View O)) (i : ℕ) (says : ℕ → Me Seen (View O) → Type 0)
     → me.0.known.count ≡ 1
     → ((g : Board) (local : ℕ → Local) (words : List ℕ) → Found meaning o sizes me g local words
     → (l' : Local) × IsAt (meaning o).object sizes g me.0.known.first l' × says (slice_index words i) (with_local me.0 l', me.1))

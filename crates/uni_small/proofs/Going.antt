@@ -1,42 +1,42 @@
 -- Seats that go on with a call.
-use Rattle.uni_small.proofs.Vocabulary.{AreBuffers, Buffers, Goes, GoesBy, Image, IsLeft, IsOf, List, Me, None, Option, Reading, Sequential, Sizes, Some, Stage, View, WritesWithin, [], ap, arith, begun, buffer_in, goes, inl, inr, length, local_of, looked, number_cases, refl, slice_index, slice_set, stage_of, subst, sym, went, with_local, with_seen, words_held, wrote, ℕ, ◌%◌, ◌++◌, ◌+◌, ◌/◌, ◌∙◌, ◌∷◌, ◌≡◌, ◌≢◌, ◌≤◌}
+use Rattle.uni_small.proofs.Vocabulary.{AreBuffers, Buffers, Goes, GoesBy, Image, IsLeft, IsOf, List, Me, None, Option, Reading, Seen, Sequential, Sizes, Some, Stage, View, WritesWithin, [], ap, arith, begun, buffer_in, goes, inl, inr, length, local_of, looked, number_cases, refl, slice_index, slice_set, stage_of, subst, sym, went, with_local, with_seen, words_held, wrote, ℕ, ◌%◌, ◌++◌, ◌+◌, ◌/◌, ◌∙◌, ◌∷◌, ◌≡◌, ◌≢◌, ◌≤◌}
 
 pub add_assoc : (x y z : ℕ) → x + y + z ≡ x + (y + z)
 add_assoc x y z = omega arith
 
-module _ {O : Type 0} (me : Me ℕ (View O)) where
+module _ {O : Type 0} (me : Me Seen (View O)) where
   pub goes_zero : (st : Stage) → stage_of me ≡ st → GoesBy me 0 st me
   goes_zero st e =
       let same : (local_of me).steps ≡ (local_of me).steps + 0 = omega arith in
       λ k. (with_local me.0 (record (local_of me) { stage = e k; steps = same k }), me.1)
 
-  module _ (me1 : Me ℕ (View O)) (a : ℕ) (st : Stage) (first : GoesBy me a st me1) where
+  module _ (me1 : Me Seen (View O)) (a : ℕ) (st : Stage) (first : GoesBy me a st me1) where
     pub stage_after : stage_of me1 ≡ st
-    stage_after = ap (λ (m : Me ℕ (View O)). stage_of m) first
+    stage_after = ap (λ (m : Me Seen (View O)). stage_of m) first
 
     pub own_after : (local_of me1).own ≡ (local_of me).own
-    own_after = ap (λ (m : Me ℕ (View O)). (local_of m).own) first
+    own_after = ap (λ (m : Me Seen (View O)). (local_of m).own) first
 
     pub spare_after : (local_of me1).spare ≡ (local_of me).spare
-    spare_after = ap (λ (m : Me ℕ (View O)). (local_of m).spare) first
+    spare_after = ap (λ (m : Me Seen (View O)). (local_of m).spare) first
 
     pub held_after : (local_of me1).held ≡ (local_of me).held
-    held_after = ap (λ (m : Me ℕ (View O)). (local_of m).held) first
+    held_after = ap (λ (m : Me Seen (View O)). (local_of m).held) first
 
     pub of_after : {o : O} {sizes : Sizes} {p : ℕ} → IsOf o sizes p me → IsOf o sizes p me1
-    of_after {o} {sizes} {p} of = subst (λ (m : Me ℕ (View O)). IsOf o sizes p m) (sym first) (record { object = of.object; sizes = of.sizes; first = of.first; alone = of.alone })
+    of_after {o} {sizes} {p} of = subst (λ (m : Me Seen (View O)). IsOf o sizes p m) (sym first) (record { object = of.object; sizes = of.sizes; first = of.first; alone = of.alone })
 
-    pub goes_on : (me2 : Me ℕ (View O)) (st2 : Stage) → Goes me1 st2 me2 → GoesBy me (a + 1) st2 me2
+    pub goes_on : (me2 : Me Seen (View O)) (st2 : Stage) → Goes me1 st2 me2 → GoesBy me (a + 1) st2 me2
     goes_on me2 st2 next =
         let here : (with_local me1.0 (goes (local_of me1) st2), me1.1) ≡ (with_local me.0 (goes (went (local_of me) a st) st2), me.1)
-        = ap (λ (m : Me ℕ (View O)). (with_local m.0 (goes (local_of m) st2), m.1)) first in
+        = ap (λ (m : Me Seen (View O)). (with_local m.0 (goes (local_of m) st2), m.1)) first in
         let count : (local_of me).steps + a + 1 ≡ (local_of me).steps + (a + 1) = add_assoc (local_of me).steps a 1 in
         next ∙ here ∙ (λ k. (with_local me.0 (record (local_of me) { stage = st2; steps = count k }), me.1))
 
-    pub goes_more : (me2 : Me ℕ (View O)) (b : ℕ) (st2 : Stage) → GoesBy me1 b st2 me2 → GoesBy me (a + b) st2 me2
+    pub goes_more : (me2 : Me Seen (View O)) (b : ℕ) (st2 : Stage) → GoesBy me1 b st2 me2 → GoesBy me (a + b) st2 me2
     goes_more me2 b st2 next =
         let here : (with_local me1.0 (went (local_of me1) b st2), me1.1) ≡ (with_local me.0 (went (went (local_of me) a st) b st2), me.1)
-        = ap (λ (m : Me ℕ (View O)). (with_local m.0 (went (local_of m) b st2), m.1)) first in
+        = ap (λ (m : Me Seen (View O)). (with_local m.0 (went (local_of m) b st2), m.1)) first in
         let count : (local_of me).steps + a + b ≡ (local_of me).steps + (a + b) = add_assoc (local_of me).steps a b in
         next ∙ here ∙ (λ k. (with_local me.0 (record (local_of me) { stage = st2; steps = count k }), me.1))
 
@@ -56,7 +56,7 @@ pub with_seen-cons : (object : Sequential (List ℕ) (List ℕ) (List ℕ)) (ima
 with_seen-cons object image r None seen = refl
 with_seen-cons object image r (Some inv) seen = refl
 
-module _ {O : Type 0} (me me1 me2 : Me ℕ (View O)) (a tries s : ℕ) where
+module _ {O : Type 0} (me me1 me2 : Me Seen (View O)) (a tries s : ℕ) where
   -- one more row is copied
   pub copied_more : (copy row : List ℕ) → GoesBy me a (Reading tries s copy []) me1
       → ((copy : List ℕ) → stage_of me1 ≡ Reading tries s copy [] → GoesBy me1 (length row) (Reading tries s (copy ++ row) []) me2)
@@ -64,35 +64,35 @@ module _ {O : Type 0} (me me1 me2 : Me ℕ (View O)) (a tries s : ℕ) where
   copied_more copy row first next = goes_more me me1 a (Reading tries s copy []) first me2 (length row) (Reading tries s (copy ++ row) []) (next copy (stage_after me me1 a (Reading tries s copy []) first))
 
 -- a seat that has stored nothing, and one that knows its buffers' words by another name
-pub writes_nothing : {O : Type 0} (me : Me ℕ (View O)) (held : List ℕ) → (local_of me).held ≡ held → WritesWithin me 0 held me
+pub writes_nothing : {O : Type 0} (me : Me Seen (View O)) (held : List ℕ) → (local_of me).held ≡ held → WritesWithin me 0 held me
 writes_nothing me held is =
     let same : (local_of me).steps ≡ (local_of me).steps + 0 = omega arith in
     (0, (let z : 0 ≤ 0 = omega arith in z), λ k. (with_local me.0 (record (local_of me) { held = is k; steps = same k }), me.1))
 
 -- a seat that has stored words of its spare buffer
-module _ {O : Type 0} (me me1 : Me ℕ (View O)) (most : ℕ) (held : List ℕ) (first : WritesWithin me most held me1) where
+module _ {O : Type 0} (me me1 : Me Seen (View O)) (most : ℕ) (held : List ℕ) (first : WritesWithin me most held me1) where
   pub writes_stage : stage_of me1 ≡ stage_of me
-  writes_stage = ap (λ (m : Me ℕ (View O)). stage_of m) first.2
+  writes_stage = ap (λ (m : Me Seen (View O)). stage_of m) first.2
 
   pub writes_of : {o : O} {sizes : Sizes} {p : ℕ} → IsOf o sizes p me → IsOf o sizes p me1
-  writes_of {o} {sizes} {p} of = subst (λ (m : Me ℕ (View O)). IsOf o sizes p m) (sym first.2) (record { object = of.object; sizes = of.sizes; first = of.first; alone = of.alone })
+  writes_of {o} {sizes} {p} of = subst (λ (m : Me Seen (View O)). IsOf o sizes p m) (sym first.2) (record { object = of.object; sizes = of.sizes; first = of.first; alone = of.alone })
 
   -- its buffers are as known, where it knew them
   pub writes_buffers : (sizes : Sizes) (own own1 : Buffers) → AreBuffers sizes (local_of me) own → own1.spare ≡ own.spare → own1.held.items ≡ held → length held ≡ length own.held.items → AreBuffers sizes (local_of me1) own1
   writes_buffers sizes own own1 are same is long = record {
-    spare = ap (λ (m : Me ℕ (View O)). (local_of m).spare) first.2 ∙ are.spare ∙ sym same;
+    spare = ap (λ (m : Me Seen (View O)). (local_of m).spare) first.2 ∙ are.spare ∙ sym same;
     which = (let w = are.which in omega arith);
-    held = ap (λ (m : Me ℕ (View O)). (local_of m).held) first.2 ∙ sym is;
+    held = ap (λ (m : Me Seen (View O)). (local_of m).held) first.2 ∙ sym is;
     long = ap (λ (l : List ℕ). length l) is ∙ long ∙ are.long;
   }
 
   -- and stores one more, or none
-  pub writes_one : (me2 : Me ℕ (View O)) (place x : ℕ) → IsLeft me1 (wrote (local_of me1) place x) me2 → WritesWithin me (most + 1) (slice_set held place x) me2
+  pub writes_one : (me2 : Me Seen (View O)) (place x : ℕ) → IsLeft me1 (wrote (local_of me1) place x) me2 → WritesWithin me (most + 1) (slice_set held place x) me2
   writes_one me2 place x next =
       let count : (local_of me).steps + first.0 + 1 ≡ (local_of me).steps + (first.0 + 1) = add_assoc (local_of me).steps first.0 1 in (
         first.0 + 1,
         (let a = first.1 in omega arith),
-        next ∙ ap (λ (m : Me ℕ (View O)). (with_local m.0 (wrote (local_of m) place x), m.1)) first.2
+        next ∙ ap (λ (m : Me Seen (View O)). (with_local m.0 (wrote (local_of m) place x), m.1)) first.2
             ∙ (λ k. (with_local me.0 (record (local_of me) { held = slice_set held place x; steps = count k }), me.1)),
       )
 
@@ -100,11 +100,11 @@ module _ {O : Type 0} (me me1 : Me ℕ (View O)) (most : ℕ) (held : List ℕ) 
   writes_none = (first.0, (let a = first.1 in omega arith), first.2)
 
   -- and stores more
-  pub writes_more : (me2 : Me ℕ (View O)) (more : ℕ) (held2 : List ℕ) → WritesWithin me1 more held2 me2 → WritesWithin me (most + more) held2 me2
+  pub writes_more : (me2 : Me Seen (View O)) (more : ℕ) (held2 : List ℕ) → WritesWithin me1 more held2 me2 → WritesWithin me (most + more) held2 me2
   writes_more me2 more held2 next =
       let count : (local_of me).steps + first.0 + next.0 ≡ (local_of me).steps + (first.0 + next.0) = add_assoc (local_of me).steps first.0 next.0 in (
         first.0 + next.0,
         (let a = first.1 in let b = next.1 in omega arith),
-        next.2 ∙ ap (λ (m : Me ℕ (View O)). (with_local m.0 (record (local_of m) { held = held2; steps = (local_of m).steps + next.0 }), m.1)) first.2
+        next.2 ∙ ap (λ (m : Me Seen (View O)). (with_local m.0 (record (local_of m) { held = held2; steps = (local_of m).steps + next.0 }), m.1)) first.2
             ∙ (λ k. (with_local me.0 (record (local_of me) { held = held2; steps = count k }), me.1)),
       )

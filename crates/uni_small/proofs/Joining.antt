@@ -1,5 +1,5 @@
 -- A seat takes in another one, of one process with no call pending.
-use Rattle.uni_small.proofs.Vocabulary.{Board, Contains, Contains-append_cases, Idle, IsShown, IsTaken, Joins, Local, Meaning, ProcessReturned, ShowsBoard, Sizes, Tells, View, [], ap, arith, at_set, get_elem?, if◌then◌else◌, inl, inr, nat_eq, nobody, number_cases, own_in_view, refl, set, set_else, some, subst, suc, sym, took_in, zero, ℕ, ◌∙◌, ◌∷◌, ◌≡◌, ◌≢◌, ◌≤◌}
+use Rattle.uni_small.proofs.Vocabulary.{Board, Contains, Contains-append_cases, Idle, IsShown, IsTaken, Joins, Local, Meaning, ProcessReturned, Seen, ShowsBoard, Sizes, Tells, View, [], ap, arith, at_set, get_elem?, if◌then◌else◌, inl, inr, nat_eq, nobody, number_cases, own_in_view, refl, set, set_else, some, subst, suc, sym, took_in, zero, ℕ, ◌∙◌, ◌∷◌, ◌≡◌, ◌≢◌, ◌≤◌}
 
 -- the seats of processes after it
 moved : (seat_of : ℕ → ℕ) → (id other : ℕ) → ℕ → ℕ
@@ -14,7 +14,7 @@ unfolding moved
 moved_not seat_of id other q e = elim (number_cases (seat_of q) other) [ inl h ↦ absurd (e h.0) | inr h ↦ rw h.1 refl ]
 
 pub joins : {O : Type 0} (meaning : O → Meaning) (o : O) (sizes : Sizes) (id : ℕ) (v : View O) (other : ℕ) (x : View O) → 1 ≤ v.known.count → x.known.count ≡ 1 → x.known.local.stage ≡ Idle []
-    → Joins {S = ℕ} (ShowsBoard meaning o sizes) id v other x (took_in v x) nobody
+    → Joins {S = Seen} (ShowsBoard meaning o sizes) id v other x (took_in v x) nobody
 joins {O} meaning o sizes id v other x some_left single idle s holds at apart there =
     let g = holds.0 in
     let local = holds.1.0 in

@@ -1,5 +1,5 @@
 -- The word steps that load, but the last one of a call.
-use Rattle.uni_small.proofs.Vocabulary.{AreHeld, AreIn, AreWhole, Board, Bool, HasAsked, HasChecked, HasCopied, HasFollowed, HasLooked, HasStarted, HasTurned, Idle, IfFresh, Image, Invoked, IsAsking, IsAt, IsAttemptAt, IsBeginning, IsBoard, IsCallAt, IsClosed, IsCopying, IsGood, IsLooking, IsNamed, IsOpen, IsShown, IsSound, IsSteady, Last, List, Local, MayBeWritten, Me, Meaning, Moves, None, Option, Reading, Ready, Returned, Sequential, Sizes, Some, Stage, State, Step, View, Writing, [], announce_word, ap, argument_word, arith, begun, buffer_in, buffer_word, buffer_words, checked, cond, current_word, drop, false, get_or-drop, get_or-take, goes, if◌then◌else◌, in_of, inl, inr, knows, length, length-append, length-drop, length-take-le, looked, lt_cases, map, most_calls, nothing, number_cases, read_image, refl, reply_of, same_from_push, slice_get, slice_get-append_left, slice_get_within, slice_index, spell, stage_of, subst, suc, sum, sym, true, version_in, with_local, with_seen, words_held, zero, ℕ, ◌%◌, ◌*◌, ◌++◌, ◌+◌, ◌-◌, ◌/◌, ◌<◌, ◌==◌, ◌∙◌, ◌∷◌, ◌≡◌, ◌≢◌, ◌≤◌}
+use Rattle.uni_small.proofs.Vocabulary.{AreHeld, AreIn, AreWhole, Board, Bool, HasAsked, HasChecked, HasCopied, HasFollowed, HasLooked, HasStarted, HasTurned, Idle, IfFresh, Image, Invoked, IsAsking, IsAt, IsAttemptAt, IsBeginning, IsBoard, IsCallAt, IsClosed, IsCopying, IsGood, IsLooking, IsNamed, IsOpen, IsShown, IsSound, IsSteady, Last, List, Local, MayBeWritten, Me, Meaning, Moves, None, Option, Reading, Ready, Returned, Seen, Sequential, Sizes, Some, Stage, State, Step, View, Writing, [], announce_word, ap, argument_word, arith, begun, buffer_in, buffer_word, buffer_words, checked, cond, current_word, drop, false, get_or-drop, get_or-take, goes, if◌then◌else◌, in_of, inl, inr, knows, length, length-append, length-drop, length-take-le, looked, lt_cases, map, most_calls, nothing, number_cases, read_image, refl, reply_of, same_from_push, slice_get, slice_get-append_left, slice_get_within, slice_index, spell, stage_of, subst, suc, sum, sym, true, version_in, with_local, with_seen, words_held, zero, ℕ, ◌%◌, ◌*◌, ◌++◌, ◌+◌, ◌-◌, ◌/◌, ◌<◌, ◌==◌, ◌∙◌, ◌∷◌, ◌≡◌, ◌≢◌, ◌≤◌}
 use Rattle.uni_small.specs.Invariant.{IsCopied}
 use Rattle.std.proofs.lemmas.Bool.Decides.{nat_tests}
 use Rattle.uni_small.proofs.Frame.{Found, load_law}
@@ -68,7 +68,7 @@ all_in object sizes g p s few board is =
       λ c place at own below. (let w = slice_get_within g.atomic.agreed place c at in let all = board.counted (version_in s) (omega arith) in omega arith),
     )
 
-module _ {O : Type 0} (meaning : O → Meaning) (o : O) (sizes : Sizes) (id : ℕ) (few : sizes.processes ≤ 64) (st : Step ℕ) (me : Me ℕ (View O)) (single : me.0.known.count ≡ 1) where
+module _ {O : Type 0} (meaning : O → Meaning) (o : O) (sizes : Sizes) (id : ℕ) (few : sizes.processes ≤ 64) (st : Step Seen) (me : Me Seen (View O)) (single : me.0.known.count ≡ 1) where
   abbrev object : Sequential (List ℕ) (List ℕ) (List ℕ)
   object = (meaning o).object
 
@@ -443,7 +443,7 @@ module _ {O : Type 0} (meaning : O → Meaning) (o : O) (sizes : Sizes) (id : �
       ))
 
 -- the version of a call that has returned has come
-pub returned_come : {O : Type 0} (meaning : O → Meaning) (o : O) (sizes : Sizes) (g : Board) (local : ℕ → Local) (seat_of : ℕ → ℕ) (s : State ℕ (View O)) → sizes.processes ≤ 64
+pub returned_come : {O : Type 0} (meaning : O → Meaning) (o : O) (sizes : Sizes) (g : Board) (local : ℕ → Local) (seat_of : ℕ → ℕ) (s : State Seen (View O)) → sizes.processes ≤ 64
     → IsShown sizes meaning o g local seat_of s → (p k : ℕ) (call : Returned) → p < sizes.processes → slice_get (local p).own k ≡ Some call → call.version ≤ version_in (slice_index s.words 0)
 returned_come meaning o sizes g local seat_of s few is p k call inside at =
     let known = (is.sound.each p inside).ordered.known k call at in

@@ -1,5 +1,5 @@
 -- The word steps that store.
-use Rattle.uni_small.proofs.Vocabulary.{AcceptsAll-append, Act, AreHeld, Atomic, Board, HasAnnounced, HasStored, HasWritten, Idle, Invoke, IsAttemptAt, IsBeginning, IsCallAt, IsClosed, IsOpen, IsStoring, IsWriting, List, Local, Me, Meaning, Moves, Sequential, Sizes, Some, Step, View, Writing, [], announce_word, announces, ap, append-nil, argument_word, arith, at_start, begins, buffer_word, buffer_words, due_at, get_or-set_other, get_or-set_same, goes, held_place, in_of, inl, inr, length, length-set, most_calls, nothing, number_cases, refl, reply_place, set_at, set_at-cases, set_at_elsewhere, set_at_same, slice_index, slice_set, spell, stage_of, subst, sym, with_local, with_seen, wrote, ℕ, ◌*◌, ◌++◌, ◌+◌, ◌<◌, ◌∙◌, ◌∷◌, ◌≡◌, ◌≢◌, ◌≤◌}
+use Rattle.uni_small.proofs.Vocabulary.{AcceptsAll-append, Act, AreHeld, Atomic, Board, HasAnnounced, HasStored, HasWritten, Idle, Invoke, IsAttemptAt, IsBeginning, IsCallAt, IsClosed, IsOpen, IsStoring, IsWriting, List, Local, Me, Meaning, Moves, Seen, Sequential, Sizes, Some, Step, View, Writing, [], announce_word, announces, ap, append-nil, argument_word, arith, at_start, begins, buffer_word, buffer_words, due_at, get_or-set_other, get_or-set_same, goes, held_place, in_of, inl, inr, length, length-set, most_calls, nothing, number_cases, refl, reply_place, set_at, set_at-cases, set_at_elsewhere, set_at_same, slice_index, slice_set, spell, stage_of, subst, sym, with_local, with_seen, wrote, ℕ, ◌*◌, ◌++◌, ◌+◌, ◌<◌, ◌∙◌, ◌∷◌, ◌≡◌, ◌≢◌, ◌≤◌}
 use Rattle.uni_small.proofs.Frame.{step_law, sound_with}
 use Rattle.uni_small.proofs.Images.{spell-reply}
 use Rattle.uni_small.proofs.Loads.{call_at, attempt_at}
@@ -32,7 +32,7 @@ held_set object sizes g g' p spare k x held either room other_buffer same_spot o
         ∙ sym (get_or-set_other held (held_place sizes spare k) (held_place sizes which i) x 0 (held_apart sizes which i spare k below room (inl other.0)))
   ]
 
-module _ {O : Type 0} (meaning : O → Meaning) (o : O) (sizes : Sizes) (id : ℕ) (st : Step ℕ) (me : Me ℕ (View O)) (single : me.0.known.count ≡ 1) where
+module _ {O : Type 0} (meaning : O → Meaning) (o : O) (sizes : Sizes) (id : ℕ) (st : Step Seen) (me : Me Seen (View O)) (single : me.0.known.count ≡ 1) where
   abbrev object : Sequential (List ℕ) (List ℕ) (List ℕ)
   object = (meaning o).object
 

@@ -9,15 +9,16 @@ use Rattle.uni_small.specs.Image.{Meaning, calls_seen, counter_sizes, sample_cou
 use Rattle.uni_small.specs.View.{Local}
 use Rattle.uni_small.specs.Board.{Board, opened}
 use Rattle.uni_small.specs.Shown.{IsShown}
+use Rattle.uni_small.specs.declared.seat.Seen.{Seen}
 use Rattle.uni_small.specs.declared.sizes.Sizes.{Sizes}
 use Rattle.uni_small.specs.declared.view.View.{View}
 
-module _ {O : Type 0} (meaning : O → Meaning) (o : O) (sizes : Sizes) (id : ℕ) (me : Me ℕ (View O)) where
+module _ {O : Type 0} (meaning : O → Meaning) (o : O) (sizes : Sizes) (id : ℕ) (me : Me Seen (View O)) where
   -- Where the table shows a board, and the word i becomes f of what it was by a step of the seat id, the table shows a board whose history
   -- has these acts more, and the seat is told this.
-  abbrev pub Moves : (i : ℕ) → (f : ℕ → ℕ) → (acts : Board → (found : ℕ) → List (Act (List ℕ) (List ℕ))) → (says : ℕ → Me ℕ (View O) → Type 0) → Type 0
+  abbrev pub Moves : (i : ℕ) → (f : ℕ → ℕ) → (acts : Board → (found : ℕ) → List (Act (List ℕ) (List ℕ))) → (says : ℕ → Me Seen (View O) → Type 0) → Type 0
   Moves i f acts says =
-      (s : State ℕ (View O)) (g : Board) (local : ℕ → Local) (seat_of : ℕ → ℕ) → IsShown sizes meaning o g local seat_of s
+      (s : State Seen (View O)) (g : Board) (local : ℕ → Local) (seat_of : ℕ → ℕ) → IsShown sizes meaning o g local seat_of s
       → get_elem? s.views id ≡ some me.0 → slice_index s.words i < 18446744073709551616
       → (v : View O) × ((g' : Board) × ((local' : ℕ → Local)
       × IsShown sizes meaning o g' local' seat_of (stepped s i (f (slice_index s.words i)) id me.1 v keeps)

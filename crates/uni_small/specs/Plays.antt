@@ -7,6 +7,7 @@ use Rattle.uni_small.specs.View.{Local, ProcessReturned, Stage, announces, at_re
 use Rattle.uni_small.specs.View.Stage.{Idle, Ready, Reading, Writing, Last}
 use Rattle.uni_small.specs.Board.{buffer_in, buffer_word, version_in}
 use Rattle.uni_small.specs.Invariant.{most_calls}
+use Rattle.uni_small.specs.declared.seat.Seen.{Seen}
 use Rattle.uni_small.specs.declared.sizes.Sizes.{Sizes}
 use Rattle.uni_small.specs.declared.view.View.{View}
 
@@ -36,21 +37,21 @@ nobody =
 abbrev pub with_local : {O : Type 0} → View O → Local → View O
 with_local v l = record v { known = record v.known { local = l } }
 
-abbrev pub IsLeft : {O : Type 0} → Me ℕ (View O) → Local → Me ℕ (View O) → Type 0
+abbrev pub IsLeft : {O : Type 0} → Me Seen (View O) → Local → Me Seen (View O) → Type 0
 IsLeft me l me' = me' ≡ (with_local me.0 l, me.1)
 
-abbrev pub stage_of : {O : Type 0} → Me ℕ (View O) → Stage
+abbrev pub stage_of : {O : Type 0} → Me Seen (View O) → Stage
 stage_of me = me.0.known.local.stage
 
 -- it goes to this stage
-abbrev pub Goes : {O : Type 0} → Me ℕ (View O) → Stage → Me ℕ (View O) → Type 0
+abbrev pub Goes : {O : Type 0} → Me Seen (View O) → Stage → Me Seen (View O) → Type 0
 Goes me stage me' = IsLeft me (goes me.0.known.local stage) me'
 
 -- one more word of the next invocation is stored
-abbrev pub HasStored : {O : Type 0} → Step ℕ → Me ℕ (View O) → (x : ℕ) → Me ℕ (View O) → Type 0
+abbrev pub HasStored : {O : Type 0} → Step Seen → Me Seen (View O) → (x : ℕ) → Me Seen (View O) → Type 0
 HasStored step me x me' = (stored : List ℕ) → stage_of me ≡ Idle stored → Goes me (Idle (stored ++ x ∷ [])) me'
 
-abbrev pub HasAnnounced : {O : Type 0} → Step ℕ → Me ℕ (View O) → ℕ → Me ℕ (View O) → Type 0
+abbrev pub HasAnnounced : {O : Type 0} → Step Seen → Me Seen (View O) → ℕ → Me Seen (View O) → Type 0
 HasAnnounced step me number me' = (inv : List ℕ) → stage_of me ≡ Idle inv → IsLeft me (announces me.0.known.local inv) me'
 
 -- a word S that was found names a buffer, and its version leaves room for more
@@ -66,12 +67,12 @@ words_held sizes held which = take (buffer_words sizes) (drop (which * buffer_wo
 abbrev pub begun : Sizes → (p : ℕ) → (held : List ℕ) → (s : ℕ) → List ℕ
 begun sizes p held s = if buffer_in s / 2 == p then words_held sizes held (buffer_in s % 2) else []
 
-abbrev pub HasStarted : {O : Type 0} → Step ℕ → Me ℕ (View O) → (s : ℕ) → Me ℕ (View O) → Type 0
+abbrev pub HasStarted : {O : Type 0} → Step Seen → Me Seen (View O) → (s : ℕ) → Me Seen (View O) → Type 0
 HasStarted step me s me' =
     let v = me.0.known in
     (tries : ℕ) → stage_of me ≡ Ready tries → Goes me (Reading tries s (begun v.sizes v.first v.local.held s) []) me' × IsNamed v.sizes s
 
-abbrev pub HasCopied : {O : Type 0} → Step ℕ → Me ℕ (View O) → (found : ℕ) → Me ℕ (View O) → Type 0
+abbrev pub HasCopied : {O : Type 0} → Step Seen → Me Seen (View O) → (found : ℕ) → Me Seen (View O) → Type 0
 HasCopied step me found me' =
     (tries s : ℕ) (copy : List ℕ) → stage_of me ≡ Reading tries s copy [] → Goes me (Reading tries s (copy ++ found ∷ []) []) me'
 
@@ -80,13 +81,13 @@ HasCopied step me found me' =
 abbrev pub looked : (copy : List ℕ) → (r found : ℕ) → Option (List ℕ)
 looked copy r found = if found == slice_index copy r then None else Some []
 
-abbrev pub HasLooked : {O : Type 0} → Step ℕ → Me ℕ (View O) → (found : ℕ) → Me ℕ (View O) → Type 0
+abbrev pub HasLooked : {O : Type 0} → Step Seen → Me Seen (View O) → (found : ℕ) → Me Seen (View O) → Type 0
 HasLooked step me found me' =
     (tries s : ℕ) (copy : List ℕ) (seen : List (Option (List ℕ))) → stage_of me ≡ Reading tries s copy seen
     → Goes me (Reading tries s copy (seen ++ looked copy (length seen) found ∷ [])) me'
 
 -- one more word of the invocation that was seen last is loaded
-abbrev pub HasAsked : {O : Type 0} → Step ℕ → Me ℕ (View O) → (found : ℕ) → Me ℕ (View O) → Type 0
+abbrev pub HasAsked : {O : Type 0} → Step Seen → Me Seen (View O) → (found : ℕ) → Me Seen (View O) → Type 0
 HasAsked step me found me' =
     (tries s : ℕ) (copy : List ℕ) (seen : List (Option (List ℕ))) (part : List ℕ)
     → stage_of me ≡ Reading tries s copy (seen ++ Some part ∷ [])
@@ -104,7 +105,7 @@ abbrev pub IsGood : Meaning → Sizes → Image → Type 0
 IsGood meaning sizes image =
     AreWidths meaning sizes × IsReached meaning.object image.state × ((r : ℕ) → r < sizes.processes → slice_index image.applied r ≤ most_calls)
 
-abbrev pub HasChecked : {O : Type 0} → Meaning → Step ℕ → Me ℕ (View O) → (found : ℕ) → Me ℕ (View O) → Type 0
+abbrev pub HasChecked : {O : Type 0} → Meaning → Step Seen → Me Seen (View O) → (found : ℕ) → Me Seen (View O) → Type 0
 HasChecked meaning step me found me' =
     (tries s : ℕ) (copy : List ℕ) (seen : List (Option (List ℕ))) → stage_of me ≡ Reading tries s copy seen
     → let v = me.0.known in
@@ -112,7 +113,7 @@ HasChecked meaning step me found me' =
     × (found ≡ s → IsGood meaning v.sizes (read_image v.sizes copy))
 
 -- a word of the spare buffer is x
-abbrev pub HasWritten : {O : Type 0} → Step ℕ → Me ℕ (View O) → (x : ℕ) → Me ℕ (View O) → Type 0
+abbrev pub HasWritten : {O : Type 0} → Step Seen → Me Seen (View O) → (x : ℕ) → Me Seen (View O) → Type 0
 HasWritten step me x me' =
     let v = me.0.known in
     (k : ℕ) → step.word ≡ buffer_word v.sizes (2 * v.first + v.local.spare) k → IsLeft me (wrote v.local (held_place v.sizes v.local.spare k) x) me'
@@ -121,28 +122,28 @@ HasWritten step me x me' =
 abbrev pub brought : Local → (tries s new found : ℕ) → Local
 brought l tries s new found = if found == s then brings l new else goes l (Ready (tries + 1))
 
-abbrev pub HasBrought : {O : Type 0} → Step ℕ → Me ℕ (View O) → (found : ℕ) → Me ℕ (View O) → Type 0
+abbrev pub HasBrought : {O : Type 0} → Step Seen → Me Seen (View O) → (found : ℕ) → Me Seen (View O) → Type 0
 HasBrought step me found me' =
     (tries s : ℕ) (image : Image) (seen : List (Option (List ℕ))) → stage_of me ≡ Writing tries s image seen
     → IsLeft me (brought me.0.known.local tries s step.second found) me'
 
-abbrev pub HasTurned : {O : Type 0} → Step ℕ → Me ℕ (View O) → (s : ℕ) → Me ℕ (View O) → Type 0
+abbrev pub HasTurned : {O : Type 0} → Step Seen → Me Seen (View O) → (s : ℕ) → Me Seen (View O) → Type 0
 HasTurned step me s me' =
     (tries : ℕ) → stage_of me ≡ Ready tries → 2 ≤ tries → Goes me (Last s []) me' × IsNamed me.0.known.sizes s
 
 -- one more word of the reply is loaded
-abbrev pub HasLoaded : {O : Type 0} → Step ℕ → Me ℕ (View O) → (found : ℕ) → Me ℕ (View O) → Type 0
+abbrev pub HasLoaded : {O : Type 0} → Step Seen → Me Seen (View O) → (found : ℕ) → Me Seen (View O) → Type 0
 HasLoaded step me found me' =
     (s : ℕ) (loaded : List ℕ) → stage_of me ≡ Last s loaded → Goes me (Last s (loaded ++ found ∷ [])) me'
 
 -- its last word is: the version that a call is in is greater than the one that it comes after
-abbrev pub HasReplied : {O : Type 0} → Step ℕ → Me ℕ (View O) → (found : ℕ) → Me ℕ (View O) → Type 0
+abbrev pub HasReplied : {O : Type 0} → Step Seen → Me Seen (View O) → (found : ℕ) → Me Seen (View O) → Type 0
 HasReplied step me found me' =
     (s : ℕ) (loaded : List ℕ) → stage_of me ≡ Last s loaded
     → let l = me.0.known.local in IsLeft me (returns l s (loaded ++ found ∷ [])) me' × (l.after < version_in s)
 
 -- the version that S names is no smaller than the one that the process knew of
-abbrev pub HasFollowed : {O : Type 0} → Step ℕ → Me ℕ (View O) → (s : ℕ) → Me ℕ (View O) → Type 0
+abbrev pub HasFollowed : {O : Type 0} → Step Seen → Me Seen (View O) → (s : ℕ) → Me Seen (View O) → Type 0
 HasFollowed step me s me' =
     stage_of me ≡ Idle [] → let l = me.0.known.local in IsLeft me (knows l (version_in s)) me' × (l.after ≤ version_in s)
 

@@ -7,19 +7,20 @@ use Rattle.uni_small.specs.View.{Local, Stage, returns}
 use Rattle.uni_small.specs.View.Stage.{Idle, Ready, Reading, Writing, Last}
 use Rattle.uni_small.specs.Board.{buffer_in}
 use Rattle.uni_small.specs.Plays.{IsLeft, stage_of}
+use Rattle.uni_small.specs.declared.seat.Seen.{Seen}
 use Rattle.uni_small.specs.declared.seat.Buffers.{Buffers}
 use Rattle.uni_small.specs.declared.sizes.Sizes.{Sizes}
 use Rattle.uni_small.specs.declared.view.View.{View}
 
 -- the seat is that of process p alone, of an object of these sizes
-pub record IsOf {O : Type 0} (o : O) (all : Sizes) (p : ℕ) (me : Me ℕ (View O)) : Type 0 where
+pub record IsOf {O : Type 0} (o : O) (all : Sizes) (p : ℕ) (me : Me Seen (View O)) : Type 0 where
   pub object : me.0.object ≡ Some o
   pub sizes : me.0.known.sizes ≡ all
   pub first : me.0.known.first ≡ p
   pub alone : me.0.known.count ≡ 1
 
 -- what its process knows
-abbrev pub local_of : {O : Type 0} → Me ℕ (View O) → Local
+abbrev pub local_of : {O : Type 0} → Me Seen (View O) → Local
 local_of me = me.0.known.local
 
 -- a process after so many word steps, at this stage
@@ -27,46 +28,46 @@ abbrev pub went : Local → (words : ℕ) → Stage → Local
 went l words stage = record l { stage = stage; steps = l.steps + words }
 
 -- a seat has taken so many word steps of a call, is at this stage, and has changed in nothing else
-abbrev pub GoesBy : {O : Type 0} → Me ℕ (View O) → (words : ℕ) → Stage → Me ℕ (View O) → Type 0
+abbrev pub GoesBy : {O : Type 0} → Me Seen (View O) → (words : ℕ) → Stage → Me Seen (View O) → Type 0
 GoesBy me words stage me' = IsLeft me (went (local_of me) words stage) me'
 
 -- it has taken at most so many
-abbrev pub GoesWithin : {O : Type 0} → Me ℕ (View O) → (most : ℕ) → Stage → Me ℕ (View O) → Type 0
+abbrev pub GoesWithin : {O : Type 0} → Me Seen (View O) → (most : ℕ) → Stage → Me Seen (View O) → Type 0
 GoesWithin me most stage me' = (words : ℕ) × (words ≤ most) × GoesBy me words stage me'
 
 -- no call is pending, and k words of the next invocation are stored
-abbrev pub IsStoring : {O : Type 0} → (k : ℕ) → Me ℕ (View O) → Type 0
+abbrev pub IsStoring : {O : Type 0} → (k : ℕ) → Me Seen (View O) → Type 0
 IsStoring k me = (stored : List ℕ) × (stage_of me ≡ Idle stored) × (length stored ≡ k)
 
 -- an attempt copies: it has so many words of the buffer
-abbrev pub IsCopying : {O : Type 0} → (tries s k : ℕ) → Me ℕ (View O) → Type 0
+abbrev pub IsCopying : {O : Type 0} → (tries s k : ℕ) → Me Seen (View O) → Type 0
 IsCopying tries s k me = (copy : List ℕ) × (stage_of me ≡ Reading tries s copy []) × (length copy ≡ k)
 
 -- it has copied all of them, and looked at so many processes, with all words of their invocations
-abbrev pub IsLooking : {O : Type 0} → Sizes → (tries s r : ℕ) → Me ℕ (View O) → Type 0
+abbrev pub IsLooking : {O : Type 0} → Sizes → (tries s r : ℕ) → Me Seen (View O) → Type 0
 IsLooking sizes tries s r me =
     (copy : List ℕ) × ((seen : List (Option (List ℕ))) × (stage_of me ≡ Reading tries s copy seen)
     × (length copy ≡ buffer_words sizes) × (length seen ≡ r) × AreWhole sizes seen)
 
 -- the call of process r isn't in, and k words of its invocation are loaded
-abbrev pub IsAsking : {O : Type 0} → (tries s r k : ℕ) → Me ℕ (View O) → Type 0
+abbrev pub IsAsking : {O : Type 0} → (tries s r k : ℕ) → Me Seen (View O) → Type 0
 IsAsking tries s r k me =
     (copy : List ℕ) × ((seen : List (Option (List ℕ))) × ((part : List ℕ)
     × (stage_of me ≡ Reading tries s copy (seen ++ Some part ∷ [])) × (length seen ≡ r) × (length part ≡ k)))
 
 -- it has copied all of them, and this is the first row of the copy
-abbrev pub HasCopy : {O : Type 0} → Sizes → (tries s : ℕ) → (applied : List ℕ) → Me ℕ (View O) → Type 0
+abbrev pub HasCopy : {O : Type 0} → Sizes → (tries s : ℕ) → (applied : List ℕ) → Me Seen (View O) → Type 0
 HasCopy sizes tries s applied me =
     (rest : List ℕ) × (stage_of me ≡ Reading tries s (applied ++ rest) []) × (length (applied ++ rest) ≡ buffer_words sizes)
 
 -- it writes its image, of which these are the words from word `from` on
-abbrev pub HasRow : {O : Type 0} → Sequential (List ℕ) (List ℕ) (List ℕ) → (from : ℕ) → (row : List ℕ) → Me ℕ (View O) → Type 0
+abbrev pub HasRow : {O : Type 0} → Sequential (List ℕ) (List ℕ) (List ℕ) → (from : ℕ) → (row : List ℕ) → Me Seen (View O) → Type 0
 HasRow object from row me =
     (tries : ℕ) × (s : ℕ) × (image : Image) × (seen : List (Option (List ℕ))) × (stage_of me ≡ Writing tries s image seen)
     × ((i : ℕ) → i < length row → slice_index row i ≡ slice_index (spell (with_seen object image 0 seen)) (from + i))
 
 -- it writes its image, of which word k is x
-abbrev pub IsWriting : {O : Type 0} → Sequential (List ℕ) (List ℕ) (List ℕ) → (k x : ℕ) → Me ℕ (View O) → Type 0
+abbrev pub IsWriting : {O : Type 0} → Sequential (List ℕ) (List ℕ) (List ℕ) → (k x : ℕ) → Me Seen (View O) → Type 0
 IsWriting object k x me =
     (tries : ℕ) × (s : ℕ) × (image : Image) × (seen : List (Option (List ℕ))) × (stage_of me ≡ Writing tries s image seen)
     × (x ≡ slice_index (spell (with_seen object image 0 seen)) k)
@@ -77,12 +78,12 @@ IsWritten object sizes l image seen =
     (i : ℕ) → i < buffer_words sizes → slice_index l.held (held_place sizes l.spare i) ≡ slice_index (spell (with_seen object image 0 seen)) i
 
 -- it has written all of its image
-abbrev pub HasWrittenAll : {O : Type 0} → Sequential (List ℕ) (List ℕ) (List ℕ) → Sizes → (tries s : ℕ) → Me ℕ (View O) → Type 0
+abbrev pub HasWrittenAll : {O : Type 0} → Sequential (List ℕ) (List ℕ) (List ℕ) → Sizes → (tries s : ℕ) → Me Seen (View O) → Type 0
 HasWrittenAll object sizes tries s me =
     (image : Image) × ((seen : List (Option (List ℕ))) × (stage_of me ≡ Writing tries s image seen) × IsWritten object sizes (local_of me) image seen)
 
 -- the call is in, and k words of its reply are loaded
-abbrev pub IsLoading : {O : Type 0} → (s k : ℕ) → Me ℕ (View O) → Type 0
+abbrev pub IsLoading : {O : Type 0} → (s k : ℕ) → Me Seen (View O) → Type 0
 IsLoading s k me = (loaded : List ℕ) × (stage_of me ≡ Last s loaded) × (length loaded ≡ k)
 
 -- how many word steps an attempt takes at most, and a call
@@ -98,7 +99,7 @@ sample_steps : call_steps (counter_sizes 2) ≡ 38
 sample_steps = refl
 
 -- a seat has stored at most so many words of its spare buffer, its buffers have these words then, and it has changed in nothing else
-abbrev pub WritesWithin : {O : Type 0} → Me ℕ (View O) → (most : ℕ) → (held : List ℕ) → Me ℕ (View O) → Type 0
+abbrev pub WritesWithin : {O : Type 0} → Me Seen (View O) → (most : ℕ) → (held : List ℕ) → Me Seen (View O) → Type 0
 WritesWithin me most held me' =
     (words : ℕ) × (words ≤ most) × IsLeft me (record (local_of me) { held = held; steps = (local_of me).steps + words }) me'
 
@@ -112,18 +113,18 @@ IsEnd sizes (Some s) = buffer_in s < 2 * sizes.processes
 IsEnd sizes None = Unit {0}
 
 -- after at most so many word steps an attempt has ended, and these are the process's buffers
-abbrev pub EndsWithin : {O : Type 0} → Sizes → (most tries : ℕ) → Me ℕ (View O) → (ended : Option ℕ) → Buffers → Me ℕ (View O) → Type 0
+abbrev pub EndsWithin : {O : Type 0} → Sizes → (most tries : ℕ) → Me Seen (View O) → (ended : Option ℕ) → Buffers → Me Seen (View O) → Type 0
 EndsWithin sizes most tries me ended own me' =
     (words : ℕ) × (words ≤ most) × IsEnd sizes ended
     × IsLeft me (record (local_of me) { stage = end_of tries ended; spare = own.spare; held = own.held.items; steps = (local_of me).steps + words }) me'
 
 -- a reply of so many words is loaded from the buffer that s names, and its call has returned
-abbrev pub ReplyEnds : {O : Type 0} → Me ℕ (View O) → (s : ℕ) → (reply : List ℕ) → (words : ℕ) → Me ℕ (View O) → Type 0
+abbrev pub ReplyEnds : {O : Type 0} → Me Seen (View O) → (s : ℕ) → (reply : List ℕ) → (words : ℕ) → Me Seen (View O) → Type 0
 ReplyEnds me s reply words me' =
     IsLeft me (record (returns (local_of me) s reply) { steps = (local_of me).steps + words }) me'
 
 -- a call has returned with this reply, and is in this version, which is greater than the one that it comes after
-abbrev pub CallEnds : {O : Type 0} → Sizes → Me ℕ (View O) → (inv reply : List ℕ) → (version : ℕ) → Buffers → Me ℕ (View O) → Type 0
+abbrev pub CallEnds : {O : Type 0} → Sizes → Me Seen (View O) → (inv reply : List ℕ) → (version : ℕ) → Buffers → Me Seen (View O) → Type 0
 CallEnds sizes me inv reply version own me' =
     let l = local_of me in
     (words : ℕ) × (words ≤ call_steps sizes) × (l.after < version)

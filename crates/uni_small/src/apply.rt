@@ -13,7 +13,7 @@ ghost use Rattle.uni_small.specs.Belongs.{word_steps_of};
 
 use crate::log::SmallShared;
 use crate::object::SmallObject;
-use crate::seat::{Buffers, Room, SmallSeat};
+use crate::seat::{Buffers, Room, Seen, SmallSeat};
 use crate::view::View;
 use atomic_table::Seat;
 
@@ -26,7 +26,7 @@ pub struct CallsSpent;
 
 impl<O: SmallObject> SmallShared<O> {
     /// Stores the invocation of the next call.
-    fn store_argument(&self, seat: &mut Seat<u8, View<O>>, p: u64, invocation: &[u64])
+    fn store_argument(&self, seat: &mut Seat<Seen, View<O>>, p: u64, invocation: &[u64])
         requires table { seat.old.table_id ≡ self.now.table.shared.table_id }
         requires inside { (p < self.now.setup.sizes.processes)
             × (length invocation.now ≡ self.now.setup.sizes.invocation) }
@@ -41,7 +41,7 @@ impl<O: SmallObject> SmallShared<O> {
     }
 
     /// Loads the reply: the call returns, and is in the version that s names.
-    fn load_reply(&self, seat: &mut Seat<u8, View<O>>, p: u64, s: u64, reply: &mut [u64]) -> u64
+    fn load_reply(&self, seat: &mut Seat<Seen, View<O>>, p: u64, s: u64, reply: &mut [u64]) -> u64
         requires table { seat.old.table_id ≡ self.now.table.shared.table_id }
         requires inside { (p < self.now.setup.sizes.processes) × (length reply.old ≡ self.now.setup.sizes.reply) }
         requires of { IsOf self.now.setup.object self.now.setup.sizes p seat.old.me }
@@ -63,7 +63,7 @@ impl<O: SmallObject> SmallShared<O> {
     /// The call of this number, from its start to its reply: a version in which it is.
     fn call(
         &self,
-        seat: &mut Seat<u8, View<O>>,
+        seat: &mut Seat<Seen, View<O>>,
         p: u64,
         number: u64,
         own: &mut Buffers,

@@ -21,7 +21,7 @@ impl<O: SmallObject> SmallShared<O> {
     /// Copies a row of the buffer that the attempt copies, from its word `from` on.
     fn copy_row(
         &self,
-        seat: &mut Seat<u8, View<O>>,
+        seat: &mut Seat<Seen, View<O>>,
         p: u64,
         tries: u64,
         s: u64,
@@ -46,7 +46,7 @@ impl<O: SmallObject> SmallShared<O> {
     /// Loads the invocation of process r, whose call isn't in.
     fn ask_all(
         &self,
-        seat: &mut Seat<u8, View<O>>,
+        seat: &mut Seat<Seen, View<O>>,
         p: u64,
         tries: u64,
         s: u64,
@@ -73,7 +73,7 @@ impl<O: SmallObject> SmallShared<O> {
     /// its invocation.
     fn see(
         &self,
-        seat: &mut Seat<u8, View<O>>,
+        seat: &mut Seat<Seen, View<O>>,
         p: u64,
         tries: u64,
         s: u64,
@@ -105,7 +105,7 @@ impl<O: SmallObject> SmallShared<O> {
     /// Looks at all processes: a call that isn't in the copy is seen.
     fn scan(
         &self,
-        seat: &mut Seat<u8, View<O>>,
+        seat: &mut Seat<Seen, View<O>>,
         p: u64,
         tries: u64,
         s: u64,
@@ -189,7 +189,7 @@ impl<O: SmallObject> SmallShared<O> {
     /// Writes a row of the spare buffer, from its word `from` on: it stores the words that differ.
     fn write_row(
         &self,
-        seat: &mut Seat<u8, View<O>>,
+        seat: &mut Seat<Seen, View<O>>,
         p: u64,
         own: &mut Buffers,
         from: u64,
@@ -219,7 +219,7 @@ impl<O: SmallObject> SmallShared<O> {
     }
 
     /// Loads all words of the buffer that s names.
-    fn load_copy(&self, seat: &mut Seat<u8, View<O>>, p: u64, tries: u64, s: u64, room: &mut Room)
+    fn load_copy(&self, seat: &mut Seat<Seen, View<O>>, p: u64, tries: u64, s: u64, room: &mut Room)
         requires table { seat.old.table_id ≡ self.now.table.shared.table_id }
         requires inside { p < self.now.setup.sizes.processes }
         requires of { IsOf self.now.setup.object self.now.setup.sizes p seat.old.me }
@@ -262,7 +262,7 @@ impl<O: SmallObject> SmallShared<O> {
     /// Copies the buffer that s names: where it is one of the process's own, no word of it is loaded.
     fn copy(
         &self,
-        seat: &mut Seat<u8, View<O>>,
+        seat: &mut Seat<Seen, View<O>>,
         p: u64,
         tries: u64,
         s: u64,
@@ -293,7 +293,7 @@ impl<O: SmallObject> SmallShared<O> {
     /// Begins an attempt: loads S, copies the buffer that it names, and looks at all processes.
     fn gather(
         &self,
-        seat: &mut Seat<u8, View<O>>,
+        seat: &mut Seat<Seen, View<O>>,
         p: u64,
         tries: u64,
         own: &Buffers,
@@ -320,7 +320,7 @@ impl<O: SmallObject> SmallShared<O> {
     }
 
     /// Writes an image to the spare buffer.
-    fn write(&self, seat: &mut Seat<u8, View<O>>, p: u64, own: &mut Buffers, room: &Room)
+    fn write(&self, seat: &mut Seat<Seen, View<O>>, p: u64, own: &mut Buffers, room: &Room)
         requires table { seat.old.table_id ≡ self.now.table.shared.table_id }
         requires inside { p < self.now.setup.sizes.processes }
         requires of { IsOf self.now.setup.object self.now.setup.sizes p seat.old.me }
@@ -348,7 +348,7 @@ impl<O: SmallObject> SmallShared<O> {
     /// buffer and brings that in. The answer is the word that names it, or `None` where S has changed.
     fn bring(
         &self,
-        seat: &mut Seat<u8, View<O>>,
+        seat: &mut Seat<Seen, View<O>>,
         p: u64,
         tries: u64,
         s: u64,
@@ -391,7 +391,7 @@ impl<O: SmallObject> SmallShared<O> {
     /// `None` where the attempt has failed.
     pub(crate) fn attempt(
         &self,
-        seat: &mut Seat<u8, View<O>>,
+        seat: &mut Seat<Seen, View<O>>,
         p: u64,
         number: u64,
         tries: u64,

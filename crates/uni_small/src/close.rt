@@ -11,12 +11,13 @@ use crate::log::SmallShared;
 use crate::object::SmallObject;
 use crate::rule::{Setup, TakesIn};
 use crate::seat::SmallSeat;
+use crate::seat::Seen;
 use crate::sizes::Sizes;
 use atomic_table::Closed;
 use std::alloc::Global;
 
 /// Writes the state that is in a closed table of an object of these sizes.
-fn write_state(closed: Closed<u8, Global>, sizes: &Sizes, state: &mut [u64])
+fn write_state(closed: Closed<Seen, Global>, sizes: &Sizes, state: &mut [u64])
     requires full { IsFull closed.words × (slots_len closed.words ≡ words_of sizes.now) }
     requires slotless { slots_len closed.slots ≡ 0 }
     requires few { AreFew sizes.now }

@@ -16,6 +16,7 @@ ghost use Rattle.uni_small.specs.Plays.{HasTurned, HasWritten, stage_of};
 ghost use Rattle.uni_small.specs.Shown.{IsShown};
 ghost use Rattle.uni_small.specs.Standing.{IsAsking, IsCopying, IsLoading, IsLooking, IsStoring, IsWriting, IsWritten};
 ghost use Rattle.uni_small.specs.Standing.{local_of};
+ghost use Rattle.uni_small.specs.declared.seat.Seen.{Seen};
 ghost use Rattle.uni_small.specs.declared.sizes.Sizes.{Sizes};
 ghost use Rattle.uni_small.specs.declared.view.View.{View};
 
@@ -23,7 +24,7 @@ use crate::object::SmallObject;
 
 /// The store of an announcement begins a call: the history has its invocation more.
 pub fn announcement_invokes<O: SmallObject>()
-    ensures { (o : O) (sizes : Sizes) (id number : ℕ) (inv : List ℕ) (st : Step ℕ) (me : Me ℕ (View O)) →
+    ensures { (o : O) (sizes : Sizes) (id number : ℕ) (inv : List ℕ) (st : Step Seen) (me : Me Seen (View O)) →
         let p = me.0.known.first in
         me.0.known.count ≡ 1 → number ≡ length (local_of me).own + 1 → number ≤ most_calls
         → stage_of me ≡ Idle inv → length inv ≡ sizes.invocation
@@ -35,7 +36,7 @@ pub fn announcement_invokes<O: SmallObject>()
 /// order of their processes. Another exchange appends nothing.
 pub fn exchange_linearizes<O: SmallObject>()
     ensures { (o : O) (sizes : Sizes) (id tries s : ℕ) (image : Image) (seen : List (Option (List ℕ)))
-        (st : Step ℕ) (me : Me ℕ (View O)) →
+        (st : Step Seen) (me : Me Seen (View O)) →
         sizes.processes ≤ 64 → me.0.known.count ≡ 1 → stage_of me ≡ Writing tries s image seen
         → IsWritten (O.meaning o).object sizes (local_of me) image seen
         → st.second ≡ current_word (version_in s + 1) (2 * me.0.known.first + (local_of me).spare)
@@ -45,7 +46,7 @@ pub fn exchange_linearizes<O: SmallObject>()
 
 /// The load of the last word of the reply ends a call: the history has its response more.
 pub fn reply_responds<O: SmallObject>()
-    ensures { (o : O) (sizes : Sizes) (id s : ℕ) (loaded : List ℕ) (st : Step ℕ) (me : Me ℕ (View O)) →
+    ensures { (o : O) (sizes : Sizes) (id s : ℕ) (loaded : List ℕ) (st : Step Seen) (me : Me Seen (View O)) →
         let p = me.0.known.first in
         me.0.known.count ≡ 1 → stage_of me ≡ Last s loaded → length loaded + 1 ≡ sizes.reply
         → buffer_in s < 2 * sizes.processes
@@ -55,11 +56,11 @@ pub fn reply_responds<O: SmallObject>()
 
 /// The other stores append nothing.
 pub fn stores_append_nothing<O: SmallObject>()
-    ensures argument { (o : O) (sizes : Sizes) (id k x : ℕ) (st : Step ℕ) (me : Me ℕ (View O)) →
+    ensures argument { (o : O) (sizes : Sizes) (id k x : ℕ) (st : Step Seen) (me : Me Seen (View O)) →
         me.0.known.count ≡ 1 → IsStoring k me → k < sizes.invocation
         → Moves O.meaning o sizes id me (argument_word sizes me.0.known.first k) (λ y. x)
         nothing (λ found me'. HasStored st me x me') }
-    ensures buffer { (o : O) (sizes : Sizes) (id k x : ℕ) (st : Step ℕ) (me : Me ℕ (View O)) →
+    ensures buffer { (o : O) (sizes : Sizes) (id k x : ℕ) (st : Step Seen) (me : Me Seen (View O)) →
         me.0.known.count ≡ 1 → IsWriting (O.meaning o).object k x me → k < buffer_words sizes
         → st.word ≡ buffer_word sizes (2 * me.0.known.first + (local_of me).spare) k
         → Moves O.meaning o sizes id me
@@ -69,32 +70,32 @@ pub fn stores_append_nothing<O: SmallObject>()
 
 /// The other loads append nothing.
 pub fn loads_append_nothing<O: SmallObject>()
-    ensures start { (o : O) (sizes : Sizes) (id tries : ℕ) (st : Step ℕ) (me : Me ℕ (View O)) →
+    ensures start { (o : O) (sizes : Sizes) (id tries : ℕ) (st : Step Seen) (me : Me Seen (View O)) →
         sizes.processes ≤ 64 → me.0.known.count ≡ 1 → stage_of me ≡ Ready tries
         → Moves O.meaning o sizes id me 0 (λ x. x) nothing (λ found me'. HasStarted st me found me') }
-    ensures copy { (o : O) (sizes : Sizes) (id tries s i : ℕ) (st : Step ℕ) (me : Me ℕ (View O)) →
+    ensures copy { (o : O) (sizes : Sizes) (id tries s i : ℕ) (st : Step Seen) (me : Me Seen (View O)) →
         sizes.processes ≤ 64 → me.0.known.count ≡ 1 → IsCopying tries s i me → i < buffer_words sizes
         → buffer_in s < 2 * sizes.processes → Moves O.meaning o sizes id me (buffer_word sizes (buffer_in s) i) (λ x. x)
         nothing (λ found me'. HasCopied st me found me') }
-    ensures look { (o : O) (sizes : Sizes) (id tries s r : ℕ) (st : Step ℕ) (me : Me ℕ (View O)) →
+    ensures look { (o : O) (sizes : Sizes) (id tries s r : ℕ) (st : Step Seen) (me : Me Seen (View O)) →
         sizes.processes ≤ 64 → me.0.known.count ≡ 1 → IsLooking sizes tries s r me → r < sizes.processes
         → Moves O.meaning o sizes id me (announce_word r) (λ x. x)
         nothing (λ found me'. HasLooked st me found me') }
-    ensures ask { (o : O) (sizes : Sizes) (id tries s r k : ℕ) (st : Step ℕ) (me : Me ℕ (View O)) →
+    ensures ask { (o : O) (sizes : Sizes) (id tries s r k : ℕ) (st : Step Seen) (me : Me Seen (View O)) →
         sizes.processes ≤ 64 → me.0.known.count ≡ 1 → IsAsking tries s r k me → r < sizes.processes
         → k < sizes.invocation → Moves O.meaning o sizes id me (argument_word sizes r k) (λ x. x)
         nothing (λ found me'. HasAsked st me found me') }
-    ensures check { (o : O) (sizes : Sizes) (id tries s : ℕ) (st : Step ℕ) (me : Me ℕ (View O)) →
+    ensures check { (o : O) (sizes : Sizes) (id tries s : ℕ) (st : Step Seen) (me : Me Seen (View O)) →
         sizes.processes ≤ 64 → me.0.known.count ≡ 1 → IsLooking sizes tries s sizes.processes me
         → Moves O.meaning o sizes id me 0 (λ x. x) nothing
         (λ found me'. (q : O) → me.0.object ≡ Some q → HasChecked (O.meaning q) st me found me') }
-    ensures turn { (o : O) (sizes : Sizes) (id tries : ℕ) (st : Step ℕ) (me : Me ℕ (View O)) →
+    ensures turn { (o : O) (sizes : Sizes) (id tries : ℕ) (st : Step Seen) (me : Me Seen (View O)) →
         sizes.processes ≤ 64 → me.0.known.count ≡ 1 → 2 ≤ tries → stage_of me ≡ Ready tries
         → Moves O.meaning o sizes id me 0 (λ x. x) nothing (λ found me'. HasTurned st me found me') }
-    ensures follow { (o : O) (sizes : Sizes) (id : ℕ) (st : Step ℕ) (me : Me ℕ (View O)) →
+    ensures follow { (o : O) (sizes : Sizes) (id : ℕ) (st : Step Seen) (me : Me Seen (View O)) →
         sizes.processes ≤ 64 → me.0.known.count ≡ 1 → stage_of me ≡ Idle []
         → Moves O.meaning o sizes id me 0 (λ x. x) nothing (λ found me'. HasFollowed st me found me') }
-    ensures reply { (o : O) (sizes : Sizes) (id s k : ℕ) (st : Step ℕ) (me : Me ℕ (View O)) →
+    ensures reply { (o : O) (sizes : Sizes) (id s k : ℕ) (st : Step Seen) (me : Me Seen (View O)) →
         me.0.known.count ≡ 1 → IsLoading s k me → k < sizes.reply → buffer_in s < 2 * sizes.processes
         → Moves O.meaning o sizes id me
         (buffer_word sizes (buffer_in s) (reply_place sizes me.0.known.first k)) (λ x. x)
@@ -104,7 +105,7 @@ pub fn loads_append_nothing<O: SmallObject>()
 /// The version of a call that has returned has come: who follows it is answered `true`.
 pub fn returned_has_come<O: SmallObject>()
     ensures { (o : O) (sizes : Sizes) (g : Board) (local : ℕ → Local) (seat_of : ℕ → ℕ)
-        (s : State ℕ (View O)) (p k : ℕ) (call : Returned) →
+        (s : State Seen (View O)) (p k : ℕ) (call : Returned) →
         sizes.processes ≤ 64 → IsShown sizes O.meaning o g local seat_of s → p < sizes.processes
         → slice_get (local p).own k ≡ Some call
         → call.version ≤ version_in (slice_index s.words 0) }

@@ -6,6 +6,7 @@ ghost use Rattle.uni_small.specs.Plays.{first_view};
 
 use crate::object::SmallObject;
 use crate::rule::{Setup, SmallTable};
+use crate::seat::Seen;
 use crate::sizes::Sizes;
 use crate::view::View;
 use atomic_table::{Seat, Table};
@@ -64,7 +65,7 @@ impl<O: SmallObject> SmallShared<O> {
         alloc: Global,
         object: O,
         sizes: Sizes,
-    ) -> Result<(SmallShared<O>, Seat<u8, View<O>>), AllocError>
+    ) -> Result<(SmallShared<O>, Seat<Seen, View<O>>), AllocError>
         requires few { AreFew sizes }
         requires widths { AreWidths (O.meaning object) sizes }
         requires wide { length (O.meaning object).object.initial ≡ sizes.state }

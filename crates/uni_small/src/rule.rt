@@ -1,5 +1,6 @@
 //! The rule of the table, and what its steps tell.
 use crate::object::SmallObject;
+use crate::seat::Seen;
 use crate::sizes::Sizes;
 use crate::view::View;
 use atomic_table::{Join, Play, Split, Table, TableRule};
@@ -18,7 +19,7 @@ pub struct Boards<O> {
     object: PhantomData<O>,
 }
 
-impl<O: SmallObject> TableRule<u8, View<O>, Setup<O>> for Boards<O> {
+impl<O: SmallObject> TableRule<Seen, View<O>, Setup<O>> for Boards<O> {
     ghost use Rattle.uni_small.specs.Shown.{ShowsBoard};
     ghost use Rattle.uni_small.specs.Plays.{first_view};
 
@@ -30,7 +31,7 @@ impl<O: SmallObject> TableRule<u8, View<O>, Setup<O>> for Boards<O> {
 /// The store of a word of an invocation.
 pub struct Stores;
 
-impl<O> Play<u8, View<O>> for Stores {
+impl<O> Play<Seen, View<O>> for Stores {
     ghost use Rattle.uni_small.specs.Plays.{HasStored};
 
     ghost then = { HasStored };
@@ -39,7 +40,7 @@ impl<O> Play<u8, View<O>> for Stores {
 /// The store of an announcement.
 pub struct Announces;
 
-impl<O> Play<u8, View<O>> for Announces {
+impl<O> Play<Seen, View<O>> for Announces {
     ghost use Rattle.uni_small.specs.Plays.{HasAnnounced};
 
     ghost then = { HasAnnounced };
@@ -48,7 +49,7 @@ impl<O> Play<u8, View<O>> for Announces {
 /// The load of S with which an attempt begins.
 pub struct Starts;
 
-impl<O> Play<u8, View<O>> for Starts {
+impl<O> Play<Seen, View<O>> for Starts {
     ghost use Rattle.uni_small.specs.Plays.{HasStarted};
 
     ghost then = { HasStarted };
@@ -57,7 +58,7 @@ impl<O> Play<u8, View<O>> for Starts {
 /// The load of a word of the current buffer.
 pub struct Copies;
 
-impl<O> Play<u8, View<O>> for Copies {
+impl<O> Play<Seen, View<O>> for Copies {
     ghost use Rattle.uni_small.specs.Plays.{HasCopied};
 
     ghost then = { HasCopied };
@@ -66,7 +67,7 @@ impl<O> Play<u8, View<O>> for Copies {
 /// The load of an announcement.
 pub struct Looks;
 
-impl<O> Play<u8, View<O>> for Looks {
+impl<O> Play<Seen, View<O>> for Looks {
     ghost use Rattle.uni_small.specs.Plays.{HasLooked};
 
     ghost then = { HasLooked };
@@ -75,7 +76,7 @@ impl<O> Play<u8, View<O>> for Looks {
 /// The load of a word of an invocation.
 pub struct Asks;
 
-impl<O> Play<u8, View<O>> for Asks {
+impl<O> Play<Seen, View<O>> for Asks {
     ghost use Rattle.uni_small.specs.Plays.{HasAsked};
 
     ghost then = { HasAsked };
@@ -84,7 +85,7 @@ impl<O> Play<u8, View<O>> for Asks {
 /// The store of a word of the spare buffer.
 pub struct Writes;
 
-impl<O> Play<u8, View<O>> for Writes {
+impl<O> Play<Seen, View<O>> for Writes {
     ghost use Rattle.uni_small.specs.Plays.{HasWritten};
 
     ghost then = { HasWritten };
@@ -93,7 +94,7 @@ impl<O> Play<u8, View<O>> for Writes {
 /// The exchange of S.
 pub struct Brings;
 
-impl<O> Play<u8, View<O>> for Brings {
+impl<O> Play<Seen, View<O>> for Brings {
     ghost use Rattle.uni_small.specs.Plays.{HasBrought};
 
     ghost then = { HasBrought };
@@ -102,7 +103,7 @@ impl<O> Play<u8, View<O>> for Brings {
 /// The load of S after two failed attempts.
 pub struct Turns;
 
-impl<O> Play<u8, View<O>> for Turns {
+impl<O> Play<Seen, View<O>> for Turns {
     ghost use Rattle.uni_small.specs.Plays.{HasTurned};
 
     ghost then = { HasTurned };
@@ -111,7 +112,7 @@ impl<O> Play<u8, View<O>> for Turns {
 /// The load of a word of the reply, of which more are to come.
 pub struct Loads;
 
-impl<O> Play<u8, View<O>> for Loads {
+impl<O> Play<Seen, View<O>> for Loads {
     ghost use Rattle.uni_small.specs.Plays.{HasLoaded};
 
     ghost then = { HasLoaded };
@@ -120,7 +121,7 @@ impl<O> Play<u8, View<O>> for Loads {
 /// The load of the last word of the reply.
 pub struct Replies;
 
-impl<O> Play<u8, View<O>> for Replies {
+impl<O> Play<Seen, View<O>> for Replies {
     ghost use Rattle.uni_small.specs.Plays.{HasReplied};
 
     ghost then = { HasReplied };
@@ -129,7 +130,7 @@ impl<O> Play<u8, View<O>> for Replies {
 /// The load of S between calls.
 pub struct Follows;
 
-impl<O> Play<u8, View<O>> for Follows {
+impl<O> Play<Seen, View<O>> for Follows {
     ghost use Rattle.uni_small.specs.Plays.{HasFollowed};
 
     ghost then = { HasFollowed };
@@ -138,7 +139,7 @@ impl<O> Play<u8, View<O>> for Follows {
 /// The load of S after which an attempt goes on or has failed.
 pub struct Checks;
 
-impl<O: SmallObject> Play<u8, View<O>> for Checks {
+impl<O: SmallObject> Play<Seen, View<O>> for Checks {
     ghost use Rattle.std.specs.Prelude.{◌≡◌, Some};
     ghost use Rattle.uni_small.specs.Plays.{HasChecked};
 
@@ -169,4 +170,4 @@ impl<O> Join<View<O>> for TakesIn {
 }
 
 /// The table of an object: it has no slots.
-pub type SmallTable<O> = Table<u8, View<O>, Setup<O>, Boards<O>, Global>;
+pub type SmallTable<O> = Table<Seen, View<O>, Setup<O>, Boards<O>, Global>;

@@ -8,7 +8,7 @@ use atomic_table::Seat;
 
 /// What is seen of a process: whether it has a call to apply, and room for the words of its invocation.
 #[derive(Drop)]
-pub(crate) struct Seen {
+pub struct Seen {
     pub due: bool,
     pub invocation: Vec<u64>,
 }
@@ -33,7 +33,7 @@ pub(crate) struct Buffers {
 /// A process's place at the object.
 #[derive(Drop)]
 pub struct SmallSeat<O> {
-    pub(crate) seat: Seat<u8, View<O>>,
+    pub(crate) seat: Seat<Seen, View<O>>,
     pub(crate) p: u64,
     pub(crate) made: u64,
     pub(crate) own: Buffers,

@@ -16,12 +16,13 @@ use crate::rule::{
     Announces, Asks, Brings, Checks, Copies, Follows, Loads, Looks, Replies, Starts, Stores, Turns,
     Writes,
 };
+use crate::seat::Seen;
 use crate::view::View;
 use atomic_table::Seat;
 
 impl<O: SmallObject> SmallShared<O> {
     /// Stores word k of the invocation of the next call.
-    pub(crate) fn store_word(&self, seat: &mut Seat<u8, View<O>>, p: u64, k: u64, x: u64)
+    pub(crate) fn store_word(&self, seat: &mut Seat<Seen, View<O>>, p: u64, k: u64, x: u64)
         requires table { seat.old.table_id ≡ self.now.table.shared.table_id }
         requires inside { (p < self.now.setup.sizes.processes) × (k < self.now.setup.sizes.invocation) }
         requires of { IsOf self.now.setup.object self.now.setup.sizes p seat.old.me }
@@ -36,7 +37,7 @@ impl<O: SmallObject> SmallShared<O> {
     }
 
     /// Announces the next call, whose invocation is stored, by its number, from 1 on: the call begins.
-    pub(crate) fn announce(&self, seat: &mut Seat<u8, View<O>>, p: u64, number: u64)
+    pub(crate) fn announce(&self, seat: &mut Seat<Seen, View<O>>, p: u64, number: u64)
         requires table { seat.old.table_id ≡ self.now.table.shared.table_id }
         requires inside { p < self.now.setup.sizes.processes }
         requires of { IsOf self.now.setup.object self.now.setup.sizes p seat.old.me }
@@ -52,7 +53,7 @@ impl<O: SmallObject> SmallShared<O> {
     }
 
     /// Loads S, with which an attempt begins. Where S names a buffer of the process's own, the attempt has its words.
-    pub(crate) fn start(&self, seat: &mut Seat<u8, View<O>>, p: u64, tries: u64) -> u64
+    pub(crate) fn start(&self, seat: &mut Seat<Seen, View<O>>, p: u64, tries: u64) -> u64
         requires table { seat.old.table_id ≡ self.now.table.shared.table_id }
         requires inside { p < self.now.setup.sizes.processes }
         requires of { IsOf self.now.setup.object self.now.setup.sizes p seat.old.me }
@@ -68,7 +69,7 @@ impl<O: SmallObject> SmallShared<O> {
     /// Loads the next word of the buffer that the attempt copies.
     pub(crate) fn copy_word(
         &self,
-        seat: &mut Seat<u8, View<O>>,
+        seat: &mut Seat<Seen, View<O>>,
         p: u64,
         tries: u64,
         s: u64,
@@ -91,7 +92,7 @@ impl<O: SmallObject> SmallShared<O> {
     /// Loads the announcement of process r.
     pub(crate) fn look(
         &self,
-        seat: &mut Seat<u8, View<O>>,
+        seat: &mut Seat<Seen, View<O>>,
         p: u64,
         tries: u64,
         s: u64,
@@ -112,7 +113,7 @@ impl<O: SmallObject> SmallShared<O> {
     /// Loads word k of the argument of process r, whose call isn't in.
     pub(crate) fn ask(
         &self,
-        seat: &mut Seat<u8, View<O>>,
+        seat: &mut Seat<Seen, View<O>>,
         p: u64,
         tries: u64,
         s: u64,
@@ -135,7 +136,7 @@ impl<O: SmallObject> SmallShared<O> {
     }
 
     /// Loads S again: where it is as it was, the copy was good.
-    pub(crate) fn check(&self, seat: &mut Seat<u8, View<O>>, p: u64, tries: u64, s: u64) -> u64
+    pub(crate) fn check(&self, seat: &mut Seat<Seen, View<O>>, p: u64, tries: u64, s: u64) -> u64
         requires table { seat.old.table_id ≡ self.now.table.shared.table_id }
         requires inside { p < self.now.setup.sizes.processes }
         requires of { IsOf self.now.setup.object self.now.setup.sizes p seat.old.me }
@@ -155,7 +156,7 @@ impl<O: SmallObject> SmallShared<O> {
     /// Stores a word of the spare buffer.
     pub(crate) fn write_word(
         &self,
-        seat: &mut Seat<u8, View<O>>,
+        seat: &mut Seat<Seen, View<O>>,
         p: u64,
         spare: u64,
         i: u64,
@@ -178,7 +179,7 @@ impl<O: SmallObject> SmallShared<O> {
     /// The exchange that makes the spare buffer current, by the word `new`.
     pub(crate) fn bring_in(
         &self,
-        seat: &mut Seat<u8, View<O>>,
+        seat: &mut Seat<Seen, View<O>>,
         p: u64,
         tries: u64,
         s: u64,
@@ -201,7 +202,7 @@ impl<O: SmallObject> SmallShared<O> {
     }
 
     /// Loads S after two attempts that have failed: the call is in.
-    pub(crate) fn turn(&self, seat: &mut Seat<u8, View<O>>, p: u64, tries: u64) -> u64
+    pub(crate) fn turn(&self, seat: &mut Seat<Seen, View<O>>, p: u64, tries: u64) -> u64
         requires table { seat.old.table_id ≡ self.now.table.shared.table_id }
         requires inside { (p < self.now.setup.sizes.processes) × (2 ≤ tries) }
         requires of { IsOf self.now.setup.object self.now.setup.sizes p seat.old.me }
@@ -214,7 +215,7 @@ impl<O: SmallObject> SmallShared<O> {
     }
 
     /// Loads word k of the reply, which isn't the last one.
-    pub(crate) fn load_word(&self, seat: &mut Seat<u8, View<O>>, p: u64, s: u64, k: u64) -> u64
+    pub(crate) fn load_word(&self, seat: &mut Seat<Seen, View<O>>, p: u64, s: u64, k: u64) -> u64
         requires table { seat.old.table_id ≡ self.now.table.shared.table_id }
         requires inside { (p < self.now.setup.sizes.processes) × (k + 1 < self.now.setup.sizes.reply) }
         requires of { IsOf self.now.setup.object self.now.setup.sizes p seat.old.me }
@@ -230,7 +231,7 @@ impl<O: SmallObject> SmallShared<O> {
     }
 
     /// Loads the last word of the reply: the call returns, and is in the version that s names.
-    pub(crate) fn load_last(&self, seat: &mut Seat<u8, View<O>>, p: u64, s: u64, k: u64) -> u64
+    pub(crate) fn load_last(&self, seat: &mut Seat<Seen, View<O>>, p: u64, s: u64, k: u64) -> u64
         requires table { seat.old.table_id ≡ self.now.table.shared.table_id }
         requires inside { (p < self.now.setup.sizes.processes) × (k + 1 ≡ self.now.setup.sizes.reply) }
         requires of { IsOf self.now.setup.object self.now.setup.sizes p seat.old.me }
@@ -247,7 +248,7 @@ impl<O: SmallObject> SmallShared<O> {
     }
 
     /// Loads S between calls: the present version.
-    pub(crate) fn present(&self, seat: &mut Seat<u8, View<O>>, p: u64) -> u64
+    pub(crate) fn present(&self, seat: &mut Seat<Seen, View<O>>, p: u64) -> u64
         requires table { seat.old.table_id ≡ self.now.table.shared.table_id }
         requires inside { p < self.now.setup.sizes.processes }
         requires of { IsOf self.now.setup.object self.now.setup.sizes p seat.old.me }

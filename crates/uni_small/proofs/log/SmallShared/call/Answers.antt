@@ -1,10 +1,10 @@
-use Rattle.uni_small.proofs.Vocabulary.{EndsWithin, GoesBy, Idle, List, Me, Option, Sizes, View, attempt_steps, length, subst, ℕ, ◌≡◌}
+use Rattle.uni_small.proofs.Vocabulary.{EndsWithin, GoesBy, Idle, List, Me, Option, Seen, Sizes, View, attempt_steps, length, subst, ℕ, ◌≡◌}
 use Rattle.uni_small.proofs.Going.{of_after, stage_after}
 use Rattle.uni_small.proofs.Ending.{ends_first, ends_second, ends_last}
 use Rattle.uni_small.proofs.log.SmallShared.call.Goals as goal
 
 -- all words of an invocation are stored
-stored_whole : {O : Type 0} (sizes : Sizes) (me me1 : Me ℕ (View O)) (inv : List ℕ) → length inv ≡ sizes.invocation → GoesBy me (length inv) (Idle inv) me1 → GoesBy me sizes.invocation (Idle inv) me1
+stored_whole : {O : Type 0} (sizes : Sizes) (me me1 : Me Seen (View O)) (inv : List ℕ) → length inv ≡ sizes.invocation → GoesBy me (length inv) (Idle inv) me1 → GoesBy me sizes.invocation (Idle inv) me1
 stored_whole sizes me me1 inv long goes = subst (λ k. GoesBy me k (Idle inv) me1) long goes
 
 pub announce-requires-clause-of : goal.announce-requires-clause-of

@@ -1,4 +1,4 @@
-use Rattle.uni_small.proofs.Vocabulary.{GoesBy, IsLeft, Last, List, Me, ReplyEnds, View, [], ap, arith, length, length-set, length-take-le, local_of, refl, returns, set, subst, sym, take, take_all, take_more_set, version_in, went, with_local, ℕ, ◌++◌, ◌+◌, ◌-◌, ◌<◌, ◌∙◌, ◌∷◌, ◌≡◌}
+use Rattle.uni_small.proofs.Vocabulary.{GoesBy, IsLeft, Last, List, Me, ReplyEnds, Seen, View, [], ap, arith, length, length-set, length-take-le, local_of, refl, returns, set, subst, sym, take, take_all, take_more_set, version_in, went, with_local, ℕ, ◌++◌, ◌+◌, ◌-◌, ◌<◌, ◌∙◌, ◌∷◌, ◌≡◌}
 use Rattle.uni_small.proofs.Ending.{left_more}
 use Rattle.uni_small.proofs.Going.{goes_zero, stage_after, of_after, goes_on}
 use Rattle.uni_small.proofs.log.SmallShared.load_reply.Goals as goal
@@ -45,7 +45,7 @@ load_last-requires-clause-stage g c = (
 )
 
 -- the last word
-ended : {O : Type 0} (me me1 me2 : Me ℕ (View O)) (s k wide x : ℕ) (words : List ℕ) → k + 1 ≡ wide → length words ≡ wide → GoesBy me k (Last s (take k words)) me1
+ended : {O : Type 0} (me me1 me2 : Me Seen (View O)) (s k wide x : ℕ) (words : List ℕ) → k + 1 ≡ wide → length words ≡ wide → GoesBy me k (Last s (take k words)) me1
     → IsLeft me1 (returns (local_of me1) s (take k words ++ x ∷ [])) me2 → ReplyEnds me s (set words k x) wide me2
 ended me me1 me2 s k wide x words last long first next =
     let all : take k words ++ x ∷ [] ≡ set words k x = sym (take_more_set words k x (omega arith)) ∙ take_all (k + 1) (set words k x) (let l = length-set words k x in omega arith) in
@@ -65,5 +65,5 @@ returns-clause-left g c =
 
 pub returns-clause-later : goal.returns-clause-later
 returns-clause-later g c =
-    let same : (local_of c.loop-k.seat.me).after ≡ (local_of c.args.seat.now.me).after = ap (λ (m : Me ℕ (View _)). (local_of m).after) c.loop-k.invariant.2 in
+    let same : (local_of c.loop-k.seat.me).after ≡ (local_of c.args.seat.now.me).after = ap (λ (m : Me Seen (View _)). (local_of m).after) c.loop-k.invariant.2 in
     subst (λ v. v < version_in c.args.s) same c.load_last.ensures.later

@@ -1,4 +1,4 @@
-use Rattle.uni_small.proofs.Vocabulary.{List, ShowsBoard, [], ap, append-nil, append_assoc, arith, first_image, first_view, joined, length, opening, replicate, spell, subst, suc, sym, words_before, ℕ, ◌*◌, ◌++◌, ◌+◌, ◌∙◌, ◌≡◌}
+use Rattle.uni_small.proofs.Vocabulary.{List, Seen, ShowsBoard, [], ap, append-nil, append_assoc, arith, first_image, first_view, joined, length, opening, replicate, spell, subst, suc, sym, words_before, ℕ, ◌*◌, ◌++◌, ◌+◌, ◌∙◌, ◌≡◌}
 use Rattle.uni_small.proofs.Opening.{copies_more, made_length, made_words, opening_shows}
 use Rattle.uni_small.proofs.log.SmallShared.with_one_seat.Goals as goal
 
@@ -20,7 +20,7 @@ of_words-requires g c =
     let all : c.loop.counter ≡ 2 * sizes.processes = (let t = c.loop-test.false in let e = c.loop.auto.counter-end in omega arith) in
     let words : c.deref-2.result.now ≡ made_words sizes (spell (first_image (meaning c.args.object).object sizes))
     = c.deref-2.ensures.value ∙ c.loop.invariant ∙ (λ k. replicate (words_before sizes) 0 ++ joined (replicate (all k) (c.in_ok-first.ensures k))) in
-    subst (λ (ws : List ℕ). ShowsBoard meaning c.args.object sizes (opening {S = ℕ} ws [] (first_view meaning c.args.object sizes))) (sym words)
+    subst (λ (ws : List ℕ). ShowsBoard meaning c.args.object sizes (opening {S = Seen} ws [] (first_view meaning c.args.object sizes))) (sym words)
     (opening_shows meaning c.args.object sizes c.requires.widths c.requires.few.0 c.requires.wide)
 
 pub invariant_of-result-clause-sized : goal.invariant_of-result-clause-sized
