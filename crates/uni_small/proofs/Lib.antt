@@ -8,6 +8,7 @@ pub mod Images
 pub mod Loads
 pub mod Words
 pub mod Others
+pub mod Beginning
 pub mod Stores
 pub mod Batch
 pub mod Exchange

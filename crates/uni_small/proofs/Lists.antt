@@ -1,5 +1,5 @@
 -- Lists with one more element, and two lists with the same elements.
-use Rattle.uni_small.proofs.Vocabulary.{Contains, List, None, Option, Some, [], ap, arith, due_at, fold, get_elem?, get_or_from_slice_get, inl, inr, length, refl, slice_get, slice_get_within, slice_index, slice_index_or, some, some-injective, some-ne-none, suc, suc-mul, sum, sym, zero, ℕ, ◌*◌, ◌++◌, ◌+◌, ◌<◌, ◌∷◌, ◌≡◌, ◌≤◌, ◌⊎◌}
+use Rattle.uni_small.proofs.Vocabulary.{Contains, List, None, Option, Some, [], ap, arith, due_at, fold, get_elem?, get_or_from_slice_get, inl, inr, length, refl, slice_get, slice_get_within, slice_index, slice_index_or, slice_set, some, some-injective, some-ne-none, suc, suc-mul, sum, sym, zero, ℕ, ◌*◌, ◌++◌, ◌+◌, ◌<◌, ◌∷◌, ◌≡◌, ◌≢◌, ◌≤◌, ◌⊎◌}
 
 pub index_snoc : (xs : List ℕ) (x j : ℕ) → j < length xs → slice_index (xs ++ x ∷ []) j ≡ slice_index xs j
 index_snoc [] x j h = absurd (omega arith)
@@ -91,3 +91,29 @@ pub get-append : {A : Type 0} (xs ys : List A) (j : ℕ) (y : A) → slice_get (
 get-append [] ys j y e = inr (j, (let z : j ≡ 0 + j = omega arith in z), e)
 get-append (x ∷ xs) ys zero y e = inl e
 get-append (x ∷ xs) ys (suc j) y e = elim (get-append xs ys j y e) [ inl h ↦ inl h | inr h ↦ inr (h.0, (let i = h.1 in omega arith), h.2) ]
+
+-- what was seen of another process
+pub due-set : (seen : List (Option (List ℕ))) (p r : ℕ) (o : Option (List ℕ)) → r ≢ p → due_at (slice_set seen p o) r ≡ due_at seen r
+due-set [] p r o apart = refl
+due-set (x ∷ seen) zero zero o apart = absurd (apart refl)
+due-set (None ∷ seen) zero (suc r) None apart = refl
+due-set (None ∷ seen) zero (suc r) (Some i) apart = refl
+due-set (Some j ∷ seen) zero (suc r) None apart = refl
+due-set (Some j ∷ seen) zero (suc r) (Some i) apart = refl
+due-set (None ∷ seen) (suc p) zero o apart = refl
+due-set (Some j ∷ seen) (suc p) zero o apart = refl
+due-set (None ∷ seen) (suc p) (suc r) o apart = due-set seen p r o (λ same. apart (ap suc same))
+due-set (Some j ∷ seen) (suc p) (suc r) o apart = due-set seen p r o (λ same. apart (ap suc same))
+
+pub due-here : (seen : List (Option (List ℕ))) (p : ℕ) (inv : List ℕ) → p < length seen → due_at (slice_set seen p (Some inv)) p ≡ 1
+due-here [] p inv below = absurd (omega arith)
+due-here (x ∷ seen) zero inv below = refl
+due-here (None ∷ seen) (suc p) inv below = due-here seen p inv (omega arith)
+due-here (Some j ∷ seen) (suc p) inv below = due-here seen p inv (omega arith)
+
+pub get-set : {A : Type 0} (xs : List A) (p r : ℕ) (x y : A) → slice_get (slice_set xs p x) r ≡ Some y → ((r ≡ p) × (x ≡ y)) ⊎ ((r ≢ p) × (slice_get xs r ≡ Some y))
+get-set [] p r x y e = absurd (let f = e in cc)
+get-set (z ∷ xs) zero zero x y e = inl (refl, cc)
+get-set (z ∷ xs) zero (suc r) x y e = inr ((λ same. omega arith), e)
+get-set (z ∷ xs) (suc p) zero x y e = inr ((λ same. omega arith), e)
+get-set (z ∷ xs) (suc p) (suc r) x y e = elim (get-set xs p r x y e) [ inl h ↦ inl (ap suc h.0, h.1) | inr h ↦ inr ((λ same. h.0 (omega arith)), h.1) ]

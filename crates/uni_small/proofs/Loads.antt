@@ -1,9 +1,9 @@
 -- The word steps that load, but the last one of a call.
-use Rattle.uni_small.proofs.Vocabulary.{AreHeld, AreIn, AreWhole, Board, Bool, HasAsked, HasChecked, HasCopied, HasFollowed, HasLooked, HasStarted, HasTurned, Idle, IfFresh, Image, Invoked, IsAsking, IsAt, IsAttemptAt, IsBeginning, IsBoard, IsCallAt, IsClosed, IsCopying, IsGood, IsLooking, IsNamed, IsOpen, IsShown, IsSound, IsSteady, Last, List, Local, MayBeWritten, Me, Meaning, Moves, None, Option, Reading, Ready, Returned, Seen, Sequential, Sizes, Some, Stage, State, Step, View, Writing, [], announce_word, ap, argument_word, arith, begun, buffer_in, buffer_word, buffer_words, checked, cond, current_word, drop, false, get_or-drop, get_or-take, goes, if◌then◌else◌, in_of, inl, inr, knows, length, length-append, length-drop, length-take-le, looked, lt_cases, map, most_calls, nothing, number_cases, read_image, refl, reply_of, same_from_push, slice_get, slice_get-append_left, slice_get_within, slice_index, spell, stage_of, subst, suc, sum, sym, true, version_in, with_local, with_seen, words_held, zero, ℕ, ◌%◌, ◌*◌, ◌++◌, ◌+◌, ◌-◌, ◌/◌, ◌<◌, ◌==◌, ◌∙◌, ◌∷◌, ◌≡◌, ◌≢◌, ◌≤◌}
+use Rattle.uni_small.proofs.Vocabulary.{AreHeld, AreIn, AreWhole, Board, Bool, HasAsked, HasBegun, HasChecked, HasCheckedOwn, HasCopied, HasFollowed, HasLooked, HasSeen, HasStarted, HasTurned, Idle, IfFresh, Image, Invoked, IsAnnounced, IsAsking, IsAt, IsAttemptAt, IsAttempted, IsBeginning, IsBoard, IsCallAt, IsClosed, IsCopying, IsDirect, IsGood, IsLooking, IsNamed, IsOpen, IsPending, IsShown, IsSound, IsSteady, Last, List, Local, MayBeWritten, Me, Meaning, Moves, None, Option, Reading, Ready, Returned, Seen, Sequential, Sizes, Some, Stage, State, Step, View, Writing, [], announce_word, ap, argument_word, arith, begins_directly, begun, buffer_in, buffer_word, buffer_words, checked, checked_own, cond, current_word, drop, due_at, false, get_or-drop, get_or-set_other, get_or-take, goes, if◌then◌else◌, in_of, inl, inr, knows, length, length-append, length-drop, length-take-le, looked, lt_cases, map, most_calls, nat_le, nothing, number_cases, read_image, refl, reply_of, same_from_push, slice_get, slice_get-append_left, slice_get_within, slice_index, slice_set, spell, stage_of, subst, suc, sum, sym, true, version_in, with_local, with_seen, words_held, zero, ℕ, ◌%◌, ◌*◌, ◌++◌, ◌+◌, ◌-◌, ◌/◌, ◌<◌, ◌==◌, ◌∙◌, ◌∷◌, ◌≡◌, ◌≢◌, ◌≤◌}
 use Rattle.uni_small.specs.Invariant.{IsCopied}
 use Rattle.std.proofs.lemmas.Bool.Decides.{nat_tests}
 use Rattle.uni_small.proofs.Frame.{Found, load_law}
-use Rattle.uni_small.proofs.Lists.{due_cases, due_last, due_same, due_snoc, get-contains, get_last, get_snoc, index_last, index_snoc, same_list, sum_most}
+use Rattle.uni_small.proofs.Lists.{due-set, due_cases, due_last, due_same, due_snoc, get-contains, get_last, get_snoc, index_last, index_snoc, same_list, sum_most}
 use Rattle.uni_small.proofs.Rows.{begins_more}
 use Rattle.uni_small.proofs.Images.{spell-length, spell-applied, read-spell, reached_from, rows-seen, width_is, reply-seen}
 
@@ -31,11 +31,15 @@ module _ (object : Sequential (List ℕ) (List ℕ) (List ℕ)) (sizes : Sizes) 
     opened : IsOpen object g r (local r).inv (local r).own → g.announced r ≤ in_of g r + 1
     opened c = let a = c.announced in let b = c.in_least in omega arith
 
+    attempted : (direct : Bool) → IsAttempted object sizes g r (local r) direct → g.announced r ≤ in_of g r + 1
+    attempted true c = closed c
+    attempted false c = opened c
+
     by_stage : (st : Stage) → IsCallAt object sizes g r (local r) st → g.announced r ≤ in_of g r + 1
     by_stage (Idle stored) c = closed c.0
-    by_stage (Ready t) c = opened c
-    by_stage (Reading t s copy seen) c = opened c
-    by_stage (Writing t s image seen) c = opened c
+    by_stage (Ready t) c = attempted (local r).direct c
+    by_stage (Reading t s copy seen) c = attempted (local r).direct c
+    by_stage (Writing t s image seen) c = attempted (local r).direct c
     by_stage (Last s loaded) c = opened c
 
   -- S names a buffer, and its version leaves room
@@ -67,6 +71,24 @@ all_in object sizes g p s few board is =
       omega arith,
       λ c place at own below. (let w = slice_get_within g.atomic.agreed place c at in let all = board.counted (version_in s) (omega arith) in omega arith),
     )
+
+-- what may be written of the image with what was seen, and perhaps with a call of process p itself
+pub may_write : (object : Sequential (List ℕ) (List ℕ) (List ℕ)) (sizes : Sizes) (steady : IsSteady object sizes.reply) (g : Board) (p b : ℕ) (board : IsBoard object sizes g) (seen all : List (Option (List ℕ)))
+    → HasSeen g p seen → ((r : ℕ) → r ≢ p → due_at all r ≡ due_at seen r) → (IsPending g p → g.announced p ≤ g.mark b p → ⊥) → MayBeWritten object sizes g b (with_seen object g.image 0 all)
+may_write object sizes steady g p b board seen all known elsewhere mine = record {
+  rows = rows-seen object sizes steady (width_is object sizes steady g.atomic.agreed g.image board.image board.rows) g.image 0 all board.rows;
+  replies = λ r inside waits least.
+      ap (reply_of (with_seen object g.image 0 all)) (let z : r ≡ 0 + r = omega arith in z)
+      ∙ reply-seen object g.image 0 all r (none r inside waits least) ∙ ap (reply_of g.image) (let z : 0 + r ≡ r = omega arith in z);
+} where
+  none : (r : ℕ) → r < sizes.processes → IsPending g r → g.announced r ≤ g.mark b r → due_at all r ≡ 0
+  none r inside waits least = elim (number_cases r p) [
+    | inl here ↦ absurd (mine (subst (IsPending g) here.0 waits) (subst (λ k. g.announced k ≤ g.mark b k) here.0 least))
+    | inr other ↦ elsewhere r other.0 ∙ elim (due_cases seen r) [
+      | inl nil ↦ nil
+      | inr some ↦ absurd (let due = (known.told r some.0 some.2).0 in let m = board.marked b r inside in omega arith)
+    ]
+  ]
 
 module _ {O : Type 0} (meaning : O → Meaning) (o : O) (sizes : Sizes) (id : ℕ) (few : sizes.processes ≤ 64) (st : Step Seen) (me : Me Seen (View O)) (single : me.0.known.count ≡ 1) where
   abbrev object : Sequential (List ℕ) (List ℕ) (List ℕ)
@@ -105,6 +127,13 @@ module _ {O : Type 0} (meaning : O → Meaning) (o : O) (sizes : Sizes) (id : �
       → IsCopied g (if b then words_held sizes l.held (buffer_in s % 2) else [])
   copied_own g s mine board is true e = own_words g (buffer_in s % 2) mine board (omega arith) (let h : buffer_in s / 2 ≡ p = grind (arith, nat_tests, e) in omega arith)
   copied_own g s mine board is false e = λ i below. absurd (omega arith)
+
+  -- the call that is attempted has begun where it was announced, and else hasn't
+  attempted_open : (g : Board) → IsAnnounced me → IsAttempted object sizes g p l l.direct → IsOpen object g p l.inv l.own
+  attempted_open g announced call = subst (IsAttempted object sizes g p l) announced call
+
+  attempted_closed : (g : Board) → IsDirect me → IsAttempted object sizes g p l l.direct → IsClosed g p l.own
+  attempted_closed g direct call = subst (IsAttempted object sizes g p l) direct call
 
   -- an attempt begins
   pub starts : (tries : ℕ) → stage_of me ≡ Ready tries → Moves meaning o sizes id me 0 (λ x. x) nothing (λ found me'. HasStarted st me found me')
@@ -178,32 +207,36 @@ module _ {O : Type 0} (meaning : O → Meaning) (o : O) (sizes : Sizes) (id : �
       let stage : l.stage ≡ Reading tries s copy seen = looking.1.1 in
       let wide : length copy ≡ buffer_words sizes = looking.1.2 in
       let long : length seen ≡ r = looking.1.3 in
-      let call : IsOpen object g p l.inv l.own = call_at object sizes g p l (Reading tries s copy seen) f.mine stage in
+      let call : IsAttempted object sizes g p l l.direct = call_at object sizes g p l (Reading tries s copy seen) f.mine stage in
       let was = attempt_at object sizes g p l (Reading tries s copy seen) f.mine stage in
-      let found : x ≡ g.announced r = f.words_are.announced r inside in
+      let found : x ≡ g.told r = f.words_are.announced r inside in
       let in_copy : IfFresh g s (slice_index copy r ≡ in_of g r) = (λ fresh. let now = was.1 fresh in
       (now.0, now.1.0 r (omega arith) ∙ spell-applied sizes g.image f.sound.board.rows r inside)) in (
         goes l (Reading tries s copy (seen ++ looked copy (length seen) x ∷ [])),
         at_next g (Reading tries s copy (seen ++ looked copy (length seen) x ∷ [])) f.mine call
-            (by_test g copy seen x long was call (f.sound.board.in_most r inside, announced_most object sizes g local f.sound r inside) found in_copy (x == slice_index copy (length seen)) refl),
+            (by_test g copy seen x long was (f.sound.board.in_most r inside, announced_most object sizes g local f.sound r inside, f.sound.board.told_most r inside, f.sound.board.told_due r inside) found in_copy (nat_le x (slice_index copy (length seen))) refl),
         λ tries' s' copy' seen' stage'.
             let e : Reading tries s copy seen ≡ Reading tries' s' copy' seen' = sym stage ∙ stage' in
             let a : tries ≡ tries' = cc in let b : s ≡ s' = cc in let c : copy ≡ copy' = cc in let d : seen ≡ seen' = cc in
             λ k. (with_local me.0 (goes l (Reading (a k) (b k) (c k) (d k ++ looked (c k) (length (d k)) x ∷ []))), me.1),
       )) where
         by_test : (g : Board) (copy : List ℕ) (seen : List (Option (List ℕ))) (x : ℕ) → length seen ≡ r
-            → IsAttemptAt object sizes g p (2 * p + l.spare) (Reading tries s copy seen) → IsOpen object g p l.inv l.own
-            → (in_of g r ≤ g.announced r) × (g.announced r ≤ in_of g r + 1) → x ≡ g.announced r → IfFresh g s (slice_index copy r ≡ in_of g r)
-            → (b : Bool) → (x == slice_index copy (length seen)) ≡ b
+            → IsAttemptAt object sizes g p (2 * p + l.spare) (Reading tries s copy seen)
+            → (in_of g r ≤ g.announced r) × (g.announced r ≤ in_of g r + 1) × (g.told r ≤ g.announced r) × (in_of g r < g.announced r → g.told r ≡ g.announced r)
+            → x ≡ g.told r → IfFresh g s (slice_index copy r ≡ in_of g r)
+            → (b : Bool) → nat_le x (slice_index copy (length seen)) ≡ b
             → IsAttemptAt object sizes g p (2 * p + l.spare) (Reading tries s copy (seen ++ cond b None (Some []) ∷ []))
-        by_test g copy seen x long was call most found in_copy true e = (
+        by_test g copy seen x long was most found in_copy true e = (
           was.0,
           λ fresh.
               let now = was.1 fresh in
-              let same : x ≡ slice_index copy (length seen) = grind (arith, nat_tests, e) in
+              let small : x ≤ slice_index copy (length seen) = grind (arith, nat_tests, e) in
               let at : slice_index copy (length seen) ≡ slice_index copy r = ap (slice_index copy) long in
               let copied = (in_copy fresh).1 in
-              let here : g.announced r ≡ in_of g r = omega arith in (
+              let here : g.announced r ≡ in_of g r = elim (lt_cases (in_of g r) (g.announced r)) [
+                | inl due ↦ absurd (let t = most.3 due.0 in let d = due.0 in omega arith)
+                | inr none ↦ (let n = none.0 in let m = most.0 in omega arith)
+              ] in (
                 now.0,
                 (
                   now.1.0,
@@ -219,15 +252,14 @@ module _ {O : Type 0} (meaning : O → Meaning) (o : O) (sizes : Sizes) (id : �
                 ),
               ),
         )
-        by_test g copy seen x long was call most found in_copy false e = (
+        by_test g copy seen x long was most found in_copy false e = (
           was.0,
           λ fresh.
               let now = was.1 fresh in
-              let apart : x ≢ slice_index copy (length seen) = (λ same. let f : (x == slice_index copy (length seen)) ≡ false = e in grind (arith, nat_tests, f, same)) in
+              let large : slice_index copy (length seen) < x = grind (arith, nat_tests, e) in
               let at : slice_index copy (length seen) ≡ slice_index copy r = ap (slice_index copy) long in
               let copied = (in_copy fresh).1 in
-              let more : g.announced r ≢ in_of g r = (λ same. apart (omega (arith, same, found, at, copied))) in
-              let due : g.announced r ≡ in_of g r + 1 = omega (arith, more, most) in (
+              let due : g.announced r ≡ in_of g r + 1 = (let a = most.1 in let t = most.2 in omega arith) in (
                 now.0,
                 (
                   now.1.0,
@@ -303,8 +335,8 @@ module _ {O : Type 0} (meaning : O → Meaning) (o : O) (sizes : Sizes) (id : �
       ))
 
   -- after two attempts that failed the call is in
-  pub turns : (tries : ℕ) → 2 ≤ tries → stage_of me ≡ Ready tries → Moves meaning o sizes id me 0 (λ x. x) nothing (λ found me'. HasTurned st me found me')
-  turns tries two stage = load_law meaning o sizes id me 0 (λ found me'. HasTurned st me found me') single (λ g local words f.
+  pub turns : (tries : ℕ) → 2 ≤ tries → stage_of me ≡ Ready tries → IsAnnounced me → Moves meaning o sizes id me 0 (λ x. x) nothing (λ found me'. HasTurned st me found me')
+  turns tries two stage announced = load_law meaning o sizes id me 0 (λ found me'. HasTurned st me found me') single (λ g local words f.
       let s = slice_index words 0 in
       let is : s ≡ current_word g.version g.current = f.words_are.current in
       let since : g.since p + tries ≤ g.version = attempt_at object sizes g p l (Ready tries) f.mine stage in
@@ -313,15 +345,35 @@ module _ {O : Type 0} (meaning : O → Meaning) (o : O) (sizes : Sizes) (id : �
       let in_now : g.announced p ≤ in_of g p = f.sound.board.soon p f.inside (omega arith) in
       let marked : g.announced p ≤ g.mark g.current p = (let m = f.sound.board.at_current p f.inside in omega arith) in (
         goes l (Last s []),
-        at_next g (Last s []) f.mine (call_at object sizes g p l (Ready tries) f.mine stage)
+        at_next g (Last s []) f.mine (attempted_open g announced (call_at object sizes g p l (Ready tries) f.mine stage))
             (named_now.0, subst (λ b. g.announced p ≤ g.mark b p) (sym here) marked, all_in object sizes g p s few f.sound.board is, refl),
         λ tries' stage' two'. (refl, subst (λ k. IsNamed k s) (sym f.processes) named_now),
       ))
 
+  fresh_now : (s : ℕ) (g : Board) (x : ℕ) → x ≡ current_word g.version g.current → x ≡ s → 128 * g.version ≤ s
+  fresh_now s g x is same = omega arith
+
+  -- the copy is the image
+  copy_is : (tries s : ℕ) {local : ℕ → Local} {words : List ℕ} (g : Board) (copy : List ℕ) (seen : List (Option (List ℕ))) (x : ℕ) → Found meaning o sizes me g local words → length copy ≡ buffer_words sizes
+      → IsAttemptAt object sizes g p (2 * p + l.spare) (Reading tries s copy seen) → x ≡ current_word g.version g.current → x ≡ s → copy ≡ spell g.image
+  copy_is tries s g copy seen x f wide was is same =
+      let now = was.1 (fresh_now s g x is same) in
+      same_list copy (spell g.image) (wide ∙ sym (spell-length sizes g.image f.sound.board.rows)) now.1.0
+
+  good_copy : (tries s : ℕ) {local : ℕ → Local} {words : List ℕ} (g : Board) (copy : List ℕ) (seen : List (Option (List ℕ))) (x : ℕ) → Found meaning o sizes me g local words → length copy ≡ buffer_words sizes
+      → IsAttemptAt object sizes g p (2 * p + l.spare) (Reading tries s copy seen) → x ≡ current_word g.version g.current → x ≡ s → IsGood (meaning o) sizes (read_image sizes copy)
+  good_copy tries s g copy seen x f wide was is same =
+      let image : read_image sizes copy ≡ g.image = ap (read_image sizes) (copy_is tries s g copy seen x f wide was is same) ∙ read-spell sizes g.image f.sound.board.rows in
+      subst (IsGood (meaning o) sizes) (sym image) (
+        f.widths,
+        (map (λ c. c.inv) g.atomic.agreed, sym (reached_from object _ g.atomic.agreed) ∙ ap (λ (i : Image). i.state) f.sound.board.image),
+        λ r inside. (let a = f.sound.board.in_most r inside in let b = f.sound.board.room r inside in omega arith),
+      )
+
   -- S is loaded again
-  pub checks : (tries s : ℕ) → IsLooking sizes tries s sizes.processes me → IsSteady (meaning o).object (meaning o).reply
+  pub checks : (tries s : ℕ) → IsLooking sizes tries s sizes.processes me → IsAnnounced me → IsSteady (meaning o).object (meaning o).reply
       → Moves meaning o sizes id me 0 (λ x. x) nothing (λ found me'. (q : O) → me.0.object ≡ Some q → HasChecked (meaning q) st me found me')
-  checks tries s looking steady = load_law meaning o sizes id me 0 (λ found me'. (q : O) → me.0.object ≡ Some q → HasChecked (meaning q) st me found me') single (λ g local words f.
+  checks tries s looking announced_is steady = load_law meaning o sizes id me 0 (λ found me'. (q : O) → me.0.object ≡ Some q → HasChecked (meaning q) st me found me') single (λ g local words f.
       let x = slice_index words 0 in
       let copy = looking.0 in
       let seen = looking.1.0 in
@@ -329,7 +381,7 @@ module _ {O : Type 0} (meaning : O → Meaning) (o : O) (sizes : Sizes) (id : �
       let wide : length copy ≡ buffer_words sizes = looking.1.2 in
       let long : length seen ≡ sizes.processes = looking.1.3 in
       let full : AreWhole sizes seen = looking.1.4 in
-      let call : IsOpen object g p l.inv l.own = call_at object sizes g p l (Reading tries s copy seen) f.mine stage in
+      let call : IsOpen object g p l.inv l.own = attempted_open g announced_is (call_at object sizes g p l (Reading tries s copy seen) f.mine stage) in
       let was = attempt_at object sizes g p l (Reading tries s copy seen) f.mine stage in
       let is : x ≡ current_word g.version g.current = f.words_are.current in (
         goes l (checked sizes p (length l.own + 1) tries s copy seen x),
@@ -341,35 +393,15 @@ module _ {O : Type 0} (meaning : O → Meaning) (o : O) (sizes : Sizes) (id : �
               λ k. (with_local me.0 (goes l (checked (sym f.processes k) p (length l.own + 1) (a k) (b k) (c k) (d k) x)), me.1),
               λ same. subst (λ q. IsGood (meaning q) me.0.known.sizes (read_image me.0.known.sizes copy')) object_same
                   (subst (λ k. IsGood (meaning o) k (read_image k copy')) (sym f.processes)
-                  (subst (λ ws. IsGood (meaning o) sizes (read_image sizes ws)) c (good g copy seen x f wide was is (same ∙ sym b)))),
+                  (subst (λ ws. IsGood (meaning o) sizes (read_image sizes ws)) c (good_copy tries s g copy seen x f wide was is (same ∙ sym b)))),
             ),
       )) where
-        fresh_now : (g : Board) (x : ℕ) → x ≡ current_word g.version g.current → x ≡ s → 128 * g.version ≤ s
-        fresh_now g x is same = omega arith
-
-        -- the copy is the image
-        image_is : {local : ℕ → Local} {words : List ℕ} (g : Board) (copy : List ℕ) (seen : List (Option (List ℕ))) (x : ℕ) → Found meaning o sizes me g local words → length copy ≡ buffer_words sizes
-            → IsAttemptAt object sizes g p (2 * p + l.spare) (Reading tries s copy seen) → x ≡ current_word g.version g.current → x ≡ s → copy ≡ spell g.image
-        image_is g copy seen x f wide was is same =
-            let now = was.1 (fresh_now g x is same) in
-            same_list copy (spell g.image) (wide ∙ sym (spell-length sizes g.image f.sound.board.rows)) now.1.0
-
-        good : {local : ℕ → Local} {words : List ℕ} (g : Board) (copy : List ℕ) (seen : List (Option (List ℕ))) (x : ℕ) → Found meaning o sizes me g local words → length copy ≡ buffer_words sizes
-            → IsAttemptAt object sizes g p (2 * p + l.spare) (Reading tries s copy seen) → x ≡ current_word g.version g.current → x ≡ s → IsGood (meaning o) sizes (read_image sizes copy)
-        good g copy seen x f wide was is same =
-            let image : read_image sizes copy ≡ g.image = ap (read_image sizes) (image_is g copy seen x f wide was is same) ∙ read-spell sizes g.image f.sound.board.rows in
-            subst (IsGood (meaning o) sizes) (sym image) (
-              f.widths,
-              (map (λ c. c.inv) g.atomic.agreed, sym (reached_from object _ g.atomic.agreed) ∙ ap (λ (i : Image). i.state) f.sound.board.image),
-              λ r inside. (let a = f.sound.board.in_most r inside in let b = f.sound.board.room r inside in omega arith),
-            )
-
         by_in : {local : ℕ → Local} {words : List ℕ} (g : Board) (copy : List ℕ) (seen : List (Option (List ℕ))) (x : ℕ) → Found meaning o sizes me g local words → length copy ≡ buffer_words sizes → length seen ≡ sizes.processes → AreWhole sizes seen
             → IsOpen object g p l.inv l.own → IsAttemptAt object sizes g p (2 * p + l.spare) (Reading tries s copy seen) → x ≡ current_word g.version g.current → x ≡ s
             → (b : Bool) → (slice_index copy p == length l.own + 1) ≡ b → IsAt object sizes g p (goes l (if b then Last s [] else Writing tries s (read_image sizes copy) seen))
         by_in g copy seen x f wide long full call was is same true e =
             let mine : slice_index copy p ≡ length l.own + 1 = (let h : (slice_index copy p == length l.own + 1) ≡ true = e in grind (arith, nat_tests, h)) in
-            let copied = image_is g copy seen x f wide was is same in
+            let copied = copy_is tries s g copy seen x f wide was is same in
             let in_now : slice_index copy p ≡ in_of g p = ap (λ ws. slice_index ws p) copied ∙ spell-applied sizes g.image f.sound.board.rows p f.inside in
             let marked = f.sound.board.at_current p f.inside in
             let announced = call.announced in
@@ -381,23 +413,21 @@ module _ {O : Type 0} (meaning : O → Meaning) (o : O) (sizes : Sizes) (id : �
               refl,
             )
         by_in g copy seen x f wide long full call was is same false e =
-            let copied = image_is g copy seen x f wide was is same in
+            let copied = copy_is tries s g copy seen x f wide was is same in
             let image : read_image sizes copy ≡ g.image = ap (read_image sizes) copied ∙ read-spell sizes g.image f.sound.board.rows in
-            let now = was.1 (fresh_now g x is same) in
+            let now = was.1 (fresh_now s g x is same) in
             let apart : slice_index copy p ≢ length l.own + 1 = (λ own. let h : (slice_index copy p == length l.own + 1) ≡ false = e in grind (arith, nat_tests, h, own)) in
             let in_now : slice_index copy p ≡ in_of g p = ap (λ ws. slice_index ws p) copied ∙ spell-applied sizes g.image f.sound.board.rows p f.inside in
             let not_in : in_of g p < g.announced p = (let a = call.announced in let m = f.sound.board.in_most p f.inside in omega (arith, apart)) in
-            at_next g (Writing tries s (read_image sizes copy) seen) f.mine call (
+            let steadily = subst (IsSteady object) f.widths.1 steady in
+            let mine : IsPending g p → g.announced p ≤ g.mark (2 * p + l.spare) p → ⊥ = (λ waits least. let m = f.sound.board.marked (2 * p + l.spare) p f.inside in omega arith) in
+            at_next g (Writing tries s (read_image sizes copy) seen) f.mine (subst (IsAttempted object sizes g p l) (sym announced_is) call) (
               was.0,
-              (λ fresh. (now.0, (image, long, now.1.1, not_in, full))),
-              subst (λ i. MayBeWritten object sizes g (2 * p + l.spare) (with_seen object i 0 seen)) (sym image) (record {
-                rows = rows-seen object sizes (subst (IsSteady object) f.widths.1 steady) (width_is object sizes (subst (IsSteady object) f.widths.1 steady) g.atomic.agreed g.image f.sound.board.image f.sound.board.rows) g.image 0 seen f.sound.board.rows;
-                replies = λ r inside least. ap (reply_of (with_seen object g.image 0 seen)) (let z : r ≡ 0 + r = omega arith in z)
-                    ∙ reply-seen object g.image 0 seen r (elim (due_cases seen r) [
-                      | inl none ↦ none
-                      | inr some ↦ absurd (let due = (now.1.1.told r some.0 some.2).0 in let m = f.sound.board.marked (2 * p + l.spare) r inside in omega arith)
-                    ]) ∙ ap (reply_of g.image) (let z : 0 + r ≡ r = omega arith in z);
-              }),
+              (λ fresh. (now.0, (image, long, now.1.1, (λ waits. not_in), full))),
+              subst (λ i. MayBeWritten object sizes g (2 * p + l.spare) (with_seen object i 0 seen)) (sym image)
+                  (may_write object sizes steadily g p (2 * p + l.spare) f.sound.board seen seen now.1.1 (λ r apart. refl) mine),
+              λ inv. subst (λ i. MayBeWritten object sizes g (2 * p + l.spare) (with_seen object i 0 (slice_set seen p (Some inv)))) (sym image)
+                  (may_write object sizes steadily g p (2 * p + l.spare) f.sound.board seen (slice_set seen p (Some inv)) now.1.1 (λ r apart. due-set seen p r (Some inv) apart) mine),
             )
 
         checked_at : {local : ℕ → Local} {words : List ℕ} (g : Board) (copy : List ℕ) (seen : List (Option (List ℕ))) (x : ℕ) → Found meaning o sizes me g local words → length copy ≡ buffer_words sizes → length seen ≡ sizes.processes → AreWhole sizes seen
@@ -407,7 +437,7 @@ module _ {O : Type 0} (meaning : O → Meaning) (o : O) (sizes : Sizes) (id : �
         checked_at g copy seen x f wide long full call was is false e =
             let apart : x ≢ s = (λ same. let h : (x == s) ≡ false = e in grind (arith, nat_tests, h, same)) in
             subst (λ b. IsAt object sizes g p (goes l (if b then (if slice_index copy p == length l.own + 1 then Last s [] else Writing tries s (read_image sizes copy) seen) else Ready (tries + 1)))) (sym e)
-            (at_next g (Ready (tries + 1)) f.mine call (elim (lt_cases s (128 * g.version)) [
+            (at_next g (Ready (tries + 1)) f.mine (subst (IsAttempted object sizes g p l) (sym announced_is) call) (elim (lt_cases s (128 * g.version)) [
               | inl old ↦ (let a = was.0 in let b = old.0 in omega arith)
               | inr new ↦ absurd (apart (is ∙ sym (was.1 new.0).0))
             ]))
@@ -415,6 +445,88 @@ module _ {O : Type 0} (meaning : O → Meaning) (o : O) (sizes : Sizes) (id : �
             let same : x ≡ s = (let h : (x == s) ≡ true = e in grind (arith, nat_tests, h)) in
             subst (λ b. IsAt object sizes g p (goes l (if b then (if slice_index copy p == length l.own + 1 then Last s [] else Writing tries s (read_image sizes copy) seen) else Ready (tries + 1)))) (sym e)
             (by_in {local = local} {words = words} g copy seen x f wide long full call was is same (slice_index copy p == length l.own + 1) refl)
+
+  -- a direct attempt begins
+  pub begins_own : stage_of me ≡ Idle [] → Moves meaning o sizes id me 0 (λ x. x) nothing (λ found me'. HasBegun st me found me')
+  begins_own stage = load_law meaning o sizes id me 0 (λ found me'. HasBegun st me found me') single (λ g local words f.
+      let s = slice_index words 0 in
+      let is : s ≡ current_word g.version g.current = f.words_are.current in
+      let here : buffer_in s ≡ g.current = ap buffer_in is ∙ buffer_of g.version g.current (let c = f.sound.board.current in omega arith) in
+      let since : g.since p ≤ g.version = f.sound.board.begun p f.inside in
+      let copy = begun sizes p l.held s in (
+        begins_directly l s (begun sizes p l.held s),
+        record {
+          spare = f.mine.spare;
+          apart = f.mine.apart;
+          held = f.mine.held;
+          call = (call_at object sizes g p l (Idle []) f.mine stage).0;
+          attempt = (
+            omega arith,
+            λ fresh. (
+              is,
+              (
+                copied_own g s f.mine f.sound.board here (buffer_in s / 2 == p) refl,
+                record {
+                  told = λ r inv e. absurd (let h = slice_get_within [] r (Some inv) e in omega arith);
+                  caught = λ r below. absurd (omega arith);
+                },
+              ),
+            ),
+          );
+          ordered = f.mine.ordered;
+        },
+        λ stage'. (
+          (λ i. (with_local me.0 (begins_directly l s (begun (sym f.processes i) p l.held s)), me.1)),
+          subst (λ k. IsNamed k s) (sym f.processes) (subst (IsNamed sizes) (sym is) (named object sizes g few f.sound.board)),
+        ),
+      ))
+
+  -- S is loaded again in a direct attempt
+  pub checks_own : (s : ℕ) → IsLooking sizes 0 s sizes.processes me → IsDirect me → IsSteady (meaning o).object (meaning o).reply
+      → Moves meaning o sizes id me 0 (λ x. x) nothing (λ found me'. (q : O) → me.0.object ≡ Some q → HasCheckedOwn (meaning q) st me found me')
+  checks_own s looking direct steady = load_law meaning o sizes id me 0 (λ found me'. (q : O) → me.0.object ≡ Some q → HasCheckedOwn (meaning q) st me found me') single (λ g local words f.
+      let x = slice_index words 0 in
+      let copy = looking.0 in
+      let seen = looking.1.0 in
+      let stage : l.stage ≡ Reading 0 s copy seen = looking.1.1 in
+      let wide : length copy ≡ buffer_words sizes = looking.1.2 in
+      let long : length seen ≡ sizes.processes = looking.1.3 in
+      let full : AreWhole sizes seen = looking.1.4 in
+      let call : IsAttempted object sizes g p l l.direct = call_at object sizes g p l (Reading 0 s copy seen) f.mine stage in
+      let was = attempt_at object sizes g p l (Reading 0 s copy seen) f.mine stage in
+      let is : x ≡ current_word g.version g.current = f.words_are.current in (
+        goes l (checked_own sizes s copy seen x),
+        by_own {local = local} {words = words} g copy seen x f wide long full call was is (x == s) refl,
+        λ q object_is s' copy' seen' stage'.
+            let object_same : o ≡ q = (let e : Some o ≡ Some q = sym f.object ∙ object_is in cc) in
+            let e : Reading 0 s copy seen ≡ Reading 0 s' copy' seen' = sym stage ∙ stage' in
+            let b : s ≡ s' = cc in let c : copy ≡ copy' = cc in let d : seen ≡ seen' = cc in (
+              λ k. (with_local me.0 (goes l (checked_own (sym f.processes k) (b k) (c k) (d k) x)), me.1),
+              λ same. subst (λ q. IsGood (meaning q) me.0.known.sizes (read_image me.0.known.sizes copy')) object_same
+                  (subst (λ k. IsGood (meaning o) k (read_image k copy')) (sym f.processes)
+                  (subst (λ ws. IsGood (meaning o) sizes (read_image sizes ws)) c (good_copy 0 s g copy seen x f wide was is (same ∙ sym b)))),
+            ),
+      )) where
+        by_own : {local : ℕ → Local} {words : List ℕ} (g : Board) (copy : List ℕ) (seen : List (Option (List ℕ))) (x : ℕ) → Found meaning o sizes me g local words → length copy ≡ buffer_words sizes → length seen ≡ sizes.processes → AreWhole sizes seen
+            → IsAttempted object sizes g p l l.direct → IsAttemptAt object sizes g p (2 * p + l.spare) (Reading 0 s copy seen) → x ≡ current_word g.version g.current
+            → (b : Bool) → (x == s) ≡ b → IsAt object sizes g p (goes l (if b then Writing 0 s (read_image sizes copy) seen else Idle []))
+        by_own g copy seen x f wide long full call was is false e = at_next g (Idle []) f.mine (attempted_closed g direct call, refl) tt
+        by_own g copy seen x f wide long full call was is true e =
+            let same : x ≡ s = (let h : (x == s) ≡ true = e in grind (arith, nat_tests, h)) in
+            let copied = copy_is 0 s g copy seen x f wide was is same in
+            let image : read_image sizes copy ≡ g.image = ap (read_image sizes) copied ∙ read-spell sizes g.image f.sound.board.rows in
+            let now = was.1 (omega arith) in
+            let closed = attempted_closed g direct call in
+            let steadily = subst (IsSteady object) f.widths.1 steady in
+            let mine : IsPending g p → g.announced p ≤ g.mark (2 * p + l.spare) p → ⊥ = (λ waits least. let e : None ≡ Some waits.0 = sym closed.none_open ∙ waits.1 in absurd cc) in
+            at_next g (Writing 0 s (read_image sizes copy) seen) f.mine call (
+              was.0,
+              (λ fresh. (now.0, (image, long, now.1.1, (λ waits. let e : None ≡ Some waits.0 = sym closed.none_open ∙ waits.1 in absurd cc), full))),
+              subst (λ i. MayBeWritten object sizes g (2 * p + l.spare) (with_seen object i 0 seen)) (sym image)
+                  (may_write object sizes steadily g p (2 * p + l.spare) f.sound.board seen seen now.1.1 (λ r apart. refl) mine),
+              λ inv. subst (λ i. MayBeWritten object sizes g (2 * p + l.spare) (with_seen object i 0 (slice_set seen p (Some inv)))) (sym image)
+                  (may_write object sizes steadily g p (2 * p + l.spare) f.sound.board seen (slice_set seen p (Some inv)) now.1.1 (λ r apart. due-set seen p r (Some inv) apart) mine),
+            )
 
   -- S is loaded between calls
   pub follows_on : stage_of me ≡ Idle [] → Moves meaning o sizes id me 0 (λ x. x) nothing (λ found me'. HasFollowed st me found me')

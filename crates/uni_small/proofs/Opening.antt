@@ -115,9 +115,12 @@ module _ (object : Sequential (List ℕ) (List ℕ) (List ℕ)) (sizes : Sizes) 
     exact = λ i below. refl;
     marked = λ b r below. omega arith;
     at_current = λ r below. (let z = zeros sizes.processes r in omega arith);
-    kept = λ b r k below small inside least. spell-reply sizes (first_image object sizes) rows r k small inside;
+    kept = λ b r k below small inside waits least. spell-reply sizes (first_image object sizes) rows r k small inside;
     arguments = λ r below. length-replicate sizes.invocation 0;
     in_most = λ r below. (let z = zeros sizes.processes r in omega arith);
+    told_most = λ r below. omega arith;
+    told_due = λ r below due. absurd (let z = zeros sizes.processes r in omega (arith, due));
+    begun = λ r below. omega arith;
     soon = λ r below late. absurd (omega arith);
     versions = omega arith;
     room = λ r below. omega arith;

@@ -1,5 +1,5 @@
 -- The load of the reply, by which a call returns.
-use Rattle.uni_small.proofs.Vocabulary.{AcceptsAll-append, Act, AreWords, Atomic, Board, HasLoaded, HasReplied, HasTaken, Invoke, Invoked, IsBeginning, IsLoading, IsOpen, Last, List, Local, Me, Meaning, Moves, None, Respond, Returned, Seen, Sequential, Sizes, Some, StandsIn, Step, View, [], ap, append_assoc, arith, at_start, buffer_in, buffer_word, ending, ends, goes, in_of, inl, inr, length, length-append, lt_cases, map, nothing, plain, refl, reply_of, reply_place, response_at, returns, sequential_acts, set-get_or, set_at, set_at_elsewhere, set_at_same, slice_index, stage_of, subst, sym, version_in, with_local, ℕ, ◌*◌, ◌++◌, ◌+◌, ◌<◌, ◌∙◌, ◌∷◌, ◌≡◌, ◌≤◌}
+use Rattle.uni_small.proofs.Vocabulary.{AcceptsAll-append, Act, AreWords, Atomic, Board, HasLoaded, HasReplied, HasTaken, Invoke, Invoked, IsBeginning, IsLoading, IsOpen, IsPending, Last, List, Local, Me, Meaning, Moves, None, Respond, Returned, Seen, Sequential, Sizes, Some, StandsIn, Step, View, [], ap, append_assoc, arith, at_start, buffer_in, buffer_word, ending, ends, goes, in_of, inl, inr, length, length-append, lt_cases, map, nothing, plain, refl, reply_of, reply_place, response_at, returns, sequential_acts, set-get_or, set_at, set_at-cases, set_at_elsewhere, set_at_same, slice_index, some, stage_of, subst, sym, version_in, with_local, ℕ, ◌*◌, ◌++◌, ◌+◌, ◌<◌, ◌∙◌, ◌∷◌, ◌≡◌, ◌≤◌}
 use Rattle.uni_small.proofs.Frame.{Found, load_law, sound_with, step_law}
 use Rattle.uni_small.proofs.Rows.{begins_more, begins_whole, later}
 use Rattle.uni_small.proofs.Lists.{get_snoc}
@@ -23,11 +23,12 @@ module _ {O : Type 0} (meaning : O → Meaning) (o : O) (sizes : Sizes) (id : �
       → IsBeginning (loaded ++ slice_index words (buffer_word sizes (buffer_in s) (reply_place sizes p (length loaded))) ∷ []) (reply_of g.image p)
   reply_found s loaded stage room named {g} {local} {words} f =
       let k = length loaded in
+      let call : IsOpen object g p l.inv l.own = call_at object sizes g p l (Last s loaded) f.mine stage in
       let was = attempt_at object sizes g p l (Last s loaded) f.mine stage in
       let b = f.sound.board in
       let found = f.words_are.buffer (buffer_in s) (reply_place sizes p (length loaded)) named (let i = f.inside in let h = later p sizes.processes sizes.reply i in omega arith) in
       begins_more loaded (reply_of g.image p) was.3 (let r = b.rows.replies p f.inside in omega arith) (slice_index words (buffer_word sizes (buffer_in s) (reply_place sizes p (length loaded))))
-      (found ∙ b.kept (buffer_in s) p (length loaded) named f.inside room was.1)
+      (found ∙ b.kept (buffer_in s) p (length loaded) named f.inside room (record { process = p; nth = length l.own; inv = l.inv }, call.is_open) was.1)
 
   -- a word of it, of which more are to come
   pub loads : (s k : ℕ) → IsLoading s k me → k < sizes.reply → buffer_in s < 2 * sizes.processes
@@ -77,7 +78,11 @@ module _ {O : Type 0} (meaning : O → Meaning) (o : O) (sizes : Sizes) (id : �
       } in
       let atomic' : Atomic (List ℕ) (List ℕ) = record g.atomic { open_call = set_at g.atomic.open_call p None } in
       let acts' : List (Act (List ℕ) (List ℕ)) = g.acts ++ Respond p (length l.own) x ∷ [] in
-      let g' : Board = quiet object sizes g g.announced g.argument g.since g.buffer atomic' acts' in
+      let g' : Board = quiet object sizes g g.told g.announced g.argument g.since g.buffer atomic' acts' in
+      let pending_was : (r : ℕ) → IsPending g' r → IsPending g r = (λ r w. elim (set_at-cases g.atomic.open_call p None r) [
+        | inl here ↦ absurd (let e : None ≡ Some w.0 = sym here.1 ∙ w.1 in cc)
+        | inr other ↦ (w.0, sym other.1 ∙ w.1)
+      ]) in
       record {
         board = g';
         local' = returns l s x;
@@ -89,9 +94,12 @@ module _ {O : Type 0} (meaning : O → Meaning) (o : O) (sizes : Sizes) (id : �
               exact = b.exact;
               marked = b.marked;
               at_current = b.at_current;
-              kept = b.kept;
+              kept = λ d r i inside below small w least. b.kept d r i inside below small (pending_was r w) least;
               arguments = b.arguments;
               in_most = b.in_most;
+              told_most = b.told_most;
+              told_due = b.told_due;
+              begun = b.begun;
               soon = b.soon;
               versions = b.versions;
               room = b.room;
@@ -114,14 +122,14 @@ module _ {O : Type 0} (meaning : O → Meaning) (o : O) (sizes : Sizes) (id : �
                 refl,
               );
             })
-            (λ q inside apart h. at_stays object sizes g g.announced g.argument g.since g.buffer atomic' acts' q (local q)
+            (λ q inside apart h. at_stays object sizes g g.told g.announced g.argument g.since g.buffer atomic' acts' q (local q)
             (record {
               since = refl;
               seen = λ seen k. record { told = k.told; caught = k.caught };
               announced = refl;
               argument = refl;
               buffer = λ which i either. refl;
-              marked = λ r inside m. m;
+              marked = λ r inside w m. (pending_was r w, m);
               is_open = set_at_elsewhere g.atomic.open_call p None q apart;
               next = refl;
               agreed = refl;

@@ -1,10 +1,11 @@
 -- The word steps that store.
-use Rattle.uni_small.proofs.Vocabulary.{AcceptsAll-append, Act, AreHeld, Atomic, Board, HasAnnounced, HasStored, HasWritten, Idle, Invoke, IsAttemptAt, IsBeginning, IsCallAt, IsClosed, IsOpen, IsStoring, IsWriting, List, Local, Me, Meaning, Moves, Seen, Sequential, Sizes, Some, Step, View, Writing, [], announce_word, announces, ap, append-nil, argument_word, arith, at_start, begins, buffer_word, buffer_words, due_at, get_or-set_other, get_or-set_same, goes, held_place, in_of, inl, inr, length, length-set, most_calls, nothing, number_cases, refl, reply_place, set_at, set_at-cases, set_at_elsewhere, set_at_same, slice_index, slice_set, spell, stage_of, subst, sym, with_local, with_seen, wrote, ℕ, ◌*◌, ◌++◌, ◌+◌, ◌<◌, ◌∙◌, ◌∷◌, ◌≡◌, ◌≢◌, ◌≤◌}
+use Rattle.uni_small.proofs.Vocabulary.{AcceptsAll-append, Act, AreHeld, Atomic, Board, Bool, HasAnnounced, HasStored, HasWritten, Idle, Invoke, IsAttemptAt, IsAttempted, IsBeginning, IsCallAt, IsClosed, IsOpen, IsStoring, IsWriting, List, Local, MayBeWritten, Me, Meaning, Moves, Option, Seen, Sequential, Sizes, Some, Step, View, Writing, [], announce_word, announces, ap, append-nil, argument_word, arith, at_start, begins, buffer_word, buffer_words, due_at, false, get_or-set_other, get_or-set_same, goes, held_place, in_of, inl, inr, length, length-set, most_calls, nothing, number_cases, refl, reply_place, set_at, set_at-cases, set_at_elsewhere, set_at_same, slice_index, slice_set, spell, stage_of, subst, sym, true, with_local, with_seen, wrote, ℕ, ◌*◌, ◌++◌, ◌+◌, ◌<◌, ◌∙◌, ◌∷◌, ◌≡◌, ◌≢◌, ◌≤◌}
 use Rattle.uni_small.proofs.Frame.{step_law, sound_with}
 use Rattle.uni_small.proofs.Images.{spell-reply}
 use Rattle.uni_small.proofs.Loads.{call_at, attempt_at}
 use Rattle.uni_small.proofs.Acts.{invoked_other, invoked_own}
 use Rattle.uni_small.proofs.Others.{quiet, at_stays}
+use Rattle.uni_small.proofs.Beginning.{begun_board, begun_sound}
 use Rattle.uni_small.proofs.Rows.{begins_set, begins_whole}
 use Rattle.uni_small.proofs.Words.{held_apart, held_inside, words_announced, words_argument, words_buffer}
 
@@ -69,6 +70,9 @@ module _ {O : Type 0} (meaning : O → Meaning) (o : O) (sizes : Sizes) (id : �
               marked = b.marked;
               at_current = b.at_current;
               kept = b.kept;
+              told_most = b.told_most;
+              told_due = b.told_due;
+              begun = b.begun;
               arguments = λ r inside. elim (set_at-cases g.argument p (slice_set (g.argument p) k x) r) [
                 | inl here ↦ ap (λ (ws : List ℕ). length ws) here.1 ∙ length-set (g.argument p) k x ∙ whole
                 | inr other ↦ ap (λ (ws : List ℕ). length ws) other.1 ∙ b.arguments r inside
@@ -83,7 +87,7 @@ module _ {O : Type 0} (meaning : O → Meaning) (o : O) (sizes : Sizes) (id : �
               start = b.start;
               history = b.history;
             })
-            (λ q inside apart h. at_stays object sizes g g.announced argument' g.since g.buffer g.atomic g.acts q (local q)
+            (λ q inside apart h. at_stays object sizes g g.told g.announced argument' g.since g.buffer g.atomic g.acts q (local q)
             (record {
               since = refl;
               seen = λ seen known. record {
@@ -94,7 +98,7 @@ module _ {O : Type 0} (meaning : O → Meaning) (o : O) (sizes : Sizes) (id : �
               announced = refl;
               argument = set_at_elsewhere g.argument p (slice_set (g.argument p) k x) q apart;
               buffer = λ which i either. refl;
-              marked = λ r inside m. m;
+              marked = λ r inside w m. (w, m);
               is_open = refl;
               next = refl;
               agreed = refl;
@@ -120,101 +124,12 @@ module _ {O : Type 0} (meaning : O → Meaning) (o : O) (sizes : Sizes) (id : �
       → Moves meaning o sizes id me (announce_word p) (λ x. number) (begins l p inv) (λ found me'. HasAnnounced st me number me')
   announced number inv is few stage long = step_law meaning o sizes id me (announce_word p) (λ x. number) (begins l p inv) (λ found me'. HasAnnounced st me number me') single (λ g local words f fits.
       let call = call_at object sizes g p l (Idle inv) f.mine stage in
-      let closed : IsClosed g p l.own = call.0 in
-      let b = f.sound.board in
-      let full : g.announced p ≡ in_of g p = closed.announced ∙ sym closed.in_is in
-      let announced' : ℕ → ℕ = set_at g.announced p number in
-      let atomic' : Atomic (List ℕ) (List ℕ) = record g.atomic {
-        open_call = set_at g.atomic.open_call p (Some (record { process = p; nth = length l.own; inv = inv }));
-        next_nth = set_at g.atomic.next_nth p (length l.own + 1);
-      } in
-      let since' : ℕ → ℕ = set_at g.since p g.version in
-      let acts' : List (Act (List ℕ) (List ℕ)) = g.acts ++ Invoke p (length l.own) inv ∷ [] in
-      let g' : Board = quiet object sizes g announced' g.argument since' g.buffer atomic' acts' in
+      let stored : g.argument p ≡ inv = begins_whole inv (g.argument p) call.1 (long ∙ sym (f.sound.board.arguments p f.inside)) in
       record {
-        board = g';
+        board = begun_board object sizes g local f.sound p f.inside l f.mine call.0 inv long g.argument stored (λ q apart. refl) number is few;
         local' = announces l inv;
-        sound = sound_with object sizes g g' local p (announces l inv) f.sound
-            (record {
-              current = b.current;
-              image = b.image;
-              rows = b.rows;
-              exact = b.exact;
-              marked = b.marked;
-              at_current = b.at_current;
-              kept = λ d r k inside below room least. elim (set_at-cases g.announced p number r) [
-                | inl here ↦ absurd (let m = b.marked d r below in let a : in_of g r ≡ in_of g p = ap (in_of g) here.0 in let c = closed.in_is in let v = here.1 in omega arith)
-                | inr other ↦ b.kept d r k inside below room (subst (λ x. x ≤ g.mark d r) other.1 least)
-              ];
-              arguments = b.arguments;
-              in_most = λ r inside. elim (set_at-cases g.announced p number r) [
-                | inl here ↦ (let a : in_of g r ≡ in_of g p = ap (in_of g) here.0 in let c = closed.in_is in let v = here.1 in omega arith)
-                | inr other ↦ subst (λ x. in_of g r ≤ x) (sym other.1) (b.in_most r inside)
-              ];
-              soon = λ r inside late. elim (number_cases r p) [
-                | inl here ↦ absurd (let v : since' r ≡ g.version = ap since' here.0 ∙ set_at_same g.since p g.version in omega arith)
-                | inr other ↦ subst (λ x. x ≤ in_of g r) (sym (set_at_elsewhere g.announced p number r other.0))
-                    (b.soon r inside (subst (λ x. x + 2 ≤ g.version) (set_at_elsewhere g.since p g.version r other.0) late))
-              ];
-              versions = b.versions;
-              room = λ r inside. elim (set_at-cases g.announced p number r) [
-                | inl here ↦ subst (λ x. x ≤ most_calls) (sym here.1) few
-                | inr other ↦ subst (λ x. x ≤ most_calls) (sym other.1) (b.room r inside)
-              ];
-              agreed = b.agreed;
-              counted = b.counted;
-              rising = b.rising;
-              start = b.start;
-              history = AcceptsAll-append object (at_start object.initial) g.atomic atomic' g.acts (Invoke p (length l.own) inv ∷ []) b.history
-                  (atomic', (closed.none_open, closed.next, refl), refl);
-            })
-            (λ q inside apart h. at_stays object sizes g announced' g.argument since' g.buffer atomic' acts' q (local q)
-            (record {
-              since = set_at_elsewhere g.since p g.version q apart;
-              seen = λ seen k. record {
-                told = λ r i at. let t = k.told r i at in
-                    (set_at_elsewhere g.announced p number r (λ same. let a : g.announced r ≡ g.announced p = ap g.announced same in let c : in_of g r ≡ in_of g p = ap (in_of g) same in omega (arith, t.0)) ∙ t.0, t.1);
-                caught = λ r below why. elim (number_cases r p) [
-                  | inl here ↦ absurd (elim why [
-                    | inl own ↦ apart (sym own ∙ here.0)
-                    | inr late ↦ (let v : since' r ≡ g.version = ap since' here.0 ∙ set_at_same g.since p g.version in omega arith)
-                  ])
-                  | inr other ↦ subst (λ x. x ≤ in_of g r + due_at seen r) (sym (set_at_elsewhere g.announced p number r other.0))
-                      (k.caught r below (elim why [
-                        | inl own ↦ inl own
-                        | inr late ↦ inr (subst (λ x. x < g.version) (set_at_elsewhere g.since p g.version r other.0) late)
-                      ]))
-                ];
-              };
-              announced = set_at_elsewhere g.announced p number q apart;
-              argument = refl;
-              buffer = λ which i either. refl;
-              marked = λ r inside m. elim (set_at-cases g.announced p number r) [
-                | inl here ↦ (let a : g.announced r ≡ g.announced p = ap g.announced here.0 in let c = closed.announced in let v = here.1 in omega arith)
-                | inr other ↦ subst (λ x. x ≤ g.mark (2 * q + (local q).spare) r) other.1 m
-              ];
-              is_open = set_at_elsewhere g.atomic.open_call p _ q apart;
-              next = set_at_elsewhere g.atomic.next_nth p _ q apart;
-              agreed = refl;
-              acts = invoked_other q p (length l.own) inv g.acts apart;
-            }) h)
-            (record {
-              spare = f.mine.spare;
-              apart = f.mine.apart;
-              held = record { long = f.mine.held.long; words = f.mine.held.words };
-              call = record {
-                is_open = set_at_same g.atomic.open_call p _;
-                next = set_at_same g.atomic.next_nth p _;
-                announced = set_at_same g.announced p number ∙ is;
-                argument = begins_whole inv (g.argument p) call.1 (long ∙ sym (b.arguments p f.inside));
-                in_least = (let c = closed.in_is in omega arith);
-                taken = λ more. absurd (let c = closed.in_is in omega arith);
-                acts = invoked_own p (length l.own) inv g.acts ∙ ap (λ xs. xs ++ Invoke p (length l.own) inv ∷ []) closed.acts;
-              };
-              attempt = (let v = set_at_same g.since p g.version in omega arith);
-              ordered = f.mine.ordered;
-            });
-        words_are = words_announced sizes g g' words f.words_are refl refl p number f.inside refl refl refl;
+        sound = begun_sound object sizes g local f.sound p f.inside l f.mine call.0 inv long g.argument stored (λ q apart. refl) number is few;
+        words_are = words_announced sizes g (begun_board object sizes g local f.sound p f.inside l f.mine call.0 inv long g.argument stored (λ q apart. refl) number is few) words f.words_are refl refl p number f.inside refl refl refl;
         said = λ inv' stage'. (let same : inv ≡ inv' = (let e : Idle inv ≡ Idle inv' = sym stage ∙ stage' in cc) in λ i. (with_local me.0 (announces l (same i)), me.1));
         appended = refl;
       })
@@ -227,15 +142,20 @@ module _ {O : Type 0} (meaning : O → Meaning) (o : O) (sizes : Sizes) (id : �
       let s = writing.1 in
       let image = writing.2 in
       let seen = writing.3 in
-      let stage : l.stage ≡ Writing tries s image seen = writing.4 in
-      let word : x ≡ slice_index (spell (with_seen object image 0 seen)) k = writing.5 in
-      let call : IsOpen object g p l.inv l.own = call_at object sizes g p l (Writing tries s image seen) f.mine stage in
+      let all = writing.4 in
+      let stage : l.stage ≡ Writing tries s image seen = writing.5 in
+      let word : x ≡ slice_index (spell (with_seen object image 0 all)) k = writing.7 in
+      let call : IsAttempted object sizes g p l l.direct = call_at object sizes g p l (Writing tries s image seen) f.mine stage in
       let was = attempt_at object sizes g p l (Writing tries s image seen) f.mine stage in
+      let may : MayBeWritten object sizes g (2 * p + l.spare) (with_seen object image 0 all) = elim writing.6 [
+        | inl seen_alone ↦ subst (λ xs. MayBeWritten object sizes g (2 * p + l.spare) (with_seen object image 0 xs)) (sym seen_alone) was.2
+        | inr own ↦ subst (λ xs. MayBeWritten object sizes g (2 * p + l.spare) (with_seen object image 0 xs)) (sym own.1) (was.3 own.0)
+      ] in
       let mine : ℕ = 2 * p + l.spare in
       let b = f.sound.board in
       let inside_mine : 2 * p + l.spare < 2 * sizes.processes = (let i = f.inside in let c = f.mine.spare in omega arith) in
       let buffer' : ℕ → ℕ → ℕ = set_at g.buffer (2 * p + l.spare) (set_at (g.buffer (2 * p + l.spare)) k x) in
-      let g' : Board = quiet object sizes g g.announced g.argument g.since buffer' g.atomic g.acts in
+      let g' : Board = quiet object sizes g g.told g.announced g.argument g.since buffer' g.atomic g.acts in
       let other_buffer : (d i : ℕ) → d ≢ 2 * p + l.spare → buffer' d i ≡ g.buffer d i = (λ d i apart. ap (λ h. h i) (set_at_elsewhere g.buffer (2 * p + l.spare) _ d apart)) in
       let same_spot : buffer' (2 * p + l.spare) k ≡ x = ap (λ h. h k) (set_at_same g.buffer (2 * p + l.spare) _) ∙ set_at_same (g.buffer (2 * p + l.spare)) k x in
       let other_spot : (i : ℕ) → i ≢ k → buffer' (2 * p + l.spare) i ≡ g.buffer (2 * p + l.spare) i = (λ i apart. ap (λ h. h i) (set_at_same g.buffer (2 * p + l.spare) _) ∙ set_at_elsewhere (g.buffer (2 * p + l.spare)) k x i apart) in
@@ -250,16 +170,19 @@ module _ {O : Type 0} (meaning : O → Meaning) (o : O) (sizes : Sizes) (id : �
               exact = λ i below. other_buffer g.current i (λ same. f.mine.apart (sym same)) ∙ b.exact i below;
               marked = b.marked;
               at_current = b.at_current;
-              kept = λ d r i inside below small least. elim (number_cases d (2 * p + l.spare)) [
+              kept = λ d r i inside below small waits least. elim (number_cases d (2 * p + l.spare)) [
                 | inl here ↦ elim (number_cases (reply_place sizes r i) k) [
                   | inl at ↦
-                      ap (λ e. buffer' e (reply_place sizes r i)) here.0 ∙ ap (buffer' (2 * p + l.spare)) at.0 ∙ same_spot ∙ word ∙ ap (slice_index (spell (with_seen object image 0 seen))) (sym at.0)
-                      ∙ spell-reply sizes (with_seen object image 0 seen) was.2.rows r i below small ∙ ap (λ ws. slice_index ws i) (was.2.replies r below (subst (λ e. g.announced r ≤ g.mark e r) here.0 least))
-                  | inr elsewhere ↦ ap (λ e. buffer' e (reply_place sizes r i)) here.0 ∙ other_spot (reply_place sizes r i) elsewhere.0 ∙ ap (λ e. g.buffer e (reply_place sizes r i)) (sym here.0) ∙ b.kept d r i inside below small least
+                      ap (λ e. buffer' e (reply_place sizes r i)) here.0 ∙ ap (buffer' (2 * p + l.spare)) at.0 ∙ same_spot ∙ word ∙ ap (slice_index (spell (with_seen object image 0 all))) (sym at.0)
+                      ∙ spell-reply sizes (with_seen object image 0 all) may.rows r i below small ∙ ap (λ ws. slice_index ws i) (may.replies r below waits (subst (λ e. g.announced r ≤ g.mark e r) here.0 least))
+                  | inr elsewhere ↦ ap (λ e. buffer' e (reply_place sizes r i)) here.0 ∙ other_spot (reply_place sizes r i) elsewhere.0 ∙ ap (λ e. g.buffer e (reply_place sizes r i)) (sym here.0) ∙ b.kept d r i inside below small waits least
                 ]
-                | inr other ↦ other_buffer d (reply_place sizes r i) other.0 ∙ b.kept d r i inside below small least
+                | inr other ↦ other_buffer d (reply_place sizes r i) other.0 ∙ b.kept d r i inside below small waits least
               ];
               arguments = b.arguments;
+              told_most = b.told_most;
+              told_due = b.told_due;
+              begun = b.begun;
               in_most = b.in_most;
               soon = b.soon;
               versions = b.versions;
@@ -270,14 +193,14 @@ module _ {O : Type 0} (meaning : O → Meaning) (o : O) (sizes : Sizes) (id : �
               start = b.start;
               history = b.history;
             })
-            (λ q inside apart h. at_stays object sizes g g.announced g.argument g.since buffer' g.atomic g.acts q (local q)
+            (λ q inside apart h. at_stays object sizes g g.told g.announced g.argument g.since buffer' g.atomic g.acts q (local q)
             (record {
               since = refl;
               seen = λ seen k. record { told = k.told; caught = k.caught };
               announced = refl;
               argument = refl;
               buffer = λ which i either. other_buffer (2 * q + which) i (λ same. apart (let c = f.mine.spare in omega arith));
-              marked = λ r inside m. m;
+              marked = λ r inside w m. (w, m);
               is_open = refl;
               next = refl;
               agreed = refl;
@@ -287,19 +210,12 @@ module _ {O : Type 0} (meaning : O → Meaning) (o : O) (sizes : Sizes) (id : �
               spare = f.mine.spare;
               apart = f.mine.apart;
               held = held_set object sizes g g' p l.spare k x l.held f.mine.spare room other_buffer same_spot other_spot f.mine.held;
-              call = subst (IsCallAt object sizes g' p (wrote l (held_place sizes l.spare k) x)) (sym stage) (record {
-                is_open = call.is_open;
-                next = call.next;
-                announced = call.announced;
-                argument = call.argument;
-                in_least = call.in_least;
-                taken = λ full. (let t = call.taken full in record { place = t.place; there = t.there; reply_is = t.reply_is });
-                acts = call.acts;
-              });
+              call = subst (IsCallAt object sizes g' p (wrote l (held_place sizes l.spare k) x)) (sym stage) (attempted_wrote g buffer' l.direct call);
               attempt = subst (IsAttemptAt object sizes g' p (2 * p + l.spare)) (sym stage) (
                 was.0,
                 (λ fresh. let now = was.1 fresh in (now.0, (now.1.0, now.1.1, record { told = now.1.2.told; caught = now.1.2.caught }, now.1.3, now.1.4))),
                 record { rows = was.2.rows; replies = was.2.replies },
+                λ inv. record { rows = (was.3 inv).rows; replies = (was.3 inv).replies },
               );
               ordered = f.mine.ordered;
             });
@@ -309,4 +225,15 @@ module _ {O : Type 0} (meaning : O → Meaning) (o : O) (sizes : Sizes) (id : �
             let same : k ≡ j = omega arith in
             λ i. (with_local me.0 (wrote l (held_place (sym f.processes i) l.spare (same i)) x), me.1);
         appended = sym (append-nil g.acts);
-      })
+      }) where
+        attempted_wrote : (g : Board) (buffer' : ℕ → ℕ → ℕ) (direct : Bool) → IsAttempted object sizes g p l direct → IsAttempted object sizes (quiet object sizes g g.told g.announced g.argument g.since buffer' g.atomic g.acts) p l direct
+        attempted_wrote g buffer' true c = record { none_open = c.none_open; next = c.next; announced = c.announced; in_is = c.in_is; acts = c.acts }
+        attempted_wrote g buffer' false c = record {
+          is_open = c.is_open;
+          next = c.next;
+          announced = c.announced;
+          argument = c.argument;
+          in_least = c.in_least;
+          taken = λ full. (let t = c.taken full in record { place = t.place; there = t.there; reply_is = t.reply_is });
+          acts = c.acts;
+        }

@@ -1,5 +1,5 @@
 -- The names that the proofs of this crate share.
-pub use Rattle.std.proofs.Common.{get_or-drop, get_or-take, take-add, All, Bool, Contains, List, None, Option, Some, [], ap, append-nil, append_assoc, arith, cond, drop, eqb, false, flat_map, get_or-set_other, get_or-set_same, if◌then◌else◌, inl, inr, length, length-append, length-set, length-take-le, map, mul-le-mul_right, nat_eq, nat_lt, not, refl, replicate, rules, set, slice_get, slice_index, slice_index_or, slice_set, subst, suc, suc-mul, sym, take, true, zero, ℕ, ⊎_elim, ◌%◌, ◌*◌, ◌++◌, ◌+◌, ◌-◌, ◌/◌, ◌<◌, ◌==◌, ◌∙◌, ◌∷◌, ◌≡◌, ◌≢◌, ◌≤◌, ◌⊎◌}
+pub use Rattle.std.proofs.Common.{get_or-drop, get_or-take, take-add, All, Bool, Contains, List, None, Option, Some, [], ap, append-nil, append_assoc, arith, cond, drop, eqb, false, flat_map, get_or-set_other, get_or-set_same, if◌then◌else◌, inl, inr, length, length-append, length-set, length-take-le, map, mul-le-mul_right, nat_eq, nat_le, nat_lt, not, refl, replicate, rules, set, slice_get, slice_index, slice_index_or, slice_set, subst, suc, suc-mul, sym, take, true, zero, ℕ, ⊎_elim, ◌%◌, ◌*◌, ◌++◌, ◌+◌, ◌-◌, ◌/◌, ◌<◌, ◌==◌, ◌∙◌, ◌∷◌, ◌≡◌, ◌≢◌, ◌≤◌, ◌⊎◌}
 pub use Rattle.std.proofs.Math.Seq.{take-length, take-suc-set}
 pub use Rattle.std.proofs.lemmas.Grind.{get_or_default_zero}
 pub use Rattle.std.proofs.lemmas.List.{drop-append-le, drop-drop, drop-take, drop_all, drop_at, drop_more, get_or-append-add, get_or-map, get_or-replicate, get_or_append_left, length-drop, length-map, length-replicate, map-append, map_push, nil_from_length, replicate-append-replicate, same_from_push, set-get_or, take-append-drop, take_all, take_at, take_more, take_more_set, with_items_is}
@@ -23,14 +23,14 @@ pub use Rattle.uni_small.specs.Belongs.{AreBuffers, AreFirstSeats, HasInvocation
 pub use Rattle.uni_small.specs.Board.{Board, announce_word, argument_word, buffer_in, buffer_word, current_word, in_of, opened, version_in, words_before, words_of}
 pub use Rattle.uni_small.specs.Final.{IsFinal}
 pub use Rattle.uni_small.specs.Image.{AreWhole, AreWidths, HasRows, Image, IsReached, IsSteady, Meaning, buffer_words, calls_seen, due_at, first_held, first_image, held_place, image_from, joined, read_image, reply_of, reply_place, rows, spell, state_place, taken_in, with_row, with_seen}
-pub use Rattle.uni_small.specs.Invariant.{AreHeld, AreIn, HasSeen, HasTaken, IfFresh, IsAt, IsAttemptAt, IsBeginning, IsBoard, IsCallAt, IsClosed, IsOpen, IsSound, MayBeWritten, most_calls}
-pub use Rattle.uni_small.specs.Laws.{Moves, begins, ends, nothing, takes_effect}
+pub use Rattle.uni_small.specs.Invariant.{AreHeld, AreIn, HasSeen, HasTaken, IfFresh, IsAt, IsAttempted, IsAttemptAt, IsPending, IsBeginning, IsBoard, IsCallAt, IsClosed, IsOpen, IsSound, MayBeWritten, most_calls}
+pub use Rattle.uni_small.specs.Laws.{Moves, begins, ends, nothing, takes_effect, takes_effect_own}
 pub use Rattle.uni_small.specs.Order.{IsOrdered, StandsIn}
-pub use Rattle.uni_small.specs.Plays.{Goes, HasAnnounced, HasAsked, HasBrought, HasChecked, HasCopied, HasFollowed, HasLoaded, HasLooked, HasReplied, HasStarted, HasStored, HasTurned, HasWritten, IsGood, IsLeft, IsNamed, begun, brought, checked, first_alone, first_view, looked, nobody, others, own_in_view, stage_of, took_in, with_local, words_held}
+pub use Rattle.uni_small.specs.Plays.{Goes, HasAnnounced, HasAsked, HasBegun, HasBrought, HasBroughtOwn, HasChecked, HasCheckedOwn, HasCopied, HasFollowed, HasLoaded, HasLooked, HasReplied, HasStarted, HasStored, HasTurned, HasWritten, IsGood, IsLeft, IsNamed, begun, brought, brought_own, checked, checked_own, first_alone, first_view, looked, nobody, others, own_in_view, stage_of, took_in, with_local, words_held}
 pub use Rattle.uni_small.specs.Rule.{Rule}
 pub use Rattle.uni_small.specs.Shown.{AreWords, IsShown, IsTaken, ShowsBoard, Tells}
-pub use Rattle.uni_small.specs.Standing.{CallEnds, EndsWithin, GoesBy, GoesWithin, HasWrittenAll, IsAsking, IsCopying, IsEnd, IsLoading, IsLooking, IsOf, IsStoring, IsWriting, ReplyEnds, WritesWithin, attempt_steps, call_steps, end_of, local_of, went}
-pub use Rattle.uni_small.specs.View.{Local, ProcessReturned, Returned, Stage, announces, at_rest, brings, ending, goes, knows, plain, returns, wrote}
+pub use Rattle.uni_small.specs.Standing.{AreApplied, CallEnds, EndsWithin, GoesBy, GoesWithin, HasWrittenAll, HasWrittenOwn, IsAnnounced, IsDirect, IsWritten, IsAsking, IsCopying, IsEnd, IsLoading, IsLooking, IsOf, IsStoring, IsWriting, ReplyEnds, WritesWithin, attempt_steps, call_steps, end_of, local_of, went}
+pub use Rattle.uni_small.specs.View.{Local, ProcessReturned, Returned, Stage, announces, at_rest, begins_directly, brings, brings_own, ending, goes, knows, plain, returns, wrote}
 pub use Rattle.uni_small.specs.View.Stage.{Idle, Last, Reading, Ready, Writing}
 pub use Rattle.uni_small.specs.declared.rule.Setup.{Setup}
 pub use Rattle.uni_small.specs.declared.seat.Buffers.{Buffers}

@@ -56,7 +56,7 @@ module _ (sizes : Sizes) where
 
   module _ (g g' : Board) (ws : List ℕ) (are : AreWords sizes g ws) where
     -- S
-    pub words_current : g'.announced ≡ g.announced → g'.argument ≡ g.argument → g'.buffer ≡ g.buffer → (x : ℕ) → x ≡ current_word g'.version g'.current → AreWords sizes g' (slice_set ws 0 x)
+    pub words_current : g'.told ≡ g.told → g'.argument ≡ g.argument → g'.buffer ≡ g.buffer → (x : ℕ) → x ≡ current_word g'.version g'.current → AreWords sizes g' (slice_set ws 0 x)
     words_current a b c x is = record {
       wide = length-set ws 0 x ∙ are.wide;
       current = get_or-set_same ws 0 x 0 (let w = are.wide in omega arith) ∙ is;
@@ -69,11 +69,11 @@ module _ (sizes : Sizes) where
       current_same : current_word g.version g.current ≡ current_word g'.version g'.current
       current_same = λ k. current_word (sym version k) (sym current k)
 
-      pub words_announced : (p x : ℕ) → p < sizes.processes → g'.announced ≡ set_at g.announced p x → g'.argument ≡ g.argument → g'.buffer ≡ g.buffer → AreWords sizes g' (slice_set ws (announce_word p) x)
+      pub words_announced : (p x : ℕ) → p < sizes.processes → g'.told ≡ set_at g.told p x → g'.argument ≡ g.argument → g'.buffer ≡ g.buffer → AreWords sizes g' (slice_set ws (announce_word p) x)
       words_announced p x at a b c = record {
         wide = length-set ws (announce_word p) x ∙ are.wide;
         current = get_or-set_other ws (announce_word p) 0 x 0 (λ (e : 0 ≡ announce_word p). omega arith) ∙ are.current ∙ current_same;
-        announced = λ q inside. elim (set_at-cases g.announced p x q) [
+        announced = λ q inside. elim (set_at-cases g.told p x q) [
           | inl here ↦ ap (λ k. slice_index (slice_set ws (announce_word p) x) (announce_word k)) here.0 ∙ get_or-set_same ws (announce_word p) x 0 (let w = are.wide in omega arith) ∙ sym here.1 ∙ ap (λ f. f q) (sym a)
           | inr other ↦ get_or-set_other ws (announce_word p) (announce_word q) x 0 (λ (e : announce_word q ≡ announce_word p). other.0 (omega arith)) ∙ are.announced q inside ∙ sym other.1 ∙ ap (λ f. f q) (sym a)
         ];
@@ -81,7 +81,7 @@ module _ (sizes : Sizes) where
         buffer = λ d i inside below. get_or-set_other ws (announce_word p) (buffer_word sizes d i) x 0 (λ (e : buffer_word sizes d i ≡ announce_word p). omega arith) ∙ are.buffer d i inside below ∙ ap (λ f. f d i) (sym c);
       }
 
-      pub words_argument : (p k x : ℕ) → p < sizes.processes → k < sizes.invocation → length (g.argument p) ≡ sizes.invocation → g'.announced ≡ g.announced
+      pub words_argument : (p k x : ℕ) → p < sizes.processes → k < sizes.invocation → length (g.argument p) ≡ sizes.invocation → g'.told ≡ g.told
           → g'.argument ≡ set_at g.argument p (slice_set (g.argument p) k x) → g'.buffer ≡ g.buffer → AreWords sizes g' (slice_set ws (argument_word sizes p k) x)
       words_argument p k x at room long a b c = record {
         wide = length-set ws (argument_word sizes p k) x ∙ are.wide;
@@ -104,7 +104,7 @@ module _ (sizes : Sizes) where
             ∙ are.buffer d i inside below ∙ ap (λ f. f d i) (sym c);
       }
 
-      pub words_buffer : (b k x : ℕ) → b < 2 * sizes.processes → k < buffer_words sizes → g'.announced ≡ g.announced → g'.argument ≡ g.argument → g'.buffer ≡ set_at g.buffer b (set_at (g.buffer b) k x)
+      pub words_buffer : (b k x : ℕ) → b < 2 * sizes.processes → k < buffer_words sizes → g'.told ≡ g.told → g'.argument ≡ g.argument → g'.buffer ≡ set_at g.buffer b (set_at (g.buffer b) k x)
           → AreWords sizes g' (slice_set ws (buffer_word sizes b k) x)
       words_buffer b k x at room a e c = record {
         wide = length-set ws (buffer_word sizes b k) x ∙ are.wide;

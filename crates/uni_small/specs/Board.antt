@@ -6,14 +6,15 @@ use Rattle.uni_model.specs.AtomicObject.{Atomic, Act, at_start}
 use Rattle.uni_small.specs.Image.{Image, buffer_words, first_image, spell}
 use Rattle.uni_small.specs.declared.sizes.Sizes.{Sizes}
 
--- The word S names a version and the current buffer, which is one of 2n: buffer 2p or 2p + 1 is of process p. Of each process: how
--- many calls it has announced, and the words of its argument. The words of each buffer.
+-- The word S names a version and the current buffer, which is one of 2n: buffer 2p or 2p + 1 is of process p. Of each process: what
+-- its announcement tells, how many calls it has begun, and the words of its argument. The words of each buffer.
 -- And what no word tells: the version at which each process last announced a call; how many calls of a process a buffer had
 -- in it when it was last current; what the current buffer means; the atomic object, and how many of its calls are in each version;
 -- and its history.
 pub record Board : Type 0 where
   pub version : ℕ
   pub current : ℕ
+  pub told : ℕ → ℕ
   pub announced : ℕ → ℕ
   pub argument : ℕ → List ℕ
   pub buffer : ℕ → ℕ → ℕ
@@ -65,6 +66,7 @@ abbrev pub opened : Sequential (List ℕ) (List ℕ) (List ℕ) → Sizes → Bo
 opened object sizes = record {
   version = 0;
   current = 0;
+  told = λ p. 0;
   announced = λ p. 0;
   argument = λ p. replicate sizes.invocation 0;
   buffer = λ b i. slice_index (spell (first_image object sizes)) i;

@@ -1,6 +1,6 @@
 -- What holds between any two steps.
 use Rattle.std.specs.Prelude.{◌≡◌, ◌≢◌, ◌⊎◌, ℕ, ◌+◌, ◌*◌, ◌^◌, ◌<◌, ◌≤◌, List, [], ◌∷◌, ◌++◌, Option, None, Some}
-use Rattle.std.specs.Prelude.{Contains, length, map, slice_get, slice_index, sum, take}
+use Rattle.std.specs.Prelude.{Bool, Contains, false, slice_set, true, length, map, slice_get, slice_index, sum, take}
 use Rattle.seq_object.specs.Sequential.{Sequential}
 use Rattle.seq_object.specs.History.{response_at}
 use Rattle.uni_model.specs.AtomicObject.{Invoked, AcceptsAll, at_start}
@@ -31,13 +31,13 @@ pub record IsClosed (g : Board) (p : ℕ) (own : List Returned) : Type 0 where
   pub in_is : in_of g p ≡ length own
   pub acts : acts_by p g.acts ≡ sequential_acts p 0 (map plain own)
 
--- A process with a call pending, which is announced, with its argument: all its calls but perhaps this one are in; once this one is in,
--- its reply is that of the image.
+-- A process with a call pending, which has begun: all its calls but perhaps this one are in; until it is in, it is announced, with its
+-- argument; then its reply is that of the image.
 pub record IsOpen (object : Sequential (List ℕ) (List ℕ) (List ℕ)) (g : Board) (p : ℕ) (inv : List ℕ) (own : List Returned) : Type 0 where
   pub is_open : g.atomic.open_call p ≡ Some (record { process = p; nth = length own; inv = inv })
   pub next : g.atomic.next_nth p ≡ length own + 1
   pub announced : g.announced p ≡ length own + 1
-  pub argument : g.argument p ≡ inv
+  pub argument : in_of g p ≡ length own → g.argument p ≡ inv
   pub in_least : length own ≤ in_of g p
   pub taken : in_of g p ≡ length own + 1
       → HasTaken object g (record { process = p; nth = length own; inv = inv }) (reply_of g.image p)
@@ -71,22 +71,34 @@ IfFresh g s F = 128 * g.version ≤ s → (s ≡ current_word g.version g.curren
 abbrev pub IsAfter : Board → (p tries s : ℕ) → Type 0
 IsAfter g p tries s = 128 * (g.since p + tries) ≤ s
 
+-- process r has a call pending
+abbrev pub IsPending : Board → (r : ℕ) → Type 0
+IsPending g r = (c : Invoked (List ℕ)) × (g.atomic.open_call r ≡ Some c)
+
 module _ (object : Sequential (List ℕ) (List ℕ) (List ℕ)) (sizes : Sizes) where
   -- The image may be written to the spare buffer b: its reply to a call that was in when b was last current, and that is pending, is that
   -- of the current buffer.
   pub record MayBeWritten (g : Board) (b : ℕ) (image : Image) : Type 0 where
     pub rows : HasRows sizes image
-    pub replies : (r : ℕ) → r < sizes.processes → g.announced r ≤ g.mark b r → reply_of image r ≡ reply_of g.image r
+    pub replies : (r : ℕ) → r < sizes.processes → IsPending g r → g.announced r ≤ g.mark b r → reply_of image r ≡ reply_of g.image r
 
   -- these are the words of the two buffers of process p
   pub record AreHeld (g : Board) (p : ℕ) (held : List ℕ) : Type 0 where
     pub long : length held ≡ 2 * buffer_words sizes
     pub words : (which i : ℕ) → which ≤ 1 → i < buffer_words sizes → g.buffer (2 * p + which) i ≡ slice_index held (held_place sizes which i)
 
+  -- the call of a process that makes an attempt, direct or not: a call that is attempted directly hasn't begun
+  abbrev pub IsAttempted : Board → (p : ℕ) → Local → (direct : Bool) → Type 0
+  IsAttempted g p l true = IsClosed g p l.own
+  IsAttempted g p l false = IsOpen object g p l.inv l.own
+
   -- the call of a process, at its stage
   abbrev pub IsCallAt : Board → (p : ℕ) → Local → Stage → Type 0
   IsCallAt g p l (Idle stored) = IsClosed g p l.own × IsBeginning stored (g.argument p)
-  IsCallAt g p l _ = IsOpen object g p l.inv l.own
+  IsCallAt g p l (Ready tries) = IsAttempted g p l l.direct
+  IsCallAt g p l (Reading tries s copy seen) = IsAttempted g p l l.direct
+  IsCallAt g p l (Writing tries s image seen) = IsAttempted g p l l.direct
+  IsCallAt g p l (Last s loaded) = IsOpen object g p l.inv l.own
 
   -- the attempt of a process, at its stage, with its spare buffer b
   abbrev pub IsAttemptAt : Board → (p b : ℕ) → Stage → Type 0
@@ -96,8 +108,9 @@ module _ (object : Sequential (List ℕ) (List ℕ) (List ℕ)) (sizes : Sizes) 
       IsAfter g p tries s × IfFresh g s (IsCopied g copy × HasSeen g p seen)
   IsAttemptAt g p b (Writing tries s image seen) =
       IsAfter g p tries s
-      × IfFresh g s ((image ≡ g.image) × (length seen ≡ sizes.processes) × HasSeen g p seen × (in_of g p < g.announced p) × AreWhole sizes seen)
+      × IfFresh g s ((image ≡ g.image) × (length seen ≡ sizes.processes) × HasSeen g p seen × (IsPending g p → in_of g p < g.announced p) × AreWhole sizes seen)
       × MayBeWritten g b (with_seen object image 0 seen)
+      × ((inv : List ℕ) → MayBeWritten g b (with_seen object image 0 (slice_set seen p (Some inv))))
   IsAttemptAt g p b (Last s loaded) =
       (buffer_in s < 2 * sizes.processes) × (g.announced p ≤ g.mark (buffer_in s) p) × AreIn g p (version_in s)
       × IsBeginning loaded (reply_of g.image p)
@@ -122,10 +135,13 @@ module _ (object : Sequential (List ℕ) (List ℕ) (List ℕ)) (sizes : Sizes) 
     pub exact : (i : ℕ) → i < buffer_words sizes → g.buffer g.current i ≡ slice_index (spell g.image) i
     pub marked : (b r : ℕ) → r < sizes.processes → g.mark b r ≤ in_of g r
     pub at_current : (r : ℕ) → r < sizes.processes → in_of g r ≤ g.mark g.current r
-    pub kept : (b r k : ℕ) → b < 2 * sizes.processes → r < sizes.processes → k < sizes.reply → g.announced r ≤ g.mark b r
+    pub kept : (b r k : ℕ) → b < 2 * sizes.processes → r < sizes.processes → k < sizes.reply → IsPending g r → g.announced r ≤ g.mark b r
         → g.buffer b (reply_place sizes r k) ≡ slice_index (reply_of g.image r) k
     pub arguments : (r : ℕ) → r < sizes.processes → length (g.argument r) ≡ sizes.invocation
     pub in_most : (r : ℕ) → r < sizes.processes → in_of g r ≤ g.announced r
+    pub told_most : (r : ℕ) → r < sizes.processes → g.told r ≤ g.announced r
+    pub told_due : (r : ℕ) → r < sizes.processes → in_of g r < g.announced r → g.told r ≡ g.announced r
+    pub begun : (r : ℕ) → r < sizes.processes → g.since r ≤ g.version
     pub soon : (r : ℕ) → r < sizes.processes → g.since r + 2 ≤ g.version → g.announced r ≤ in_of g r
     pub versions : g.version ≤ sum g.image.applied
     pub room : (r : ℕ) → r < sizes.processes → g.announced r ≤ most_calls

@@ -1,5 +1,5 @@
 -- What the steps on words append to the history of the board.
-use Rattle.std.specs.Prelude.{◌≡◌, ℕ, ◌==◌, ◌<◌, List, [], ◌∷◌, ◌++◌, map, length, slice_index, Option, Some, refl, if◌then◌else◌}
+use Rattle.std.specs.Prelude.{◌≡◌, ℕ, ◌==◌, ◌<◌, List, [], ◌∷◌, ◌++◌, map, length, slice_index, slice_set, Option, Some, refl, if◌then◌else◌}
 use mathlib.Core.Option.{some}
 use lib.ListN.{get_elem?}
 use Rattle.atomic_table.specs.Table.{State, Me, keeps, stepped}
@@ -35,6 +35,11 @@ begins l p inv g found = Invoke p (length l.own) inv ∷ []
 -- where the exchange finds what the attempt began with, the calls that its scan saw take effect, in the order of their processes
 abbrev pub takes_effect : (s : ℕ) → (seen : List (Option (List ℕ))) → Board → (found : ℕ) → List (Act (List ℕ) (List ℕ))
 takes_effect s seen g found = if found == s then map (λ c. Linearize c) (calls_seen g.image.applied 0 seen) else []
+
+-- where the exchange of a direct attempt finds it, the call of process p begins, and takes effect with those that the scan saw
+abbrev pub takes_effect_own : Local → (p : ℕ) → (inv : List ℕ) → (s : ℕ) → (seen : List (Option (List ℕ))) → Board → (found : ℕ) → List (Act (List ℕ) (List ℕ))
+takes_effect_own l p inv s seen g found =
+    if found == s then Invoke p (length l.own) inv ∷ map (λ c. Linearize c) (calls_seen g.image.applied 0 (slice_set seen p (Some inv))) else []
 
 -- a call ends with the reply of which these words were loaded, and then the one that was found
 abbrev pub ends : Local → (p : ℕ) → (loaded : List ℕ) → Board → (found : ℕ) → List (Act (List ℕ) (List ℕ))

@@ -1,9 +1,10 @@
 -- What a step tells the seat that takes it, and how a seat is split.
-use Rattle.std.specs.Prelude.{◌≡◌, ℕ, ◌+◌, ◌-◌, ◌*◌, ◌/◌, ◌%◌, ◌<◌, ◌≤◌, ◌==◌, List, [], ◌∷◌, ◌++◌, Option, None, Some, if◌then◌else◌, refl}
+use Rattle.std.specs.Prelude.{◌≡◌, ℕ, ◌+◌, ◌-◌, ◌*◌, ◌/◌, ◌%◌, ◌<◌, ◌≤◌, ◌==◌, List, [], ◌∷◌, ◌++◌, Option, None, Some, if◌then◌else◌, nat_le, refl}
 use Rattle.std.specs.Prelude.{drop, length, slice_index, take}
+use mathlib.Core.Option.{some}
 use Rattle.atomic_table.specs.Table.{Me, Step}
 use Rattle.uni_small.specs.Image.{AreWidths, Image, IsReached, Meaning, buffer_words, counter_sizes, first_held, held_place, read_image}
-use Rattle.uni_small.specs.View.{Local, ProcessReturned, Stage, announces, at_rest, everyone, goes, brings, returns, knows, wrote}
+use Rattle.uni_small.specs.View.{Local, ProcessReturned, Stage, announces, at_rest, begins_directly, brings_own, everyone, goes, brings, returns, knows, wrote}
 use Rattle.uni_small.specs.View.Stage.{Idle, Ready, Reading, Writing, Last}
 use Rattle.uni_small.specs.Board.{buffer_in, buffer_word, version_in}
 use Rattle.uni_small.specs.Invariant.{most_calls}
@@ -72,14 +73,20 @@ HasStarted step me s me' =
     let v = me.0.known in
     (tries : ℕ) → stage_of me ≡ Ready tries → Goes me (Reading tries s (begun v.sizes v.first v.local.held s) []) me' × IsNamed v.sizes s
 
+-- a direct attempt begins
+abbrev pub HasBegun : {O : Type 0} → Step Seen → Me Seen (View O) → (s : ℕ) → Me Seen (View O) → Type 0
+HasBegun step me s me' =
+    let v = me.0.known in
+    stage_of me ≡ Idle [] → IsLeft me (begins_directly v.local s (begun v.sizes v.first v.local.held s)) me' × IsNamed v.sizes s
+
 abbrev pub HasCopied : {O : Type 0} → Step Seen → Me Seen (View O) → (found : ℕ) → Me Seen (View O) → Type 0
 HasCopied step me found me' =
     (tries s : ℕ) (copy : List ℕ) → stage_of me ≡ Reading tries s copy [] → Goes me (Reading tries s (copy ++ found ∷ []) []) me'
 
--- what is seen of process r by this announcement: no call to apply where the copy has the same, and else one of whose invocation no word
+-- what is seen of process r by this announcement: no call to apply where the copy has as many, and else one of whose invocation no word
 -- is loaded
 abbrev pub looked : (copy : List ℕ) → (r found : ℕ) → Option (List ℕ)
-looked copy r found = if found == slice_index copy r then None else Some []
+looked copy r found = if nat_le found (slice_index copy r) then None else Some []
 
 abbrev pub HasLooked : {O : Type 0} → Step Seen → Me Seen (View O) → (found : ℕ) → Me Seen (View O) → Type 0
 HasLooked step me found me' =
@@ -112,6 +119,16 @@ HasChecked meaning step me found me' =
     Goes me (checked v.sizes v.first (length v.local.own + 1) tries s copy seen found) me'
     × (found ≡ s → IsGood meaning v.sizes (read_image v.sizes copy))
 
+-- the same for a direct attempt: where S has changed, no call is pending
+abbrev pub checked_own : Sizes → (s : ℕ) (copy : List ℕ) (seen : List (Option (List ℕ))) (found : ℕ) → Stage
+checked_own sizes s copy seen found = if found == s then Writing 0 s (read_image sizes copy) seen else Idle []
+
+abbrev pub HasCheckedOwn : {O : Type 0} → Meaning → Step Seen → Me Seen (View O) → (found : ℕ) → Me Seen (View O) → Type 0
+HasCheckedOwn meaning step me found me' =
+    (s : ℕ) (copy : List ℕ) (seen : List (Option (List ℕ))) → stage_of me ≡ Reading 0 s copy seen
+    → let v = me.0.known in
+    Goes me (checked_own v.sizes s copy seen found) me' × (found ≡ s → IsGood meaning v.sizes (read_image v.sizes copy))
+
 -- a word of the spare buffer is x
 abbrev pub HasWritten : {O : Type 0} → Step Seen → Me Seen (View O) → (x : ℕ) → Me Seen (View O) → Type 0
 HasWritten step me x me' =
@@ -126,6 +143,15 @@ abbrev pub HasBrought : {O : Type 0} → Step Seen → Me Seen (View O) → (fou
 HasBrought step me found me' =
     (tries s : ℕ) (image : Image) (seen : List (Option (List ℕ))) → stage_of me ≡ Writing tries s image seen
     → IsLeft me (brought me.0.known.local tries s step.second found) me'
+
+-- the same for a direct attempt at a call of this invocation
+abbrev pub brought_own : Local → (s new : ℕ) → (inv : List ℕ) → (found : ℕ) → Local
+brought_own l s new inv found = if found == s then brings_own l new inv else goes l (Idle [])
+
+abbrev pub HasBroughtOwn : {O : Type 0} → Step Seen → Me Seen (View O) → (found : ℕ) → Me Seen (View O) → Type 0
+HasBroughtOwn step me found me' =
+    (s : ℕ) (image : Image) (seen : List (Option (List ℕ))) (its : Seen) → stage_of me ≡ Writing 0 s image seen → step.said ≡ some its
+    → IsLeft me (brought_own me.0.known.local s step.second its.invocation.items found) me'
 
 abbrev pub HasTurned : {O : Type 0} → Step Seen → Me Seen (View O) → (s : ℕ) → Me Seen (View O) → Type 0
 HasTurned step me s me' =

@@ -17,7 +17,7 @@ module _ (sizes : Sizes) where
   pub record AreWords (g : Board) (words : List ℕ) : Type 0 where
     pub wide : length words ≡ words_of sizes
     pub current : slice_index words 0 ≡ current_word g.version g.current
-    pub announced : (p : ℕ) → p < sizes.processes → slice_index words (announce_word p) ≡ g.announced p
+    pub announced : (p : ℕ) → p < sizes.processes → slice_index words (announce_word p) ≡ g.told p
     pub argument : (p k : ℕ) → p < sizes.processes → k < sizes.invocation
         → slice_index words (argument_word sizes p k) ≡ slice_index (g.argument p) k
     pub buffer : (b i : ℕ) → b < 2 * sizes.processes → i < buffer_words sizes → slice_index words (buffer_word sizes b i) ≡ g.buffer b i

@@ -1,5 +1,5 @@
 -- Where a seat stands, as its functions say it.
-use Rattle.std.specs.Prelude.{◌≡◌, ℕ, ◌+◌, ◌*◌, ◌<◌, ◌≤◌, List, [], ◌∷◌, ◌++◌, Option, Some, None, length, refl, slice_index}
+use Rattle.std.specs.Prelude.{Bool, false, true, slice_set, ◌⊎◌, ◌≡◌, ℕ, ◌+◌, ◌*◌, ◌<◌, ◌≤◌, List, [], ◌∷◌, ◌++◌, Option, Some, None, length, refl, slice_index}
 use Rattle.atomic_table.specs.Table.{Me}
 use Rattle.seq_object.specs.Sequential.{Sequential}
 use Rattle.uni_small.specs.Image.{AreWhole, Image, buffer_words, counter_sizes, held_place, spell, with_seen}
@@ -60,17 +60,23 @@ abbrev pub HasCopy : {O : Type 0} → Sizes → (tries s : ℕ) → (applied : L
 HasCopy sizes tries s applied me =
     (rest : List ℕ) × (stage_of me ≡ Reading tries s (applied ++ rest) []) × (length (applied ++ rest) ≡ buffer_words sizes)
 
+-- what is applied by an attempt of process p that has seen so much: that, or with a call of its own
+abbrev pub AreApplied : (p : ℕ) (seen all : List (Option (List ℕ))) → Type 0
+AreApplied p seen all = (all ≡ seen) ⊎ ((inv : List ℕ) × (all ≡ slice_set seen p (Some inv)))
+
 -- it writes its image, of which these are the words from word `from` on
 abbrev pub HasRow : {O : Type 0} → Sequential (List ℕ) (List ℕ) (List ℕ) → (from : ℕ) → (row : List ℕ) → Me Seen (View O) → Type 0
 HasRow object from row me =
-    (tries : ℕ) × (s : ℕ) × (image : Image) × (seen : List (Option (List ℕ))) × (stage_of me ≡ Writing tries s image seen)
-    × ((i : ℕ) → i < length row → slice_index row i ≡ slice_index (spell (with_seen object image 0 seen)) (from + i))
+    (tries : ℕ) × (s : ℕ) × (image : Image) × (seen : List (Option (List ℕ))) × (all : List (Option (List ℕ)))
+    × (stage_of me ≡ Writing tries s image seen) × AreApplied me.0.known.first seen all
+    × ((i : ℕ) → i < length row → slice_index row i ≡ slice_index (spell (with_seen object image 0 all)) (from + i))
 
 -- it writes its image, of which word k is x
 abbrev pub IsWriting : {O : Type 0} → Sequential (List ℕ) (List ℕ) (List ℕ) → (k x : ℕ) → Me Seen (View O) → Type 0
 IsWriting object k x me =
-    (tries : ℕ) × (s : ℕ) × (image : Image) × (seen : List (Option (List ℕ))) × (stage_of me ≡ Writing tries s image seen)
-    × (x ≡ slice_index (spell (with_seen object image 0 seen)) k)
+    (tries : ℕ) × (s : ℕ) × (image : Image) × (seen : List (Option (List ℕ))) × (all : List (Option (List ℕ)))
+    × (stage_of me ≡ Writing tries s image seen) × AreApplied me.0.known.first seen all
+    × (x ≡ slice_index (spell (with_seen object image 0 all)) k)
 
 -- the spare buffer has the words of an image with what was seen applied
 abbrev pub IsWritten : Sequential (List ℕ) (List ℕ) (List ℕ) → Sizes → Local → Image → (seen : List (Option (List ℕ))) → Type 0
@@ -82,20 +88,33 @@ abbrev pub HasWrittenAll : {O : Type 0} → Sequential (List ℕ) (List ℕ) (Li
 HasWrittenAll object sizes tries s me =
     (image : Image) × ((seen : List (Option (List ℕ))) × (stage_of me ≡ Writing tries s image seen) × IsWritten object sizes (local_of me) image seen)
 
+-- it has written all of it, with a call of its own of this invocation
+abbrev pub HasWrittenOwn : {O : Type 0} → Sequential (List ℕ) (List ℕ) (List ℕ) → Sizes → (s : ℕ) → (inv : List ℕ) → Me Seen (View O) → Type 0
+HasWrittenOwn object sizes s inv me =
+    (image : Image) × ((seen : List (Option (List ℕ))) × (stage_of me ≡ Writing 0 s image seen)
+    × IsWritten object sizes (local_of me) image (slice_set seen me.0.known.first (Some inv)))
+
 -- the call is in, and k words of its reply are loaded
 abbrev pub IsLoading : {O : Type 0} → (s k : ℕ) → Me Seen (View O) → Type 0
 IsLoading s k me = (loaded : List ℕ) × (stage_of me ≡ Last s loaded) × (length loaded ≡ k)
 
--- how many word steps an attempt takes at most, and a call
+-- the attempt of a process is direct, or isn't
+abbrev pub IsDirect : {O : Type 0} → Me Seen (View O) → Type 0
+IsDirect me = (local_of me).direct ≡ true
+
+abbrev pub IsAnnounced : {O : Type 0} → Me Seen (View O) → Type 0
+IsAnnounced me = (local_of me).direct ≡ false
+
+-- how many word steps an attempt takes at most, and a call: one direct attempt, and two after the announcement
 abbrev pub attempt_steps : Sizes → ℕ
 attempt_steps sizes = 2 * buffer_words sizes + sizes.processes + sizes.processes * sizes.invocation + 3
 
 abbrev pub call_steps : Sizes → ℕ
 call_steps sizes =
-    4 * sizes.state + (6 + 2 * sizes.invocation + 4 * sizes.reply) * sizes.processes + sizes.invocation + sizes.reply + 8
+    6 * sizes.state + (9 + 3 * sizes.invocation + 6 * sizes.reply) * sizes.processes + sizes.invocation + sizes.reply + 11
 
 -- two processes on a counter of one word
-sample_steps : call_steps (counter_sizes 2) ≡ 38
+sample_steps : call_steps (counter_sizes 2) ≡ 55
 sample_steps = refl
 
 -- a seat has stored at most so many words of its spare buffer, its buffers have these words then, and it has changed in nothing else
@@ -130,6 +149,7 @@ CallEnds sizes me inv reply version own me' =
     (words : ℕ) × (words ≤ call_steps sizes) × (l.after < version)
     × IsLeft me (record {
       stage = Idle [];
+      direct = false;
       inv = inv;
       spare = own.spare;
       held = own.held.items;

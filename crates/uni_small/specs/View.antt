@@ -1,5 +1,5 @@
 -- What a seat knows.
-use Rattle.std.specs.Prelude.{ℕ, ◌+◌, ◌-◌, List, [], ◌∷◌, ◌++◌, Option, slice_set}
+use Rattle.std.specs.Prelude.{Bool, false, true, ℕ, ◌+◌, ◌-◌, List, [], ◌∷◌, ◌++◌, Option, slice_set}
 use Rattle.uni_small.specs.Image.{Image}
 use Rattle.uni_small.specs.Board.{version_in}
 use Rattle.uni_small.specs.declared.sizes.Sizes.{Sizes}
@@ -40,6 +40,8 @@ pub data Stage : Type 0 where
 -- its next calls come after, its calls that have returned, and how many word steps it has taken
 pub record Local : Type 0 where
   pub stage : Stage
+  -- whether its attempt, if it makes one, is direct: of a call that isn't announced
+  pub direct : Bool
   pub inv : List ℕ
   pub spare : ℕ
   pub held : List ℕ
@@ -57,7 +59,7 @@ pub record Known : Type 0 where
   pub taken : List ProcessReturned
 
 abbrev pub at_rest : (held : List ℕ) → Local
-at_rest held = record { stage = Idle []; inv = []; spare = 1; held = held; after = 0; own = []; steps = 0 }
+at_rest held = record { stage = Idle []; direct = false; inv = []; spare = 1; held = held; after = 0; own = []; steps = 0 }
 
 abbrev pub everyone : Sizes → (held : List ℕ) → Known
 everyone sizes held = record { sizes = sizes; first = 0; count = sizes.processes; local = at_rest held; taken = [] }
@@ -68,7 +70,11 @@ goes l stage = record l { stage = stage; steps = l.steps + 1 }
 
 -- after it has announced its next call, of this invocation
 abbrev pub announces : Local → (inv : List ℕ) → Local
-announces l inv = record l { stage = Ready 0; inv = inv; steps = l.steps + 1 }
+announces l inv = record l { stage = Ready 0; direct = false; inv = inv; steps = l.steps + 1 }
+
+-- after it has begun a direct attempt, with these words of the buffer
+abbrev pub begins_directly : Local → (s : ℕ) → (copy : List ℕ) → Local
+begins_directly l s copy = record l { stage = Reading 0 s copy []; direct = true; steps = l.steps + 1 }
 
 -- after it has stored x, which is there then among the words of its buffers
 abbrev pub wrote : Local → (place x : ℕ) → Local
@@ -78,6 +84,10 @@ wrote l place x = record l { held = slice_set l.held place x; steps = l.steps + 
 abbrev pub brings : Local → (s : ℕ) → Local
 brings l s = record l { stage = Last s []; spare = 1 - l.spare; steps = l.steps + 1 }
 
+-- after it has brought in its spare buffer by a direct attempt at this call
+abbrev pub brings_own : Local → (s : ℕ) → (inv : List ℕ) → Local
+brings_own l s inv = record l { stage = Last s []; inv = inv; spare = 1 - l.spare; steps = l.steps + 1 }
+
 -- its call that returns with this reply, which was read in the buffer that s names
 abbrev pub ending : Local → (s : ℕ) → (reply : List ℕ) → Returned
 ending l s reply = record { inv = l.inv; reply = reply; after = l.after; version = version_in s }
@@ -85,7 +95,7 @@ ending l s reply = record { inv = l.inv; reply = reply; after = l.after; version
 -- after that call has returned
 abbrev pub returns : Local → (s : ℕ) → (reply : List ℕ) → Local
 returns l s reply =
-    record l { stage = Idle []; after = version_in s; own = l.own ++ ending l s reply ∷ []; steps = l.steps + 1 }
+    record l { stage = Idle []; direct = false; after = version_in s; own = l.own ++ ending l s reply ∷ []; steps = l.steps + 1 }
 
 -- after it has asked which version has come, and found this one
 abbrev pub knows : Local → (version : ℕ) → Local

@@ -7,7 +7,7 @@ ghost use Rattle.uni_small.specs.View.Stage.{Idle, Last, Reading, Ready, Writing
 ghost use Rattle.uni_small.specs.Board.{buffer_in, current_word, version_in};
 ghost use Rattle.uni_small.specs.Invariant.{most_calls};
 ghost use Rattle.uni_small.specs.Plays.{Goes, IsLeft, stage_of, IsNamed, begun, looked, checked, IsGood, brought};
-ghost use Rattle.uni_small.specs.Standing.{HasWrittenAll, IsAsking, IsCopying, IsLoading, IsLooking, IsOf};
+ghost use Rattle.uni_small.specs.Standing.{HasWrittenAll, IsAnnounced, IsAsking, IsCopying, IsLoading, IsLooking, IsOf};
 ghost use Rattle.uni_small.specs.Standing.{IsStoring, IsWriting, local_of};
 
 use crate::log::SmallShared;
@@ -140,6 +140,7 @@ impl<O: SmallObject> SmallShared<O> {
         requires table { seat.old.table_id ≡ self.now.table.shared.table_id }
         requires inside { p < self.now.setup.sizes.processes }
         requires of { IsOf self.now.setup.object self.now.setup.sizes p seat.old.me }
+        requires announced { IsAnnounced seat.old.me }
         requires stage { IsLooking self.now.setup.sizes tries s self.now.setup.sizes.processes seat.old.me }
         requires named { buffer_in s < 2 * self.now.setup.sizes.processes }
         ensures same { (seat.new.table_id ≡ seat.old.table_id) × (seat.new.id ≡ seat.old.id) }
@@ -189,6 +190,7 @@ impl<O: SmallObject> SmallShared<O> {
         requires table { seat.old.table_id ≡ self.now.table.shared.table_id }
         requires inside { p < self.now.setup.sizes.processes }
         requires of { IsOf self.now.setup.object self.now.setup.sizes p seat.old.me }
+        requires announced { IsAnnounced seat.old.me }
         requires stage { HasWrittenAll (O.meaning self.now.setup.object).object self.now.setup.sizes tries s
             seat.old.me }
         requires spare { ((local_of seat.old.me).spare ≡ spare) × (spare ≤ 1) }
@@ -206,6 +208,7 @@ impl<O: SmallObject> SmallShared<O> {
         requires table { seat.old.table_id ≡ self.now.table.shared.table_id }
         requires inside { (p < self.now.setup.sizes.processes) × (2 ≤ tries) }
         requires of { IsOf self.now.setup.object self.now.setup.sizes p seat.old.me }
+        requires announced { IsAnnounced seat.old.me }
         requires stage { stage_of seat.old.me ≡ Ready tries }
         ensures same { (seat.new.table_id ≡ seat.old.table_id) × (seat.new.id ≡ seat.old.id) }
         ensures left { Goes seat.old.me (Last result []) seat.new.me }

@@ -18,5 +18,5 @@ compare_exchange-requires g c =
       (let q0 = shared.sized in omega arith),
       by_key meaning shared.table.shared.key shared.setup shared.same slots id me i 0 refl (λ found. either (eqb found c.args.s) c.args.new found) (λ x me'. HasBrought st me x me')
           (takes_effect c.args.s c.requires.stage.1.0)
-          (brings_in meaning o sizes id shared.few.1 st me c.requires.of.alone (g.met.O.SmallObject.steady o) c.args.tries c.args.s c.requires.stage (c.requires.word ∙ (λ k. current_word (version_in c.args.s + 1) (2 * sym c.requires.of.first k + sym c.requires.spare.0 k)))),
+          (brings_in meaning o sizes id shared.few.1 st me c.requires.of.alone (g.met.O.SmallObject.steady o) c.requires.announced c.args.tries c.args.s c.requires.stage (c.requires.word ∙ (λ k. current_word (version_in c.args.s + 1) (2 * sym c.requires.of.first k + sym c.requires.spare.0 k)))),
     )

@@ -18,7 +18,7 @@ load-requires g c =
       (let q0 = shared.sized in omega arith),
       by_key meaning shared.table.shared.key shared.setup shared.same slots id me i 0 refl (λ x. x) (λ x me'. (q : _) → me.0.object ≡ Some q → HasChecked (meaning q) st me x me')
           nothing
-          (checks meaning o sizes id shared.few.1 st me c.requires.of.alone c.args.tries c.args.s c.requires.stage (g.met.O.SmallObject.steady o)),
+          (checks meaning o sizes id shared.few.1 st me c.requires.of.alone c.args.tries c.args.s c.requires.stage c.requires.announced (g.met.O.SmallObject.steady o)),
     )
 
 pub returns-clause-left : goal.returns-clause-left

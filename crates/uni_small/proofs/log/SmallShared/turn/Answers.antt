@@ -18,5 +18,5 @@ load-requires g c =
       (let q0 = shared.sized in omega arith),
       by_key meaning shared.table.shared.key shared.setup shared.same slots id me i 0 refl (λ x. x) (λ x me'. HasTurned st me x me')
           nothing
-          (turns meaning o sizes id shared.few.1 st me c.requires.of.alone c.args.tries c.requires.inside.1 c.requires.stage),
+          (turns meaning o sizes id shared.few.1 st me c.requires.of.alone c.args.tries c.requires.inside.1 c.requires.stage c.requires.announced),
     )
