@@ -1,5 +1,5 @@
 -- How an attempt goes on after its check, and how a call ends.
-use Rattle.uni_small.proofs.Vocabulary.{AreBuffers, Buffers, CallEnds, EndsWithin, Goes, GoesBy, HasRows, Idle, Image, IsEnd, IsGood, IsLeft, Last, List, Local, Me, Meaning, None, Option, Reading, Ready, ReplyEnds, Returned, Seen, Sizes, Some, Stage, View, WritesWithin, Writing, [], announces, ap, arith, attempt_steps, brings, brought, buffer_in, buffer_words, call_steps, checked, end_of, goes, inl, inr, length, local_of, number_cases, read_image, refl, returns, slice_index, spell, stage_of, subst, sym, version_in, went, with_local, ℕ, ◌*◌, ◌+◌, ◌-◌, ◌<◌, ◌∙◌, ◌≡◌, ◌≢◌, ◌≤◌}
+use Rattle.uni_small.proofs.Vocabulary.{AreBuffers, Bool, Buffers, CallEnds, EndsWithin, Goes, GoesBy, HasRows, Idle, Image, IsAnnounced, IsDirect, IsEnd, IsGood, IsLeft, Last, List, Local, Me, Meaning, None, Option, Reading, Ready, ReplyEnds, Returned, Seen, Sizes, Some, Stage, TriesWithin, View, WritesWithin, Writing, [], announced_steps, announces, ap, arith, attempt_steps, begins_directly, brings, brings_own, brought, brought_own, buffer_in, buffer_words, call_steps, checked, checked_own, end_of, false, goes, inl, inr, length, local_of, number_cases, read_image, refl, returns, slice_index, spell, stage_of, subst, sym, tried_directly, true, version_in, went, with_local, ℕ, ◌*◌, ◌+◌, ◌-◌, ◌<◌, ◌∙◌, ◌≡◌, ◌≢◌, ◌≤◌}
 use Rattle.std.proofs.Math.Nat.{add-mul, mul_assoc, mul_comm}
 use Rattle.uni_small.proofs.Going.{add_assoc, stage_after, own_after, spare_after, held_after, goes_on}
 use Rattle.uni_small.proofs.Images.{read-spell, spell-applied}
@@ -118,7 +118,7 @@ buffers_at_end sizes most tries ended own me me1 h either long = record {
 }
 
 -- the most steps of a call, added up
-steps_are : (sizes : Sizes) → call_steps sizes ≡ 2 * attempt_steps sizes + sizes.invocation + sizes.reply + 2
+steps_are : (sizes : Sizes) → announced_steps sizes ≡ 2 * attempt_steps sizes + sizes.invocation + sizes.reply + 2
 steps_are sizes =
     let a : (6 + 2 * sizes.invocation + 4 * sizes.reply) * sizes.processes ≡ (6 + 2 * sizes.invocation) * sizes.processes + 4 * sizes.reply * sizes.processes = add-mul (6 + 2 * sizes.invocation) (4 * sizes.reply) sizes.processes in
     let b : (6 + 2 * sizes.invocation) * sizes.processes ≡ 6 * sizes.processes + 2 * sizes.invocation * sizes.processes = add-mul 6 (2 * sizes.invocation) sizes.processes in
@@ -137,16 +137,16 @@ module _ {O : Type 0} (sizes : Sizes) (inv reply : List ℕ) (version : ℕ) (me
   abbrev HasEnded : (s : ℕ) → Me Seen (View O) → Me Seen (View O) → Type 0
   HasEnded s me3 me4 = ReplyEnds me3 s reply sizes.reply me4 × (version ≡ version_in s) × ((local_of me3).after < version_in s)
 
-  ends : (s words : ℕ) (own : Buffers) (me3 me4 : Me Seen (View O)) → words + (sizes.invocation + sizes.reply + 1) ≤ call_steps sizes
+  ends : (s words : ℕ) (own : Buffers) (me3 me4 : Me Seen (View O)) → words + (sizes.invocation + sizes.reply + 1) ≤ announced_steps sizes
       → IsLeft me2 (record (local_of me2) { stage = Last s []; spare = own.spare; held = own.held.items; steps = (local_of me2).steps + words }) me3
-      → HasEnded s me3 me4 → CallEnds sizes me inv reply version own me4
+      → HasEnded s me3 me4 → CallEnds (announced_steps sizes) me inv reply version own me4
   ends s words own me3 me4 few there returned =
       let a = left_more me me2 me3 (λ l. record l { stage = Last s []; spare = own.spare; held = own.held.items; steps = l.steps + words }) (announces (went (local_of me) sizes.invocation (Idle inv)) inv) begun there in
       let b = left_more me me3 me4 (λ l. record (returns l s reply) { steps = l.steps + sizes.reply })
       (record (announces (went (local_of me) sizes.invocation (Idle inv)) inv) { stage = Last s []; spare = own.spare; held = own.held.items; steps = (local_of me).steps + sizes.invocation + 1 + words }) a returned.0 in
       let count : (local_of me).steps + sizes.invocation + 1 + words + sizes.reply ≡ (local_of me).steps + (words + (sizes.invocation + sizes.reply + 1)) = omega (arith) in
       let same : (local_of me3).after ≡ (local_of me).after = ap (λ (m : Me Seen (View O)). (local_of m).after) a in
-      subst (λ v. CallEnds sizes me inv reply v own me4) (sym returned.1) (
+      subst (λ v. CallEnds (announced_steps sizes) me inv reply v own me4) (sym returned.1) (
         words + (sizes.invocation + sizes.reply + 1),
         few,
         subst (λ v. v < version_in s) same returned.2,
@@ -154,12 +154,12 @@ module _ {O : Type 0} (sizes : Sizes) (inv reply : List ℕ) (version : ℕ) (me
       )
 
   -- the first attempt ends it
-  pub ends_first : (s : ℕ) (own : Buffers) (me3 me4 : Me Seen (View O)) → EndsWithin sizes (attempt_steps sizes) 0 me2 (Some s) own me3 → HasEnded s me3 me4 → CallEnds sizes me inv reply version own me4
+  pub ends_first : (s : ℕ) (own : Buffers) (me3 me4 : Me Seen (View O)) → EndsWithin sizes (attempt_steps sizes) 0 me2 (Some s) own me3 → HasEnded s me3 me4 → CallEnds (announced_steps sizes) me inv reply version own me4
   ends_first s own me3 me4 h returned = ends s h.0 own me3 me4 (let f = h.1 in let e = steps_are sizes in omega arith) h.3 returned
 
   -- the second one does
   pub ends_second : (s : ℕ) (own0 own : Buffers) (me3 me4 me5 : Me Seen (View O)) → EndsWithin sizes (attempt_steps sizes) 0 me2 None own0 me3 → EndsWithin sizes (attempt_steps sizes) 1 me3 (Some s) own me4 → HasEnded s me4 me5
-      → CallEnds sizes me inv reply version own me5
+      → CallEnds (announced_steps sizes) me inv reply version own me5
   ends_second s own0 own me3 me4 me5 failed h returned =
       let a = left_more me2 me3 me4 (λ l. record l { stage = Last s []; spare = own.spare; held = own.held.items; steps = l.steps + h.0 })
       (record (local_of me2) { stage = Ready 1; spare = own0.spare; held = own0.held.items; steps = (local_of me2).steps + failed.0 }) failed.3 h.3 in
@@ -169,7 +169,7 @@ module _ {O : Type 0} (sizes : Sizes) (inv reply : List ℕ) (version : ℕ) (me
 
   -- both have failed
   pub ends_last : (s : ℕ) (own0 own : Buffers) (me3 me4 me5 me6 : Me Seen (View O)) → EndsWithin sizes (attempt_steps sizes) 0 me2 None own0 me3 → EndsWithin sizes (attempt_steps sizes) 1 me3 None own me4
-      → Goes me4 (Last s []) me5 → HasEnded s me5 me6 → CallEnds sizes me inv reply version own me6
+      → Goes me4 (Last s []) me5 → HasEnded s me5 me6 → CallEnds (announced_steps sizes) me inv reply version own me6
   ends_last s own0 own me3 me4 me5 me6 failed again turned returned =
       let a = left_more me2 me3 me4 (λ l. record l { stage = Ready 2; spare = own.spare; held = own.held.items; steps = l.steps + again.0 })
       (record (local_of me2) { stage = Ready 1; spare = own0.spare; held = own0.held.items; steps = (local_of me2).steps + failed.0 }) failed.3 again.3 in
@@ -178,3 +178,59 @@ module _ {O : Type 0} (sizes : Sizes) (inv reply : List ℕ) (version : ℕ) (me
       let count : (local_of me2).steps + failed.0 + again.0 + 1 ≡ (local_of me2).steps + (failed.0 + again.0 + 1) = omega (arith) in
       ends s (failed.0 + again.0 + 1) own me5 me6 (let f = failed.1 in let e = again.1 in let q = steps_are sizes in omega arith)
       (b ∙ (λ k. (with_local me2.0 (record (local_of me2) { stage = Last s []; spare = own.spare; held = own.held.items; steps = count k }), me2.1))) returned
+
+-- the check of a direct attempt, and its exchange
+pub checked_own_failed : (sizes : Sizes) (s : ℕ) (copy : List ℕ) (seen : List (Option (List ℕ))) (found : ℕ) → found ≢ s → checked_own sizes s copy seen found ≡ Idle []
+checked_own_failed sizes s copy seen found apart = elim (number_cases found s) [ inl h ↦ absurd (apart h.0) | inr h ↦ rw h.1 refl ]
+
+pub checked_own_on : (sizes : Sizes) (s : ℕ) (copy : List ℕ) (seen : List (Option (List ℕ))) (found : ℕ) → found ≡ s → checked_own sizes s copy seen found ≡ Writing 0 s (read_image sizes copy) seen
+checked_own_on sizes s copy seen found same = elim (number_cases found s) [ inl h ↦ rw h.1 refl | inr h ↦ absurd (h.0 same) ]
+
+brought_own_missed : (l : Local) (s new : ℕ) (inv : List ℕ) (found : ℕ) → found ≢ s → brought_own l s new inv found ≡ goes l (Idle [])
+brought_own_missed l s new inv found apart = elim (number_cases found s) [ inl h ↦ absurd (apart h.0) | inr h ↦ rw h.1 refl ]
+
+brought_own_hit : (l : Local) (s new : ℕ) (inv : List ℕ) (found : ℕ) → found ≡ s → brought_own l s new inv found ≡ brings_own l new inv
+brought_own_hit l s new inv found same = elim (number_cases found s) [ inl h ↦ rw h.1 refl | inr h ↦ absurd (h.0 same) ]
+
+module _ {O : Type 0} (sizes : Sizes) (most s new found : ℕ) (inv : List ℕ) (own : Buffers) (me me1 me2 : Me Seen (View O)) (direct : (local_of me).direct ≡ true) (first : WritesWithin me most own.held.items me1)
+    (spare_is : (local_of me).spare ≡ own.spare) (next : IsLeft me1 (brought_own (local_of me1) s new inv found) me2) where
+  own_count : (local_of me).steps + first.0 + 1 ≡ (local_of me).steps + (first.0 + 1)
+  own_count = add_assoc (local_of me).steps first.0 1
+
+  pub bring_own_fails : found ≢ s → TriesWithin sizes (most + 1) me inv None own me2
+  bring_own_fails apart = (
+    first.0 + 1,
+    (let a = first.1 in omega arith),
+    tt,
+    next ∙ ap (λ l. (with_local me1.0 l, me1.1)) (brought_own_missed (local_of me1) s new inv found apart)
+        ∙ ap (λ (m : Me Seen (View O)). (with_local m.0 (goes (local_of m) (Idle [])), m.1)) first.2
+        ∙ (λ k. (with_local me.0 (record (local_of me) { stage = Idle []; direct = direct k; spare = spare_is k; held = own.held.items; steps = own_count k }), me.1)),
+  )
+
+  pub bring_own_hits : found ≡ s → buffer_in new < 2 * sizes.processes → TriesWithin sizes (most + 1) me inv (Some new) (record own { spare = 1 - own.spare }) me2
+  bring_own_hits same named = (
+    first.0 + 1,
+    (let a = first.1 in omega arith),
+    named,
+    next ∙ ap (λ l. (with_local me1.0 l, me1.1)) (brought_own_hit (local_of me1) s new inv found same)
+        ∙ ap (λ (m : Me Seen (View O)). (with_local m.0 (brings_own (local_of m) new inv), m.1)) first.2
+        ∙ (λ k. (with_local me.0 (record (local_of me) { stage = Last new []; direct = direct k; inv = inv; spare = 1 - spare_is k; held = own.held.items; steps = own_count k }), me.1)),
+  )
+
+-- what is known of the buffers then
+tried_spare : (l : Local) (inv : List ℕ) (ended : Option ℕ) (own : Buffers) (words : ℕ) → (tried_directly l inv ended own words).spare ≡ own.spare
+tried_spare l inv None own words = refl
+tried_spare l inv (Some s) own words = refl
+
+tried_held : (l : Local) (inv : List ℕ) (ended : Option ℕ) (own : Buffers) (words : ℕ) → (tried_directly l inv ended own words).held ≡ own.held.items
+tried_held l inv None own words = refl
+tried_held l inv (Some s) own words = refl
+
+pub buffers_tried : {O : Type 0} (sizes : Sizes) (most : ℕ) (inv : List ℕ) (ended : Option ℕ) (own : Buffers) (me me1 : Me Seen (View O)) → TriesWithin sizes most me inv ended own me1 → own.spare ≤ 1
+    → length own.held.items ≡ 2 * buffer_words sizes → AreBuffers sizes (local_of me1) own
+buffers_tried sizes most inv ended own me me1 h either long = record {
+  spare = ap (λ (m : Me Seen (View _)). (local_of m).spare) h.3 ∙ tried_spare (local_of me) inv ended own h.0;
+  which = either;
+  held = ap (λ (m : Me Seen (View _)). (local_of m).held) h.3 ∙ tried_held (local_of me) inv ended own h.0;
+  long = long;
+}

@@ -1,5 +1,6 @@
 -- Seats that go on with a call.
-use Rattle.uni_small.proofs.Vocabulary.{AreBuffers, Buffers, Goes, GoesBy, Image, IsLeft, IsOf, List, Me, None, Option, Reading, Seen, Sequential, Sizes, Some, Stage, View, WritesWithin, [], ap, arith, begun, buffer_in, goes, inl, inr, length, local_of, looked, number_cases, refl, slice_index, slice_set, stage_of, subst, sym, went, with_local, with_seen, words_held, wrote, ℕ, ◌%◌, ◌++◌, ◌+◌, ◌/◌, ◌∙◌, ◌∷◌, ◌≡◌, ◌≢◌, ◌≤◌}
+use Rattle.uni_small.proofs.Vocabulary.{AreBuffers, Bool, Buffers, Goes, GoesBy, Image, IsLeft, IsOf, List, Me, None, Option, Reading, Seen, Sequential, Sizes, Some, Stage, View, WritesWithin, [], ap, arith, begun, buffer_in, false, goes, inl, inr, length, local_of, looked, nat_le, number_cases, refl, slice_index, slice_set, stage_of, subst, sym, true, went, with_local, with_seen, words_held, wrote, ℕ, ◌%◌, ◌++◌, ◌+◌, ◌/◌, ◌<◌, ◌∙◌, ◌∷◌, ◌≡◌, ◌≢◌, ◌≤◌, ◌⊎◌}
+use Rattle.std.proofs.lemmas.Bool.Decides.{nat_tests}
 
 pub add_assoc : (x y z : ℕ) → x + y + z ≡ x + (y + z)
 add_assoc x y z = omega arith
@@ -45,11 +46,17 @@ pub begun_own : (sizes : Sizes) (p : ℕ) (held : List ℕ) (s : ℕ) → buffer
 begun_own sizes p held s own = elim (number_cases (buffer_in s / 2) p) [ inl h ↦ rw h.1 refl | inr h ↦ absurd (h.0 own) ]
 
 -- where an announcement is as the copy has it, and where it isn't
-pub looked_same : (copy : List ℕ) (r found : ℕ) → found ≡ slice_index copy r → looked copy r found ≡ None
-looked_same copy r found same = elim (number_cases found (slice_index copy r)) [ inl h ↦ rw h.1 refl | inr h ↦ absurd (h.0 same) ]
+le_cases : (q p : ℕ) → ((q ≤ p) × (nat_le q p ≡ true)) ⊎ ((p < q) × (nat_le q p ≡ false))
+le_cases q p = by_test (nat_le q p) refl where
+  by_test : (b : Bool) → nat_le q p ≡ b → ((q ≤ p) × (nat_le q p ≡ true)) ⊎ ((p < q) × (nat_le q p ≡ false))
+  by_test true e = inl (grind (arith, nat_tests, e), e)
+  by_test false e = inr (grind (arith, nat_tests, e), e)
 
-pub looked_other : (copy : List ℕ) (r found : ℕ) → found ≢ slice_index copy r → looked copy r found ≡ Some []
-looked_other copy r found apart = elim (number_cases found (slice_index copy r)) [ inl h ↦ absurd (apart h.0) | inr h ↦ rw h.1 refl ]
+pub looked_same : (copy : List ℕ) (r found : ℕ) → found ≤ slice_index copy r → looked copy r found ≡ None
+looked_same copy r found few = elim (le_cases found (slice_index copy r)) [ inl h ↦ rw h.1 refl | inr h ↦ absurd (let m = h.0 in omega (arith, few)) ]
+
+pub looked_other : (copy : List ℕ) (r found : ℕ) → slice_index copy r < found → looked copy r found ≡ Some []
+looked_other copy r found more = elim (le_cases found (slice_index copy r)) [ inl h ↦ absurd (let m = h.0 in omega (arith, more)) | inr h ↦ rw h.1 refl ]
 
 -- what was seen is applied one by one
 pub with_seen-cons : (object : Sequential (List ℕ) (List ℕ) (List ℕ)) (image : Image) (r : ℕ) (o : Option (List ℕ)) (seen : List (Option (List ℕ))) → with_seen object image r (o ∷ seen) ≡ with_seen object (with_seen object image r (o ∷ [])) (r + 1) seen
@@ -108,3 +115,13 @@ module _ {O : Type 0} (me me1 : Me Seen (View O)) (most : ℕ) (held : List ℕ)
         next.2 ∙ ap (λ (m : Me Seen (View O)). (with_local m.0 (record (local_of m) { held = held2; steps = (local_of m).steps + next.0 }), m.1)) first.2
             ∙ (λ k. (with_local me.0 (record (local_of me) { held = held2; steps = count k }), me.1)),
       )
+
+-- whether an attempt is direct stays
+pub direct_after : {O : Type 0} (me me1 : Me Seen (View O)) (a : ℕ) (st : Stage) → GoesBy me a st me1 → (local_of me1).direct ≡ (local_of me).direct
+direct_after me me1 a st first = ap (λ (m : Me Seen (View _)). (local_of m).direct) first
+
+pub writes_direct : {O : Type 0} (me me1 : Me Seen (View O)) (most : ℕ) (held : List ℕ) → WritesWithin me most held me1 → (local_of me1).direct ≡ (local_of me).direct
+writes_direct me me1 most held first = ap (λ (m : Me Seen (View _)). (local_of m).direct) first.2
+
+pub writes_own : {O : Type 0} (me me1 : Me Seen (View O)) (most : ℕ) (held : List ℕ) → WritesWithin me most held me1 → (local_of me1).own ≡ (local_of me).own
+writes_own me me1 most held first = ap (λ (m : Me Seen (View _)). (local_of m).own) first.2

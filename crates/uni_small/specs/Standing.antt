@@ -109,9 +109,13 @@ IsAnnounced me = (local_of me).direct ≡ false
 abbrev pub attempt_steps : Sizes → ℕ
 attempt_steps sizes = 2 * buffer_words sizes + sizes.processes + sizes.processes * sizes.invocation + 3
 
+-- from the announcement on, with the words of the argument
+abbrev pub announced_steps : Sizes → ℕ
+announced_steps sizes =
+    4 * sizes.state + (6 + 2 * sizes.invocation + 4 * sizes.reply) * sizes.processes + sizes.invocation + sizes.reply + 8
+
 abbrev pub call_steps : Sizes → ℕ
-call_steps sizes =
-    6 * sizes.state + (9 + 3 * sizes.invocation + 6 * sizes.reply) * sizes.processes + sizes.invocation + sizes.reply + 11
+call_steps sizes = attempt_steps sizes + announced_steps sizes
 
 -- two processes on a counter of one word
 sample_steps : call_steps (counter_sizes 2) ≡ 55
@@ -142,11 +146,23 @@ abbrev pub ReplyEnds : {O : Type 0} → Me Seen (View O) → (s : ℕ) → (repl
 ReplyEnds me s reply words me' =
     IsLeft me (record (returns (local_of me) s reply) { steps = (local_of me).steps + words }) me'
 
--- a call has returned with this reply, and is in this version, which is greater than the one that it comes after
-abbrev pub CallEnds : {O : Type 0} → Sizes → Me Seen (View O) → (inv reply : List ℕ) → (version : ℕ) → Buffers → Me Seen (View O) → Type 0
-CallEnds sizes me inv reply version own me' =
+-- where a direct attempt at a call of this invocation ends: the call is in, or none is pending
+abbrev pub tried_directly : Local → (inv : List ℕ) → (ended : Option ℕ) → Buffers → (words : ℕ) → Local
+tried_directly l inv (Some s) own words =
+    record l { stage = Last s []; direct = true; inv = inv; spare = own.spare; held = own.held.items; steps = l.steps + words }
+tried_directly l inv None own words =
+    record l { stage = Idle []; direct = true; spare = own.spare; held = own.held.items; steps = l.steps + words }
+
+abbrev pub TriesWithin : {O : Type 0} → Sizes → (most : ℕ) → Me Seen (View O) → (inv : List ℕ) → (ended : Option ℕ) → Buffers → Me Seen (View O) → Type 0
+TriesWithin sizes most me inv ended own me' =
+    (words : ℕ) × (words ≤ most) × IsEnd sizes ended × IsLeft me (tried_directly (local_of me) inv ended own words) me'
+
+-- a call has returned with this reply after at most so many word steps, and is in this version, which is greater than the one that it
+-- comes after
+abbrev pub CallEnds : {O : Type 0} → (most : ℕ) → Me Seen (View O) → (inv reply : List ℕ) → (version : ℕ) → Buffers → Me Seen (View O) → Type 0
+CallEnds most me inv reply version own me' =
     let l = local_of me in
-    (words : ℕ) × (words ≤ call_steps sizes) × (l.after < version)
+    (words : ℕ) × (words ≤ most) × (l.after < version)
     × IsLeft me (record {
       stage = Idle [];
       direct = false;

@@ -6,7 +6,7 @@ ghost use Rattle.uni_small.specs.Invariant.{most_calls};
 ghost use Rattle.uni_small.specs.Plays.{stage_of};
 ghost use Rattle.uni_small.specs.View.Stage.{Last};
 ghost use Rattle.uni_small.specs.Board.{buffer_in, version_in};
-ghost use Rattle.uni_small.specs.Standing.{CallEnds, GoesBy, IsOf, ReplyEnds, call_steps, local_of};
+ghost use Rattle.uni_small.specs.Standing.{CallEnds, GoesBy, IsOf, ReplyEnds, announced_steps, call_steps, local_of};
 ghost use Rattle.uni_small.specs.Belongs.{AreBuffers, IsSeatOf, HasRoom, calls_made, calls_of, own_calls, process_of};
 ghost use Rattle.uni_small.specs.Belongs.{invocation_width_of, reply_width_of, sizes_of, taken_calls, version_of};
 ghost use Rattle.uni_small.specs.Belongs.{word_steps_of};
@@ -60,6 +60,43 @@ impl<O: SmallObject> SmallShared<O> {
         s / 128
     }
 
+    /// The call of this number, which is announced, from its start to its reply: a version in which it is.
+    fn call_announced(
+        &self,
+        seat: &mut Seat<Seen, View<O>>,
+        p: u64,
+        number: u64,
+        own: &mut Buffers,
+        room: &mut Room,
+        invocation: &[u64],
+        reply: &mut [u64],
+    ) -> u64
+        requires table { seat.old.table_id ≡ self.now.table.shared.table_id }
+        requires inside { p < self.now.setup.sizes.processes }
+        requires wide { (length invocation.now ≡ self.now.setup.sizes.invocation)
+            × (length reply.old ≡ self.now.setup.sizes.reply) }
+        requires of { IsOf self.now.setup.object self.now.setup.sizes p seat.old.me }
+        requires stage { stage_of seat.old.me ≡ Idle [] }
+        requires number { (number ≡ length (local_of seat.old.me).own + 1) × (number ≤ most_calls) }
+        requires own { AreBuffers self.now.setup.sizes (local_of seat.old.me) own.old }
+        requires room { HasRoom self.now.setup.sizes room.old }
+        ensures same { (seat.new.table_id ≡ seat.old.table_id) × (seat.new.id ≡ seat.old.id) }
+        ensures ends { CallEnds (announced_steps self.now.setup.sizes) seat.old.me invocation.now reply.new result own.new seat.new.me }
+        ensures own { AreBuffers self.now.setup.sizes (local_of seat.new.me) own.new }
+        ensures room { HasRoom self.now.setup.sizes room.new }
+    {
+        self.store_argument(seat, p, invocation);
+        self.announce(seat, p, number);
+        if let Some(s) = self.attempt(seat, p, number, 0, own, room) {
+            return self.load_reply(seat, p, s, reply);
+        }
+        if let Some(s) = self.attempt(seat, p, number, 1, own, room) {
+            return self.load_reply(seat, p, s, reply);
+        }
+        let s = self.turn(seat, p, 2);
+        self.load_reply(seat, p, s, reply)
+    }
+
     /// The call of this number, from its start to its reply: a version in which it is.
     fn call(
         &self,
@@ -81,20 +118,14 @@ impl<O: SmallObject> SmallShared<O> {
         requires own { AreBuffers self.now.setup.sizes (local_of seat.old.me) own.old }
         requires room { HasRoom self.now.setup.sizes room.old }
         ensures same { (seat.new.table_id ≡ seat.old.table_id) × (seat.new.id ≡ seat.old.id) }
-        ensures ends { CallEnds self.now.setup.sizes seat.old.me invocation.now reply.new result own.new seat.new.me }
+        ensures ends { CallEnds (call_steps self.now.setup.sizes) seat.old.me invocation.now reply.new result own.new seat.new.me }
         ensures own { AreBuffers self.now.setup.sizes (local_of seat.new.me) own.new }
         ensures room { HasRoom self.now.setup.sizes room.new }
     {
-        self.store_argument(seat, p, invocation);
-        self.announce(seat, p, number);
-        if let Some(s) = self.attempt(seat, p, number, 0, own, room) {
+        if let Some(s) = self.attempt_directly(seat, p, own, room, invocation) {
             return self.load_reply(seat, p, s, reply);
         }
-        if let Some(s) = self.attempt(seat, p, number, 1, own, room) {
-            return self.load_reply(seat, p, s, reply);
-        }
-        let s = self.turn(seat, p, 2);
-        self.load_reply(seat, p, s, reply)
+        self.call_announced(seat, p, number, own, room, invocation, reply)
     }
 }
 
@@ -105,7 +136,7 @@ impl<O: SmallObject> SmallSeat<O> {
     /// the object say.
     ///
     /// Where a state has W words, an invocation I and a reply R, it returns after at most
-    /// `4 * W + (6 + 2 * I + 4 * R) * n + I + R + 8` word steps with n processes, whatever the other seats do,
+    /// `6 * W + (9 + 3 * I + 6 * R) * n + I + R + 11` word steps with n processes, whatever the other seats do,
     /// and takes no memory and no lock.
     ///
     /// The call comes after all calls that are in the version which the seat has, and its own version is

@@ -1,14 +1,15 @@
 //! An attempt at a call: copy the current buffer, apply what was announced, and bring the copy in.
 ghost use Rattle.std.specs.Prelude.{ℕ, ◌*◌, ◌+◌, ◌++◌, ◌<◌, ◌≡◌, ◌≤◌};
-ghost use Rattle.std.specs.Prelude.{All, List, Option, Some, [], ◌∷◌, length, map, slice_index};
+ghost use Rattle.std.specs.Prelude.{All, List, Option, Some, [], ◌∷◌, length, map, slice_get, slice_index, slice_set};
 ghost use Rattle.uni_small.specs.Image.{AreWidths, IsReached, buffer_words, held_place, spell, with_row, with_seen};
 ghost use Rattle.uni_small.specs.View.Stage.{Ready, Reading, Writing};
 ghost use Rattle.uni_small.specs.Board.{buffer_in};
 ghost use Rattle.uni_small.specs.Invariant.{most_calls};
 ghost use Rattle.uni_small.specs.Plays.{stage_of, IsNamed, IsGood, begun, words_held};
 ghost use Rattle.uni_small.specs.Standing.{GoesBy, GoesWithin, IsAsking, IsCopying, IsLooking, IsOf};
-ghost use Rattle.uni_small.specs.Standing.{EndsWithin, HasCopy, HasRow, WritesWithin, attempt_steps, local_of};
+ghost use Rattle.uni_small.specs.Standing.{EndsWithin, HasCopy, HasRow, IsAnnounced, IsDirect, TriesWithin, WritesWithin, attempt_steps, local_of};
 ghost use Rattle.uni_small.specs.Belongs.{AreBuffers, HasInvocation, HasRoom};
+ghost use Rattle.uni_small.specs.declared.seat.Seen.{Seen};
 ghost use Rattle.uni_small.specs.Belongs.{all_seen, image_in, image_of_rows, seen_in};
 
 use crate::log::SmallShared;
@@ -96,8 +97,8 @@ impl<O: SmallObject> SmallShared<O> {
         ensures room { HasInvocation self.now.setup.sizes seen.new }
     {
         let announced = self.look(seat, p, tries, s, r);
-        seen.due = announced != known;
-        if announced != known {
+        seen.due = announced > known;
+        if announced > known {
             self.ask_all(seat, p, tries, s, r, &mut seen.invocation);
         }
     }
@@ -290,6 +291,35 @@ impl<O: SmallObject> SmallShared<O> {
         }
     }
 
+    /// Copies the buffer that s names, and looks at all processes.
+    fn survey(
+        &self,
+        seat: &mut Seat<Seen, View<O>>,
+        p: u64,
+        tries: u64,
+        s: u64,
+        own: &Buffers,
+        room: &mut Room,
+    )
+        requires table { seat.old.table_id ≡ self.now.table.shared.table_id }
+        requires inside { p < self.now.setup.sizes.processes }
+        requires of { IsOf self.now.setup.object self.now.setup.sizes p seat.old.me }
+        requires stage { stage_of seat.old.me
+            ≡ Reading tries s (begun self.now.setup.sizes p own.now.held.items s) [] }
+        requires named { buffer_in s < 2 * self.now.setup.sizes.processes }
+        requires held { length own.now.held.items ≡ 2 * buffer_words self.now.setup.sizes }
+        requires room { HasRoom self.now.setup.sizes room.old }
+        ensures same { (seat.new.table_id ≡ seat.old.table_id) × (seat.new.id ≡ seat.old.id) }
+        ensures goes { GoesWithin seat.old.me
+            (buffer_words self.now.setup.sizes
+            + (self.now.setup.sizes.processes + self.now.setup.sizes.processes * self.now.setup.sizes.invocation))
+            (Reading tries s (spell (image_in self.now.setup.sizes room.new)) (all_seen room.new)) seat.new.me }
+        ensures room { HasRoom self.now.setup.sizes room.new }
+    {
+        self.copy(seat, p, tries, s, own, room);
+        self.scan(seat, p, tries, s, &room.applied, &mut room.seen);
+    }
+
     /// Begins an attempt: loads S, copies the buffer that it names, and looks at all processes.
     fn gather(
         &self,
@@ -314,8 +344,7 @@ impl<O: SmallObject> SmallShared<O> {
         ensures room { HasRoom self.now.setup.sizes room.new }
     {
         let s = self.start(seat, p, tries);
-        self.copy(seat, p, tries, s, own, room);
-        self.scan(seat, p, tries, s, &room.applied, &mut room.seen);
+        self.survey(seat, p, tries, s, own, room);
         s
     }
 
@@ -358,6 +387,7 @@ impl<O: SmallObject> SmallShared<O> {
         requires table { seat.old.table_id ≡ self.now.table.shared.table_id }
         requires inside { p < self.now.setup.sizes.processes }
         requires of { IsOf self.now.setup.object self.now.setup.sizes p seat.old.me }
+        requires announced { IsAnnounced seat.old.me }
         requires stage { stage_of seat.old.me
             ≡ Writing tries s (image_in self.now.setup.sizes room.old) (all_seen room.old) }
         requires named { IsNamed self.now.setup.sizes s }
@@ -401,6 +431,7 @@ impl<O: SmallObject> SmallShared<O> {
         requires table { seat.old.table_id ≡ self.now.table.shared.table_id }
         requires inside { p < self.now.setup.sizes.processes }
         requires of { IsOf self.now.setup.object self.now.setup.sizes p seat.old.me }
+        requires announced { IsAnnounced seat.old.me }
         requires stage { stage_of seat.old.me ≡ Ready tries }
         requires number { number ≡ length (local_of seat.old.me).own + 1 }
         requires own { AreBuffers self.now.setup.sizes (local_of seat.old.me) own.old }
@@ -420,5 +451,100 @@ impl<O: SmallObject> SmallShared<O> {
             return Some(s);
         }
         self.bring(seat, p, tries, s, own, room)
+    }
+
+    /// Has seen a call of process p's own.
+    fn see_own(&self, seen: &mut [Seen], p: u64, invocation: &[u64])
+        requires inside { p < length seen.old }
+        requires wide { length invocation.now ≡ self.now.setup.sizes.invocation }
+        requires room { All (HasInvocation self.now.setup.sizes) seen.old }
+        ensures seen { map seen_in seen.new ≡ slice_set (map seen_in seen.old) p (Some invocation.now) }
+        ensures room { All (HasInvocation self.now.setup.sizes) seen.new }
+        ensures own { (x : Seen) → slice_get seen.new p ≡ Some x → x.invocation.items ≡ invocation.now }
+    {
+        let own = &mut seen[p as usize];
+        own.due = true;
+        own.invocation.copy_from_slice(invocation);
+    }
+
+    /// Ends a direct attempt whose copy was good: applies what was seen to the copy, with this call,
+    /// writes it to the spare buffer and brings that in. The answer is the word that names it, or `None` where S
+    /// has changed.
+    fn bring_own(
+        &self,
+        seat: &mut Seat<Seen, View<O>>,
+        p: u64,
+        s: u64,
+        own: &mut Buffers,
+        room: &mut Room,
+        invocation: &[u64],
+    ) -> Option<u64>
+        requires table { seat.old.table_id ≡ self.now.table.shared.table_id }
+        requires inside { p < self.now.setup.sizes.processes }
+        requires wide { length invocation.now ≡ self.now.setup.sizes.invocation }
+        requires of { IsOf self.now.setup.object self.now.setup.sizes p seat.old.me }
+        requires direct { IsDirect seat.old.me }
+        requires calls { length (local_of seat.old.me).own + 1 ≤ most_calls }
+        requires stage { stage_of seat.old.me
+            ≡ Writing 0 s (image_in self.now.setup.sizes room.old) (all_seen room.old) }
+        requires named { IsNamed self.now.setup.sizes s }
+        requires good { IsGood (O.meaning self.now.setup.object) self.now.setup.sizes
+            (image_in self.now.setup.sizes room.old) }
+        requires own { AreBuffers self.now.setup.sizes (local_of seat.old.me) own.old }
+        requires room { HasRoom self.now.setup.sizes room.old }
+        ensures same { (seat.new.table_id ≡ seat.old.table_id) × (seat.new.id ≡ seat.old.id) }
+        ensures ends { TriesWithin self.now.setup.sizes (buffer_words self.now.setup.sizes + 1)
+            seat.old.me invocation.now result own.new seat.new.me }
+        ensures own { AreBuffers self.now.setup.sizes (local_of seat.new.me) own.new }
+        ensures room { HasRoom self.now.setup.sizes room.new }
+    {
+        self.see_own(&mut room.seen, p, invocation);
+        self.apply_seen(
+            &mut room.applied,
+            &mut room.reply,
+            &mut room.state,
+            &room.seen,
+        );
+        self.write(seat, p, own, room);
+        let new = 128 * (s / 128 + 1) + (2 * p + own.spare);
+        let found = self.bring_in_own(seat, p, s, own.spare, new, &room.seen[p as usize]);
+        if found != s {
+            return None;
+        }
+        own.spare = 1 - own.spare;
+        Some(new)
+    }
+
+    /// A direct attempt at this call, which isn't announced: the word that names a buffer in which the call
+    /// is, or `None` where the attempt has failed and no call is pending.
+    pub(crate) fn attempt_directly(
+        &self,
+        seat: &mut Seat<Seen, View<O>>,
+        p: u64,
+        own: &mut Buffers,
+        room: &mut Room,
+        invocation: &[u64],
+    ) -> Option<u64>
+        requires table { seat.old.table_id ≡ self.now.table.shared.table_id }
+        requires inside { p < self.now.setup.sizes.processes }
+        requires wide { length invocation.now ≡ self.now.setup.sizes.invocation }
+        requires of { IsOf self.now.setup.object self.now.setup.sizes p seat.old.me }
+        requires stage { stage_of seat.old.me ≡ Idle [] }
+        requires calls { length (local_of seat.old.me).own + 1 ≤ most_calls }
+        requires own { AreBuffers self.now.setup.sizes (local_of seat.old.me) own.old }
+        requires room { HasRoom self.now.setup.sizes room.old }
+        ensures same { (seat.new.table_id ≡ seat.old.table_id) × (seat.new.id ≡ seat.old.id) }
+        ensures ends { TriesWithin self.now.setup.sizes (attempt_steps self.now.setup.sizes)
+            seat.old.me invocation.now result own.new seat.new.me }
+        ensures own { AreBuffers self.now.setup.sizes (local_of seat.new.me) own.new }
+        ensures room { HasRoom self.now.setup.sizes room.new }
+    {
+        let s = self.begin(seat, p);
+        self.survey(seat, p, 0, s, own, room);
+        let again = self.check_own(seat, p, s);
+        if again != s {
+            return None;
+        }
+        self.bring_own(seat, p, s, own, room, invocation)
     }
 }

@@ -55,6 +55,15 @@ impl<O> Play<Seen, View<O>> for Starts {
     ghost then = { HasStarted };
 }
 
+/// The load of S with which a direct attempt begins.
+pub struct Begins;
+
+impl<O> Play<Seen, View<O>> for Begins {
+    ghost use Rattle.uni_small.specs.Plays.{HasBegun};
+
+    ghost then = { HasBegun };
+}
+
 /// The load of a word of the current buffer.
 pub struct Copies;
 
@@ -145,6 +154,26 @@ impl<O: SmallObject> Play<Seen, View<O>> for Checks {
 
     ghost then = { λ step me found me'. (o : O) → me.0.object ≡ Some o
         → HasChecked (O.meaning o) step me found me' };
+}
+
+/// The same in a direct attempt.
+pub struct ChecksOwn;
+
+impl<O: SmallObject> Play<Seen, View<O>> for ChecksOwn {
+    ghost use Rattle.std.specs.Prelude.{◌≡◌, Some};
+    ghost use Rattle.uni_small.specs.Plays.{HasCheckedOwn};
+
+    ghost then = { λ step me found me'. (o : O) → me.0.object ≡ Some o
+        → HasCheckedOwn (O.meaning o) step me found me' };
+}
+
+/// The exchange of S in a direct attempt, which is told the call.
+pub struct BringsOwn;
+
+impl<O> Play<Seen, View<O>> for BringsOwn {
+    ghost use Rattle.uni_small.specs.Plays.{HasBroughtOwn};
+
+    ghost then = { HasBroughtOwn };
 }
 
 /// The first process apart from the others.

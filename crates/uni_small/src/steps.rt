@@ -2,18 +2,19 @@
 ghost use Rattle.std.specs.Prelude.{◌≡◌, ℕ, ◌+◌, ◌*◌, ◌<◌, ◌≤◌, ◌==◌, List, [], ◌∷◌, ◌++◌, Option, Some, None};
 ghost use Rattle.std.specs.Prelude.{if◌then◌else◌, length, slice_index};
 ghost use Rattle.uni_small.specs.Image.{HasRows, buffer_words, held_place, spell, with_seen, read_image};
-ghost use Rattle.uni_small.specs.View.{announces, brings, goes, knows, returns, wrote};
+ghost use Rattle.uni_small.specs.View.{announces, begins_directly, brings, goes, knows, returns, wrote};
 ghost use Rattle.uni_small.specs.View.Stage.{Idle, Last, Reading, Ready, Writing};
 ghost use Rattle.uni_small.specs.Board.{buffer_in, current_word, version_in};
 ghost use Rattle.uni_small.specs.Invariant.{most_calls};
-ghost use Rattle.uni_small.specs.Plays.{Goes, IsLeft, stage_of, IsNamed, begun, looked, checked, IsGood, brought};
-ghost use Rattle.uni_small.specs.Standing.{HasWrittenAll, IsAnnounced, IsAsking, IsCopying, IsLoading, IsLooking, IsOf};
+ghost use Rattle.uni_small.specs.Plays.{Goes, IsLeft, stage_of, IsNamed, begun, looked, checked, checked_own, IsGood, brought, brought_own};
+ghost use Rattle.uni_small.specs.Standing.{HasWrittenAll, HasWrittenOwn, IsAnnounced, IsDirect, IsAsking, IsCopying, IsLoading, IsLooking, IsOf};
 ghost use Rattle.uni_small.specs.Standing.{IsStoring, IsWriting, local_of};
+ghost use Rattle.uni_small.specs.Belongs.{HasInvocation};
 
 use crate::log::SmallShared;
 use crate::object::SmallObject;
 use crate::rule::{
-    Announces, Asks, Brings, Checks, Copies, Follows, Loads, Looks, Replies, Starts, Stores, Turns,
+    Announces, Asks, Begins, Brings, BringsOwn, Checks, ChecksOwn, Copies, Follows, Loads, Looks, Replies, Starts, Stores, Turns,
     Writes,
 };
 use crate::seat::Seen;
@@ -64,6 +65,20 @@ impl<O: SmallObject> SmallShared<O> {
         ensures named { IsNamed self.now.setup.sizes result }
     {
         self.table.shared.load::<Starts>(seat, 0)
+    }
+
+    /// Loads S, with which a direct attempt begins, at a call that isn't announced.
+    pub(crate) fn begin(&self, seat: &mut Seat<Seen, View<O>>, p: u64) -> u64
+        requires table { seat.old.table_id ≡ self.now.table.shared.table_id }
+        requires inside { p < self.now.setup.sizes.processes }
+        requires of { IsOf self.now.setup.object self.now.setup.sizes p seat.old.me }
+        requires stage { stage_of seat.old.me ≡ Idle [] }
+        ensures same { (seat.new.table_id ≡ seat.old.table_id) × (seat.new.id ≡ seat.old.id) }
+        ensures left { IsLeft seat.old.me (begins_directly (local_of seat.old.me) result
+            (begun self.now.setup.sizes p (local_of seat.old.me).held result)) seat.new.me }
+        ensures named { IsNamed self.now.setup.sizes result }
+    {
+        self.table.shared.load::<Begins>(seat, 0)
     }
 
     /// Loads the next word of the buffer that the attempt copies.
@@ -154,6 +169,23 @@ impl<O: SmallObject> SmallShared<O> {
         self.table.shared.load::<Checks>(seat, 0)
     }
 
+    /// Loads S again in a direct attempt: where it has changed, no call is pending.
+    pub(crate) fn check_own(&self, seat: &mut Seat<Seen, View<O>>, p: u64, s: u64) -> u64
+        requires table { seat.old.table_id ≡ self.now.table.shared.table_id }
+        requires inside { p < self.now.setup.sizes.processes }
+        requires of { IsOf self.now.setup.object self.now.setup.sizes p seat.old.me }
+        requires direct { IsDirect seat.old.me }
+        requires stage { IsLooking self.now.setup.sizes 0 s self.now.setup.sizes.processes seat.old.me }
+        ensures same { (seat.new.table_id ≡ seat.old.table_id) × (seat.new.id ≡ seat.old.id) }
+        ensures left { (copy : List ℕ) (seen : List (Option (List ℕ)))
+            → stage_of seat.old.me ≡ Reading 0 s copy seen
+            → Goes seat.old.me (checked_own self.now.setup.sizes s copy seen result) seat.new.me
+            × (result ≡ s → IsGood (O.meaning self.now.setup.object) self.now.setup.sizes
+            (read_image self.now.setup.sizes copy)) }
+    {
+        self.table.shared.load::<ChecksOwn>(seat, 0)
+    }
+
     /// Stores a word of the spare buffer.
     pub(crate) fn write_word(
         &self,
@@ -201,6 +233,35 @@ impl<O: SmallObject> SmallShared<O> {
         self.table
             .shared
             .compare_exchange::<Brings>(seat, 0, s, new)
+    }
+
+    /// The exchange of a direct attempt at this call, which makes the spare buffer current, by the word `new`.
+    pub(crate) fn bring_in_own(
+        &self,
+        seat: &mut Seat<Seen, View<O>>,
+        p: u64,
+        s: u64,
+        spare: u64,
+        new: u64,
+        own: &Seen,
+    ) -> u64
+        requires table { seat.old.table_id ≡ self.now.table.shared.table_id }
+        requires inside { p < self.now.setup.sizes.processes }
+        requires of { IsOf self.now.setup.object self.now.setup.sizes p seat.old.me }
+        requires direct { IsDirect seat.old.me }
+        requires room { length (local_of seat.old.me).own + 1 ≤ most_calls }
+        requires whole { HasInvocation self.now.setup.sizes own.now }
+        requires stage { HasWrittenOwn (O.meaning self.now.setup.object).object self.now.setup.sizes s
+            own.now.invocation.items seat.old.me }
+        requires spare { ((local_of seat.old.me).spare ≡ spare) × (spare ≤ 1) }
+        requires word { new ≡ current_word (version_in s + 1) (2 * p + spare) }
+        ensures same { (seat.new.table_id ≡ seat.old.table_id) × (seat.new.id ≡ seat.old.id) }
+        ensures left { IsLeft seat.old.me
+            (brought_own (local_of seat.old.me) s new own.now.invocation.items result) seat.new.me }
+    {
+        self.table
+            .shared
+            .compare_exchange_with::<BringsOwn>(seat, 0, s, new, own)
     }
 
     /// Loads S after two attempts that have failed: the call is in.
