@@ -1,5 +1,5 @@
 -- How an attempt goes on after its check, and how a call ends.
-use Rattle.uni_small.proofs.Vocabulary.{AreBuffers, Bool, Buffers, CallEnds, EndsWithin, Goes, GoesBy, HasRows, Idle, Image, IsAnnounced, IsDirect, IsEnd, IsGood, IsLeft, Last, List, Local, Me, Meaning, None, Option, Reading, Ready, ReplyEnds, Returned, Seen, Sizes, Some, Stage, TriesWithin, View, WritesWithin, Writing, [], announced_steps, announces, ap, arith, attempt_steps, begins_directly, brings, brings_own, brought, brought_own, buffer_in, buffer_words, call_steps, checked, checked_own, end_of, false, goes, inl, inr, length, local_of, number_cases, read_image, refl, returns, slice_index, spell, stage_of, subst, sym, tried_directly, true, version_in, went, with_local, ℕ, ◌*◌, ◌+◌, ◌-◌, ◌<◌, ◌∙◌, ◌≡◌, ◌≢◌, ◌≤◌}
+use Rattle.uni_small.proofs.Vocabulary.{AreBuffers, Bool, Buffers, CallEnds, EndsWithin, Goes, GoesBy, HasRows, Idle, Image, IsAnnounced, IsDirect, IsEnd, IsGood, IsLeft, IsOf, Last, List, Local, Me, Meaning, None, Option, Reading, Ready, ReplyEnds, Returned, Seen, Sizes, Some, Stage, TriesWithin, View, WritesWithin, Writing, [], announced_steps, announces, ap, arith, attempt_steps, begins_directly, brings, brings_own, brought, brought_own, buffer_in, buffer_words, call_steps, checked, checked_own, end_of, false, goes, inl, inr, length, local_of, number_cases, read_image, refl, returns, slice_index, spell, stage_of, subst, sym, tried_directly, true, version_in, went, with_local, ℕ, ◌*◌, ◌++◌, ◌+◌, ◌-◌, ◌<◌, ◌∙◌, ◌∷◌, ◌≡◌, ◌≢◌, ◌≤◌}
 use Rattle.std.proofs.Math.Nat.{add-mul, mul_assoc, mul_comm}
 use Rattle.uni_small.proofs.Going.{add_assoc, stage_after, own_after, spare_after, held_after, goes_on}
 use Rattle.uni_small.proofs.Images.{read-spell, spell-applied}
@@ -234,3 +234,119 @@ buffers_tried sizes most inv ended own me me1 h either long = record {
   held = ap (λ (m : Me Seen (View _)). (local_of m).held) h.3 ∙ tried_held (local_of me) inv ended own h.0;
   long = long;
 }
+
+-- once it is announced it is no direct one, and stays so
+pub announced_after : {O : Type 0} (me me1 : Me Seen (View O)) (inv : List ℕ) → IsLeft me (announces (local_of me) inv) me1 → IsAnnounced me1
+announced_after me me1 inv left = ap (λ (m : Me Seen (View _)). (local_of m).direct) left
+
+pub ended_direct : {O : Type 0} (sizes : Sizes) (most tries : ℕ) (me : Me Seen (View O)) (ended : Option ℕ) (own : Buffers) (me1 : Me Seen (View O)) → EndsWithin sizes most tries me ended own me1 → (local_of me1).direct ≡ (local_of me).direct
+ended_direct sizes most tries me ended own me1 h = ap (λ (m : Me Seen (View _)). (local_of m).direct) h.3
+
+-- a call that a direct attempt brought in returns
+pub directly_ends : {O : Type 0} (sizes : Sizes) (inv reply : List ℕ) (version : ℕ) (me me1 me2 : Me Seen (View O)) (s : ℕ) (own : Buffers) → TriesWithin sizes (attempt_steps sizes) me inv (Some s) own me1
+    → ReplyEnds me1 s reply sizes.reply me2 → version ≡ version_in s → (local_of me1).after < version_in s → CallEnds (call_steps sizes) me inv reply version own me2
+directly_ends sizes inv reply version me me1 me2 s own h returned is later =
+    let b = left_more me me1 me2 (λ l. record (returns l s reply) { steps = l.steps + sizes.reply }) (tried_directly (local_of me) inv (Some s) own h.0) h.3 returned in
+    let count : (local_of me).steps + h.0 + sizes.reply ≡ (local_of me).steps + (h.0 + sizes.reply) = add_assoc (local_of me).steps h.0 sizes.reply in
+    let same : (local_of me1).after ≡ (local_of me).after = ap (λ (m : Me Seen (View _)). (local_of m).after) h.3 in
+    subst (λ v. CallEnds (call_steps sizes) me inv reply v own me2) (sym is) (
+      h.0 + sizes.reply,
+      (let f = h.1 in omega arith),
+      subst (λ v. v < version_in s) same later,
+      b ∙ (λ k. (with_local me.0 (record (returns (record (local_of me) { inv = inv; spare = own.spare; held = own.held.items }) s reply) { steps = count k }), me.1)),
+    )
+
+-- a call that is announced after it
+pub announced_ends : {O : Type 0} (sizes : Sizes) (inv reply : List ℕ) (version : ℕ) (me me1 me2 : Me Seen (View O)) (own0 own : Buffers) → TriesWithin sizes (attempt_steps sizes) me inv None own0 me1
+    → CallEnds (announced_steps sizes) me1 inv reply version own me2 → CallEnds (call_steps sizes) me inv reply version own me2
+announced_ends sizes inv reply version me me1 me2 own0 own h rest =
+    let after : Local → Local = (λ l. record {
+      stage = Idle [];
+      direct = false;
+      inv = inv;
+      spare = own.spare;
+      held = own.held.items;
+      after = version;
+      own = l.own ++ record { inv = inv; reply = reply; after = l.after; version = version } ∷ [];
+      steps = l.steps + rest.0;
+    }) in
+    let b = left_more me me1 me2 after (tried_directly (local_of me) inv None own0 h.0) h.3 rest.3 in
+    let count : (local_of me).steps + h.0 + rest.0 ≡ (local_of me).steps + (h.0 + rest.0) = add_assoc (local_of me).steps h.0 rest.0 in
+    let same : (local_of me1).after ≡ (local_of me).after = ap (λ (m : Me Seen (View _)). (local_of m).after) h.3 in (
+      h.0 + rest.0,
+      (let f = h.1 in let g = rest.1 in omega arith),
+      subst (λ v. v < version) same rest.2,
+      b ∙ (λ k. (with_local me.0 (record (after (local_of me)) { steps = count k }), me.1)),
+    )
+
+-- a direct attempt goes on after its check
+module _ {O : Type 0} (meaning : Meaning) (sizes : Sizes) (s words : ℕ) (image : Image) (rows : HasRows sizes image) (seen : List (Option (List ℕ))) (me me1 me2 : Me Seen (View O))
+    (first : GoesBy me words (Reading 0 s (spell image) seen) me1) (again : ℕ)
+    (told : (copy : List ℕ) (seen : List (Option (List ℕ))) → stage_of me1 ≡ Reading 0 s copy seen
+    → Goes me1 (checked_own sizes s copy seen again) me2 × (again ≡ s → IsGood meaning sizes (read_image sizes copy))) where
+  own_at : stage_of me1 ≡ Reading 0 s (spell image) seen
+  own_at = stage_after me me1 words (Reading 0 s (spell image) seen) first
+
+  own_next : (stage : Stage) → checked_own sizes s (spell image) seen again ≡ stage → GoesBy me (words + 1) stage me2
+  own_next stage is = goes_on me me1 words (Reading 0 s (spell image) seen) first me2 stage (subst (λ st. Goes me1 st me2) is (told (spell image) seen own_at).0)
+
+  pub own_fails : again ≢ s → GoesBy me (words + 1) (Idle []) me2
+  own_fails apart = own_next (Idle []) (checked_own_failed sizes s (spell image) seen again apart)
+
+  pub own_goes_in : again ≡ s → GoesBy me (words + 1) (Writing 0 s image seen) me2
+  own_goes_in same = subst (λ i. GoesBy me (words + 1) (Writing 0 s i seen) me2) (read-spell sizes image rows)
+      (own_next (Writing 0 s (read_image sizes (spell image)) seen) (checked_own_on sizes s (spell image) seen again same))
+
+  pub own_good : again ≡ s → IsGood meaning sizes image
+  own_good same = subst (IsGood meaning sizes) (read-spell sizes image rows) ((told (spell image) seen own_at).1 same)
+
+-- it ends, before anything was written or later
+module _ {O : Type 0} (sizes : Sizes) (s words : ℕ) (copy inv : List ℕ) (stage : Stage) (me me1 me2 : Me Seen (View O)) (begins : IsLeft me (begins_directly (local_of me) s copy) me1) (first : GoesBy me1 words stage me2) where
+  own_left : IsLeft me (went (begins_directly (local_of me) s copy) words stage) me2
+  own_left = left_more me me1 me2 (λ l. went l words stage) (begins_directly (local_of me) s copy) begins first
+
+  own_count_all : (more : ℕ) → (local_of me).steps + 1 + words + more ≡ (local_of me).steps + (1 + words + more)
+  own_count_all more = omega arith
+
+  pub tries_here : (own : Buffers) (most : ℕ) → AreBuffers sizes (local_of me) own → stage ≡ Idle [] → 1 + words ≤ most → TriesWithin sizes most me inv None own me2
+  tries_here own most are is few =
+      let count : (local_of me).steps + 1 + words ≡ (local_of me).steps + (1 + words) = add_assoc (local_of me).steps 1 words in (
+        1 + words,
+        few,
+        tt,
+        own_left ∙ (λ k. (with_local me.0 (record (local_of me) { stage = is k; direct = true; spare = are.spare k; held = are.held k; steps = count k }), me.1)),
+      )
+
+  pub tries_later : (me3 : Me Seen (View O)) (later most : ℕ) (ended : Option ℕ) (own : Buffers) → TriesWithin sizes later me2 inv ended own me3 → 1 + words + later ≤ most → TriesWithin sizes most me inv ended own me3
+  tries_later me3 later most None own h few = (
+    1 + words + h.0,
+    (let a = h.1 in omega arith),
+    tt,
+    left_more me me2 me3 (λ l. tried_directly l inv None own h.0) (went (begins_directly (local_of me) s copy) words stage) own_left h.3
+        ∙ (λ k. (with_local me.0 (record (local_of me) { stage = Idle []; direct = true; spare = own.spare; held = own.held.items; steps = own_count_all h.0 k }), me.1)),
+  )
+  tries_later me3 later most (Some t) own h few = (
+    1 + words + h.0,
+    (let a = h.1 in omega arith),
+    h.2,
+    left_more me me2 me3 (λ l. tried_directly l inv (Some t) own h.0) (went (begins_directly (local_of me) s copy) words stage) own_left h.3
+        ∙ (λ k. (with_local me.0 (record (local_of me) { stage = Last t []; direct = true; inv = inv; spare = own.spare; held = own.held.items; steps = own_count_all h.0 k }), me.1)),
+  )
+
+  -- the process's buffers stay till then
+  pub own_buffers : (own : Buffers) → AreBuffers sizes (local_of me) own → AreBuffers sizes (local_of me2) own
+  own_buffers own are = record {
+    spare = ap (λ (m : Me Seen (View O)). (local_of m).spare) own_left ∙ are.spare;
+    which = are.which;
+    held = ap (λ (m : Me Seen (View O)). (local_of m).held) own_left ∙ are.held;
+    long = are.long;
+  }
+
+  pub own_direct : IsDirect me2
+  own_direct = ap (λ (m : Me Seen (View O)). (local_of m).direct) own_left
+
+  pub own_calls_are : (local_of me2).own ≡ (local_of me).own
+  own_calls_are = ap (λ (m : Me Seen (View O)). (local_of m).own) own_left
+
+  pub own_of : {o : O} {all : Sizes} {p : ℕ} → IsOf o all p me → IsOf o all p me2
+  own_of {o} {all} {p} of = subst (λ (m : Me Seen (View O)). IsOf o all p m) (sym own_left) (record { object = of.object; sizes = of.sizes; first = of.first; alone = of.alone })

@@ -1,5 +1,5 @@
 -- Seats that go on with a call.
-use Rattle.uni_small.proofs.Vocabulary.{AreBuffers, Bool, Buffers, Goes, GoesBy, Image, IsLeft, IsOf, List, Me, None, Option, Reading, Seen, Sequential, Sizes, Some, Stage, View, WritesWithin, [], ap, arith, begun, buffer_in, false, goes, inl, inr, length, local_of, looked, nat_le, number_cases, refl, slice_index, slice_set, stage_of, subst, sym, true, went, with_local, with_seen, words_held, wrote, ℕ, ◌%◌, ◌++◌, ◌+◌, ◌/◌, ◌<◌, ◌∙◌, ◌∷◌, ◌≡◌, ◌≢◌, ◌≤◌, ◌⊎◌}
+use Rattle.uni_small.proofs.Vocabulary.{AreApplied, AreBuffers, Bool, Buffers, Goes, GoesBy, Image, IsLeft, IsOf, List, Me, None, Option, Reading, Seen, Sequential, Sizes, Some, Stage, View, WritesWithin, [], ap, arith, begun, buffer_in, false, goes, inl, inr, length, local_of, looked, nat_le, number_cases, refl, slice_index, slice_set, stage_of, subst, sym, true, went, with_local, with_seen, words_held, wrote, ℕ, ◌%◌, ◌++◌, ◌+◌, ◌/◌, ◌<◌, ◌∙◌, ◌∷◌, ◌≡◌, ◌≢◌, ◌≤◌, ◌⊎◌}
 use Rattle.std.proofs.lemmas.Bool.Decides.{nat_tests}
 
 pub add_assoc : (x y z : ℕ) → x + y + z ≡ x + (y + z)
@@ -125,3 +125,6 @@ writes_direct me me1 most held first = ap (λ (m : Me Seen (View _)). (local_of 
 
 pub writes_own : {O : Type 0} (me me1 : Me Seen (View O)) (most : ℕ) (held : List ℕ) → WritesWithin me most held me1 → (local_of me1).own ≡ (local_of me).own
 writes_own me me1 most held first = ap (λ (m : Me Seen (View _)). (local_of m).own) first.2
+
+pub writes_applied : {O : Type 0} (me me1 : Me Seen (View O)) (most : ℕ) (held : List ℕ) (seen all : List (Option (List ℕ))) → WritesWithin me most held me1 → AreApplied me.0.known.first seen all → AreApplied me1.0.known.first seen all
+writes_applied me me1 most held seen all first are = subst (λ (m : Me Seen (View _)). AreApplied m.0.known.first seen all) (sym first.2) are

@@ -1,5 +1,5 @@
 -- A room's image, and what it has of the processes that were seen.
-use Rattle.uni_small.proofs.Vocabulary.{All, AreWhole, Bool, HasInvocation, HasRoom, HasRows, List, None, Room, Seen, Sequential, Sizes, Some, [], ap, arith, false, get_or-append-add, get_or_append_left, if◌then◌else◌, image_in, image_of_rows, length, map, put_mid, rows, seen_in, set, slice_index, slice_set, spell, subst, suc, sym, take, take-length, true, with_seen, zero, ℕ, ◌*◌, ◌++◌, ◌+◌, ◌<◌, ◌∙◌, ◌∷◌, ◌≡◌}
+use Rattle.uni_small.proofs.Vocabulary.{All, AreWhole, Bool, HasInvocation, HasRoom, HasRows, List, None, Room, Seen, Sequential, Sizes, Some, [], ap, arith, false, get_or-append-add, get_or_append_left, if◌then◌else◌, image_in, image_of_rows, length, map, put_mid, refl, rows, seen_in, set, slice_index, slice_set, spell, subst, suc, sym, take, take-length, true, with_seen, zero, ℕ, ◌*◌, ◌++◌, ◌+◌, ◌<◌, ◌∙◌, ◌∷◌, ◌≡◌}
 use Rattle.uni_small.proofs.Rows.{joined-rows, rows-even, rows-length, rows-set}
 
 module _ (sizes : Sizes) (room : Room) (has : HasRoom sizes room) where
@@ -66,3 +66,8 @@ applied_in_room object sizes r wide applied replies state seen inv row state' in
     let seen_is : seen_in seen ≡ Some inv = seen_due seen due ∙ ap Some (sym words) in
     (λ i. record { applied = set applied r (slice_index applied r + 1); reply = rows_are i; state = moved i })
     ∙ ap (λ o. with_seen object (image_of_rows sizes applied replies state) r (o ∷ [])) (sym seen_is)
+
+pub map_set : {A B : Type 0} (f : A → B) (xs : List A) (p : ℕ) (x : A) → map f (slice_set xs p x) ≡ slice_set (map f xs) p (f x)
+map_set f [] p x = refl
+map_set f (y ∷ xs) zero x = refl
+map_set f (y ∷ xs) (suc p) x = ap (λ l. f y ∷ l) (map_set f xs p x)

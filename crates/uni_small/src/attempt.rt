@@ -1,8 +1,8 @@
 //! An attempt at a call: copy the current buffer, apply what was announced, and bring the copy in.
 ghost use Rattle.std.specs.Prelude.{ℕ, ◌*◌, ◌+◌, ◌++◌, ◌<◌, ◌≡◌, ◌≤◌};
-ghost use Rattle.std.specs.Prelude.{All, List, Option, Some, [], ◌∷◌, length, map, slice_get, slice_index, slice_set};
+ghost use Rattle.std.specs.Prelude.{All, List, Option, Some, [], ◌∷◌, length, map, slice_index, slice_index_or, slice_set};
 ghost use Rattle.uni_small.specs.Image.{AreWidths, IsReached, buffer_words, held_place, spell, with_row, with_seen};
-ghost use Rattle.uni_small.specs.View.Stage.{Ready, Reading, Writing};
+ghost use Rattle.uni_small.specs.View.Stage.{Idle, Ready, Reading, Writing};
 ghost use Rattle.uni_small.specs.Board.{buffer_in};
 ghost use Rattle.uni_small.specs.Invariant.{most_calls};
 ghost use Rattle.uni_small.specs.Plays.{stage_of, IsNamed, IsGood, begun, words_held};
@@ -460,7 +460,7 @@ impl<O: SmallObject> SmallShared<O> {
         requires room { All (HasInvocation self.now.setup.sizes) seen.old }
         ensures seen { map seen_in seen.new ≡ slice_set (map seen_in seen.old) p (Some invocation.now) }
         ensures room { All (HasInvocation self.now.setup.sizes) seen.new }
-        ensures own { (x : Seen) → slice_get seen.new p ≡ Some x → x.invocation.items ≡ invocation.now }
+        ensures own { (x : Seen) → (slice_index_or seen.new p x).invocation.items ≡ invocation.now }
     {
         let own = &mut seen[p as usize];
         own.due = true;

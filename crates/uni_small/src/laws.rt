@@ -9,13 +9,14 @@ ghost use Rattle.uni_small.specs.View.Stage.{Idle, Last, Ready, Writing};
 ghost use Rattle.uni_small.specs.Board.{Board, announce_word, argument_word, buffer_word};
 ghost use Rattle.uni_small.specs.Board.{buffer_in, current_word, version_in};
 ghost use Rattle.uni_small.specs.Invariant.{most_calls};
-ghost use Rattle.uni_small.specs.Laws.{Moves, begins, ends, nothing, takes_effect};
+ghost use Rattle.uni_small.specs.Laws.{Moves, begins, ends, nothing, takes_effect, takes_effect_own};
 ghost use Rattle.uni_small.specs.Plays.{HasAnnounced, HasAsked, HasBrought, HasChecked, HasCopied, HasLoaded};
-ghost use Rattle.uni_small.specs.Plays.{HasFollowed, HasLooked, HasReplied, HasStarted, HasStored};
+ghost use Rattle.uni_small.specs.Plays.{HasBegun, HasBroughtOwn, HasCheckedOwn, HasFollowed, HasLooked, HasReplied, HasStarted, HasStored};
 ghost use Rattle.uni_small.specs.Plays.{HasTurned, HasWritten, stage_of};
 ghost use Rattle.uni_small.specs.Shown.{IsShown};
 ghost use Rattle.uni_small.specs.Standing.{IsAsking, IsCopying, IsLoading, IsLooking, IsStoring, IsWriting, IsWritten};
-ghost use Rattle.uni_small.specs.Standing.{local_of};
+ghost use Rattle.uni_small.specs.Standing.{HasWrittenOwn, IsAnnounced, IsDirect, local_of};
+ghost use mathlib.Core.Option.{some};
 ghost use Rattle.uni_small.specs.declared.seat.Seen.{Seen};
 ghost use Rattle.uni_small.specs.declared.sizes.Sizes.{Sizes};
 ghost use Rattle.uni_small.specs.declared.view.View.{View};
@@ -37,11 +38,23 @@ pub fn announcement_invokes<O: SmallObject>()
 pub fn exchange_linearizes<O: SmallObject>()
     ensures { (o : O) (sizes : Sizes) (id tries s : ℕ) (image : Image) (seen : List (Option (List ℕ)))
         (st : Step Seen) (me : Me Seen (View O)) →
-        sizes.processes ≤ 64 → me.0.known.count ≡ 1 → stage_of me ≡ Writing tries s image seen
+        sizes.processes ≤ 64 → me.0.known.count ≡ 1 → IsAnnounced me → stage_of me ≡ Writing tries s image seen
         → IsWritten (O.meaning o).object sizes (local_of me) image seen
         → st.second ≡ current_word (version_in s + 1) (2 * me.0.known.first + (local_of me).spare)
         → Moves O.meaning o sizes id me 0 (λ found. either (found == s) st.second found)
         (takes_effect s seen) (λ found me'. HasBrought st me found me') }
+{}
+
+/// The exchange of a direct attempt that finds what it began with begins the call and linearizes it with those
+/// that the scan saw, in the order of their processes. Another exchange appends nothing.
+pub fn direct_exchange_linearizes<O: SmallObject>()
+    ensures { (o : O) (sizes : Sizes) (id s : ℕ) (inv : List ℕ) (its : Seen) (st : Step Seen) (me : Me Seen (View O)) →
+        sizes.processes ≤ 64 → me.0.known.count ≡ 1 → IsDirect me → length inv ≡ sizes.invocation
+        → length (local_of me).own + 1 ≤ most_calls → HasWrittenOwn (O.meaning o).object sizes s inv me
+        → st.second ≡ current_word (version_in s + 1) (2 * me.0.known.first + (local_of me).spare)
+        → st.said ≡ some its → its.invocation.items ≡ inv
+        → (seen : List (Option (List ℕ))) × Moves O.meaning o sizes id me 0 (λ found. either (found == s) st.second found)
+        (takes_effect_own (local_of me) me.0.known.first inv s seen) (λ found me'. HasBroughtOwn st me found me') }
 {}
 
 /// The load of the last word of the reply ends a call: the history has its response more.
@@ -73,6 +86,13 @@ pub fn loads_append_nothing<O: SmallObject>()
     ensures start { (o : O) (sizes : Sizes) (id tries : ℕ) (st : Step Seen) (me : Me Seen (View O)) →
         sizes.processes ≤ 64 → me.0.known.count ≡ 1 → stage_of me ≡ Ready tries
         → Moves O.meaning o sizes id me 0 (λ x. x) nothing (λ found me'. HasStarted st me found me') }
+    ensures begin { (o : O) (sizes : Sizes) (id : ℕ) (st : Step Seen) (me : Me Seen (View O)) →
+        sizes.processes ≤ 64 → me.0.known.count ≡ 1 → stage_of me ≡ Idle []
+        → Moves O.meaning o sizes id me 0 (λ x. x) nothing (λ found me'. HasBegun st me found me') }
+    ensures check_own { (o : O) (sizes : Sizes) (id s : ℕ) (st : Step Seen) (me : Me Seen (View O)) →
+        sizes.processes ≤ 64 → me.0.known.count ≡ 1 → IsLooking sizes 0 s sizes.processes me → IsDirect me
+        → Moves O.meaning o sizes id me 0 (λ x. x) nothing
+        (λ found me'. (q : O) → me.0.object ≡ Some q → HasCheckedOwn (O.meaning q) st me found me') }
     ensures copy { (o : O) (sizes : Sizes) (id tries s i : ℕ) (st : Step Seen) (me : Me Seen (View O)) →
         sizes.processes ≤ 64 → me.0.known.count ≡ 1 → IsCopying tries s i me → i < buffer_words sizes
         → buffer_in s < 2 * sizes.processes → Moves O.meaning o sizes id me (buffer_word sizes (buffer_in s) i) (λ x. x)
@@ -86,11 +106,11 @@ pub fn loads_append_nothing<O: SmallObject>()
         → k < sizes.invocation → Moves O.meaning o sizes id me (argument_word sizes r k) (λ x. x)
         nothing (λ found me'. HasAsked st me found me') }
     ensures check { (o : O) (sizes : Sizes) (id tries s : ℕ) (st : Step Seen) (me : Me Seen (View O)) →
-        sizes.processes ≤ 64 → me.0.known.count ≡ 1 → IsLooking sizes tries s sizes.processes me
+        sizes.processes ≤ 64 → me.0.known.count ≡ 1 → IsLooking sizes tries s sizes.processes me → IsAnnounced me
         → Moves O.meaning o sizes id me 0 (λ x. x) nothing
         (λ found me'. (q : O) → me.0.object ≡ Some q → HasChecked (O.meaning q) st me found me') }
     ensures turn { (o : O) (sizes : Sizes) (id tries : ℕ) (st : Step Seen) (me : Me Seen (View O)) →
-        sizes.processes ≤ 64 → me.0.known.count ≡ 1 → 2 ≤ tries → stage_of me ≡ Ready tries
+        sizes.processes ≤ 64 → me.0.known.count ≡ 1 → 2 ≤ tries → stage_of me ≡ Ready tries → IsAnnounced me
         → Moves O.meaning o sizes id me 0 (λ x. x) nothing (λ found me'. HasTurned st me found me') }
     ensures follow { (o : O) (sizes : Sizes) (id : ℕ) (st : Step Seen) (me : Me Seen (View O)) →
         sizes.processes ≤ 64 → me.0.known.count ≡ 1 → stage_of me ≡ Idle []

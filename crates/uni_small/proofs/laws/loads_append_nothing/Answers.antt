@@ -1,4 +1,4 @@
-use Rattle.uni_small.proofs.Loads.{starts, copies, looks, asks, checks, turns, follows_on}
+use Rattle.uni_small.proofs.Loads.{begins_own, checks_own, starts, copies, looks, asks, checks, turns, follows_on}
 use Rattle.uni_small.proofs.Reply.{loads}
 use Rattle.uni_small.proofs.laws.loads_append_nothing.Goals as goal
 
@@ -15,13 +15,19 @@ pub returns-clause-ask : goal.returns-clause-ask
 returns-clause-ask g c o sizes id tries s r k st me few single asking inside below = asks g.O.SmallObject.meaning o sizes id few st me single tries s r k asking inside below
 
 pub returns-clause-check : goal.returns-clause-check
-returns-clause-check g c o sizes id tries s st me few single looking = checks g.O.SmallObject.meaning o sizes id few st me single tries s looking (g.met.O.SmallObject.steady o)
+returns-clause-check g c o sizes id tries s st me few single looking announced = checks g.O.SmallObject.meaning o sizes id few st me single tries s looking announced (g.met.O.SmallObject.steady o)
 
 pub returns-clause-turn : goal.returns-clause-turn
-returns-clause-turn g c o sizes id tries st me few single two stage = turns g.O.SmallObject.meaning o sizes id few st me single tries two stage
+returns-clause-turn g c o sizes id tries st me few single two stage announced = turns g.O.SmallObject.meaning o sizes id few st me single tries two stage announced
 
 pub returns-clause-follow : goal.returns-clause-follow
 returns-clause-follow g c o sizes id st me few single stage = follows_on g.O.SmallObject.meaning o sizes id few st me single stage
 
 pub returns-clause-reply : goal.returns-clause-reply
 returns-clause-reply g c o sizes id s k st me single loading below named = loads g.O.SmallObject.meaning o sizes id st me single s k loading below named
+
+pub returns-clause-begin : goal.returns-clause-begin
+returns-clause-begin g c o sizes id st me few single stage = begins_own g.O.SmallObject.meaning o sizes id few st me single stage
+
+pub returns-clause-check_own : goal.returns-clause-check_own
+returns-clause-check_own g c o sizes id s st me few single looking direct = checks_own g.O.SmallObject.meaning o sizes id few st me single s looking direct (g.met.O.SmallObject.steady o)

@@ -1,5 +1,5 @@
-use Rattle.uni_small.proofs.Vocabulary.{AreBuffers, Image, None, Some, all_seen, ap, arith, buffer_words, held_place, image_in, image_of_rows, local_of, map, refl, seen_in, slice_index, spell, sym, with_items_is, with_seen, ◌*◌, ◌+◌, ◌-◌, ◌/◌, ◌∙◌, ◌≡◌, ◌≤◌}
-use Rattle.uni_small.proofs.Going.{writes_stage, writes_of, writes_buffers}
+use Rattle.uni_small.proofs.Vocabulary.{AreBuffers, Image, None, Some, all_seen, ap, arith, buffer_words, held_place, image_in, image_of_rows, inl, local_of, map, refl, seen_in, slice_index, spell, sym, with_items_is, with_seen, ◌*◌, ◌+◌, ◌-◌, ◌/◌, ◌∙◌, ◌≡◌, ◌≤◌}
+use Rattle.uni_small.proofs.Going.{writes_direct, writes_stage, writes_of, writes_buffers}
 use Rattle.uni_small.proofs.Ending.{bring_fails, bring_hits, buffers_at_end}
 use Rattle.uni_small.proofs.log.SmallShared.bring.Goals as goal
 
@@ -20,13 +20,19 @@ write-requires-clause-stage g c =
       c.args.s,
       image,
       seen,
+      seen,
       c.requires.stage,
+      inl refl,
       (λ i below. ap (λ (m : Image). slice_index (spell m) i) same ∙ ap (slice_index (spell (with_seen object image 0 seen))) (let e : i ≡ 0 + i = omega arith in e)),
     )
 
 pub bring_in-found-requires-clause-of : goal.bring_in-found-requires-clause-of
 bring_in-found-requires-clause-of g c =
     writes_of c.args.seat.now.me c.write.new.seat.me (buffer_words c.args.self.now.setup.sizes) c.write.new.own.held.items c.write.ensures.goes c.requires.of
+
+pub bring_in-found-requires-clause-announced : goal.bring_in-found-requires-clause-announced
+bring_in-found-requires-clause-announced g c =
+    writes_direct c.args.seat.now.me c.write.new.seat.me (buffer_words c.args.self.now.setup.sizes) c.write.new.own.held.items c.write.ensures.goes ∙ c.requires.announced
 
 pub bring_in-found-requires-clause-spare : goal.bring_in-found-requires-clause-spare
 bring_in-found-requires-clause-spare g c =

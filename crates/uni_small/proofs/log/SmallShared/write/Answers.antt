@@ -1,5 +1,5 @@
 use Rattle.uni_small.proofs.Vocabulary.{HasRoom, Image, List, Room, Sizes, ap, arith, buffer_words, held_place, image_in, length, refl, slice_index, spell, sym, with_row, with_seen, ℕ, ◌*◌, ◌++◌, ◌+◌, ◌-◌, ◌<◌, ◌∙◌, ◌≡◌}
-use Rattle.uni_small.proofs.Going.{writes_stage, writes_of, writes_buffers, writes_more}
+use Rattle.uni_small.proofs.Going.{writes_applied, writes_stage, writes_of, writes_buffers, writes_more}
 use Rattle.uni_small.proofs.Images.{spell-applied, spell-length}
 use Rattle.uni_small.proofs.Rooms.{room_reply, room_rows, room_spelled, room_state}
 use Rattle.uni_small.proofs.Rows.{with_row-index, with_row-length, with_rows}
@@ -51,8 +51,10 @@ write_row-requires-2-clause-stage g c =
       at.1,
       at.2,
       at.3,
-      writes_stage me c.write_row.new.seat.me (length c.deref.result.now) c.write_row.new.own.held.items c.write_row.ensures.goes ∙ at.4,
-      (λ i below. ap (λ (xs : List ℕ). slice_index xs i) c.deref-2.ensures.value ∙ reply_row sizes room c.requires.room (with_seen object at.2 0 at.3) at.5 i
+      at.4,
+      writes_stage me c.write_row.new.seat.me (length c.deref.result.now) c.write_row.new.own.held.items c.write_row.ensures.goes ∙ at.5,
+      writes_applied me c.write_row.new.seat.me (length c.deref.result.now) c.write_row.new.own.held.items at.3 at.4 c.write_row.ensures.goes at.6,
+      (λ i below. ap (λ (xs : List ℕ). slice_index xs i) c.deref-2.ensures.value ∙ reply_row sizes room c.requires.room (with_seen object at.2 0 at.4) at.7 i
           (let e : length c.deref-2.result.now ≡ length room.reply.items = ap (λ (xs : List ℕ). length xs) c.deref-2.ensures.value in let r = c.requires.room.reply in omega arith)),
     )
 
@@ -90,9 +92,12 @@ write_row-requires-3-clause-stage g c =
       at.1,
       at.2,
       at.3,
+      at.4,
       writes_stage c.write_row.new.seat.me c.write_row-2.new.seat.me (length c.deref-2.result.now) c.write_row-2.new.own.held.items c.write_row-2.ensures.goes
-          ∙ writes_stage me c.write_row.new.seat.me (length c.deref.result.now) c.write_row.new.own.held.items c.write_row.ensures.goes ∙ at.4,
-      (λ i below. ap (λ (xs : List ℕ). slice_index xs i) c.deref-3.ensures.value ∙ state_row sizes room c.requires.room (with_seen object at.2 0 at.3) at.5 i
+          ∙ writes_stage me c.write_row.new.seat.me (length c.deref.result.now) c.write_row.new.own.held.items c.write_row.ensures.goes ∙ at.5,
+      writes_applied c.write_row.new.seat.me c.write_row-2.new.seat.me (length c.deref-2.result.now) c.write_row-2.new.own.held.items at.3 at.4 c.write_row-2.ensures.goes
+          (writes_applied me c.write_row.new.seat.me (length c.deref.result.now) c.write_row.new.own.held.items at.3 at.4 c.write_row.ensures.goes at.6),
+      (λ i below. ap (λ (xs : List ℕ). slice_index xs i) c.deref-3.ensures.value ∙ state_row sizes room c.requires.room (with_seen object at.2 0 at.4) at.7 i
           (let e : length c.deref-3.result.now ≡ length room.state.items = ap (λ (xs : List ℕ). length xs) c.deref-3.ensures.value in let r = c.requires.room.state in omega arith)),
     )
 

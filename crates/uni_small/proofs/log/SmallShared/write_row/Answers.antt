@@ -1,7 +1,7 @@
 use Rattle.uni_small.proofs.Vocabulary.{Buffers, List, WritesWithin, ap, arith, buffer_words, get_or_default_zero, held_place, length, refl, slice_index, slice_index_or, slice_set, subst, sym, take, with_row, ℕ, ◌*◌, ◌+◌, ◌<◌, ◌∙◌, ◌≡◌}
 use Rattle.std.proofs.Common.{take_all}
 use Rattle.atomic_table.specs.declared.shared.Seat.{Seat}
-use Rattle.uni_small.proofs.Going.{add_assoc, writes_nothing, writes_one, writes_none}
+use Rattle.uni_small.proofs.Going.{writes_applied, writes_stage, add_assoc, writes_nothing, writes_one, writes_none}
 use Rattle.uni_small.proofs.Rows.{with_row-length, with_row-more, with_row-same}
 use Rattle.uni_small.proofs.Words.{held_inside}
 use Rattle.uni_small.proofs.log.SmallShared.write_row.Goals.{then-index-row, else-index-row}
@@ -9,6 +9,20 @@ use Rattle.uni_small.proofs.log.SmallShared.write_row.Goals as goal
 
 pub loop-i-init : goal.loop-i-init
 loop-i-init g c = (refl, refl, writes_nothing c.args.seat.now.me c.args.own.now.held.items c.requires.own.held, refl, refl)
+
+pub write_word-requires-clause-stage : goal.write_word-requires-clause-stage
+write_word-requires-clause-stage g c =
+    let at = c.requires.stage in
+    let was = c.loop-i.invariant.2 in (
+      at.0,
+      at.1,
+      at.2,
+      at.3,
+      at.4,
+      writes_stage c.args.seat.now.me c.loop-i.seat.me c.loop-i.i c.loop-i.own.held.items was ∙ at.5,
+      writes_applied c.args.seat.now.me c.loop-i.seat.me c.loop-i.i c.loop-i.own.held.items at.3 at.4 was at.6,
+      at.7 c.loop-i.i c.loop-i-test.true,
+    )
 
 pub loop-i-preserved : goal.loop-i-preserved
 loop-i-preserved g c =
