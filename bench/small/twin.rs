@@ -4,8 +4,8 @@
 //
 // The twin has the words of the proved form, in their order: S, the announcements, the arguments, and 2n buffers, each
 // with how many calls of each process are in, a reply for each, and the state. Each of its kinds of step is one
-// operation on one of them, and all are sequentially consistent. A thread keeps what its own two buffers hold, and stores
-// only the words that differ.
+// operation on one of them, and all are sequentially consistent. A thread keeps what its own two buffers hold, loads no
+// word of them, and stores only the words that differ. A call is attempted directly before it is announced.
 
 use std::cell::UnsafeCell;
 use std::hint::{black_box, spin_loop};
@@ -176,16 +176,21 @@ impl<O: Object> Small<O> {
         &self.words[1 + self.n + self.n * i + b * (self.n + self.n * r + w) + k]
     }
 
-    /// An attempt: the word that names a buffer in which the call is.
-    fn attempt(&self, seat: &mut Seat) -> Option<u64> {
+    /// An attempt, direct where the call is handed in: the word that names a buffer in which the call is.
+    fn attempt(&self, seat: &mut Seat, own: Option<&[u64]>) -> Option<u64> {
         let (_, i, r) = O::WIDTHS;
         let n = self.n;
         let s = self.words[0].load(SeqCst);
-        for k in 0..seat.copy.len() {
-            seat.copy[k] = self.buffer((s % 128) as usize, k).load(SeqCst);
+        let b = (s % 128) as usize;
+        if b / 2 == seat.p {
+            seat.copy.copy_from_slice(&seat.held[b % 2]);
+        } else {
+            for k in 0..seat.copy.len() {
+                seat.copy[k] = self.buffer(b, k).load(SeqCst);
+            }
         }
         for q in 0..n {
-            seat.due[q] = self.announced(q).load(SeqCst) != seat.copy[q];
+            seat.due[q] = self.announced(q).load(SeqCst) > seat.copy[q];
             if seat.due[q] {
                 for k in 0..i {
                     seat.invs[q * i + k] = self.argument(q, k).load(SeqCst);
@@ -195,7 +200,10 @@ impl<O: Object> Small<O> {
         if self.words[0].load(SeqCst) != s {
             return None;
         }
-        if seat.copy[seat.p] == seat.made {
+        if let Some(inv) = own {
+            seat.due[seat.p] = true;
+            seat.invs[seat.p * i..(seat.p + 1) * i].copy_from_slice(inv);
+        } else if seat.copy[seat.p] == seat.made {
             return Some(s);
         }
         let (applied, rest) = seat.copy.split_at_mut(n);
@@ -221,15 +229,16 @@ impl<O: Object> Small<O> {
 
 impl<O: Object> Form for Small<O> {
     fn apply(&self, seat: &mut Seat, inv: &[u64], reply: &mut [u64]) {
-        for (k, word) in inv.iter().enumerate() {
-            self.argument(seat.p, k).store(*word, SeqCst);
-        }
         seat.made += 1;
-        self.announced(seat.p).store(seat.made, SeqCst);
-        let s = self
-            .attempt(seat)
-            .or_else(|| self.attempt(seat))
-            .unwrap_or_else(|| self.words[0].load(SeqCst));
+        let s = self.attempt(seat, Some(inv)).unwrap_or_else(|| {
+            for (k, word) in inv.iter().enumerate() {
+                self.argument(seat.p, k).store(*word, SeqCst);
+            }
+            self.announced(seat.p).store(seat.made, SeqCst);
+            self.attempt(seat, None)
+                .or_else(|| self.attempt(seat, None))
+                .unwrap_or_else(|| self.words[0].load(SeqCst))
+        });
         let at = self.n + seat.p * O::WIDTHS.2;
         for (k, word) in reply.iter_mut().enumerate() {
             *word = self.buffer((s % 128) as usize, at + k).load(SeqCst);
