@@ -1,6 +1,6 @@
 //! What the steps on words append to the history, each law the contract of a function with an empty body.
 ghost use Rattle.std.specs.Prelude.{◌≡◌, ◌==◌, ℕ, ◌+◌, ◌*◌, ◌<◌, ◌≤◌};
-ghost use Rattle.std.specs.Prelude.{List, Option, Some, [], length, slice_get, slice_index};
+ghost use Rattle.std.specs.Prelude.{List, Option, Some, [], length, slice_get, slice_index, slice_set};
 ghost use prog.Atomic.{either};
 ghost use Rattle.atomic_table.specs.Table.{State, Me, Step};
 ghost use Rattle.uni_small.specs.Image.{Image, buffer_words, reply_place};
@@ -15,7 +15,7 @@ ghost use Rattle.uni_small.specs.Plays.{HasBegun, HasBroughtOwn, HasCheckedOwn, 
 ghost use Rattle.uni_small.specs.Plays.{HasTurned, HasWritten, stage_of};
 ghost use Rattle.uni_small.specs.Shown.{IsShown};
 ghost use Rattle.uni_small.specs.Standing.{IsAsking, IsCopying, IsLoading, IsLooking, IsStoring, IsWriting, IsWritten};
-ghost use Rattle.uni_small.specs.Standing.{HasWrittenOwn, IsAnnounced, IsDirect, local_of};
+ghost use Rattle.uni_small.specs.Standing.{IsAnnounced, IsDirect, local_of};
 ghost use mathlib.Core.Option.{some};
 ghost use Rattle.uni_small.specs.declared.seat.Seen.{Seen};
 ghost use Rattle.uni_small.specs.declared.sizes.Sizes.{Sizes};
@@ -48,13 +48,16 @@ pub fn exchange_linearizes<O: SmallObject>()
 /// The exchange of a direct attempt that finds what it began with begins the call and linearizes it with those
 /// that the scan saw, in the order of their processes. Another exchange appends nothing.
 pub fn direct_exchange_linearizes<O: SmallObject>()
-    ensures { (o : O) (sizes : Sizes) (id s : ℕ) (inv : List ℕ) (its : Seen) (st : Step Seen) (me : Me Seen (View O)) →
+    ensures { (o : O) (sizes : Sizes) (id s : ℕ) (image : Image) (seen : List (Option (List ℕ))) (its : Seen)
+        (st : Step Seen) (me : Me Seen (View O)) →
+        let p = me.0.known.first in
+        let inv = its.invocation.items in
         sizes.processes ≤ 64 → me.0.known.count ≡ 1 → IsDirect me → length inv ≡ sizes.invocation
-        → length (local_of me).own + 1 ≤ most_calls → HasWrittenOwn (O.meaning o).object sizes s inv me
-        → st.second ≡ current_word (version_in s + 1) (2 * me.0.known.first + (local_of me).spare)
-        → st.said ≡ some its → its.invocation.items ≡ inv
-        → (seen : List (Option (List ℕ))) × Moves O.meaning o sizes id me 0 (λ found. either (found == s) st.second found)
-        (takes_effect_own (local_of me) me.0.known.first inv s seen) (λ found me'. HasBroughtOwn st me found me') }
+        → length (local_of me).own + 1 ≤ most_calls → stage_of me ≡ Writing 0 s image seen
+        → IsWritten (O.meaning o).object sizes (local_of me) image (slice_set seen p (Some inv))
+        → st.second ≡ current_word (version_in s + 1) (2 * p + (local_of me).spare) → st.said ≡ some its
+        → Moves O.meaning o sizes id me 0 (λ found. either (found == s) st.second found)
+        (takes_effect_own (local_of me) p inv s seen) (λ found me'. HasBroughtOwn st me found me') }
 {}
 
 /// The load of the last word of the reply ends a call: the history has its response more.
