@@ -8,5 +8,6 @@ pub by_key : {O : Type 0} (meaning : O → Meaning) (told setup : Setup O) → t
 by_key meaning told setup same slots id me i j word f says acts moves =
     subst (λ k. Allows (Rule meaning told) slots id me k f says) (sym word) (subst (λ key. Allows (Rule meaning key) slots id me j f says) (sym same)
     (λ s holds homes at fits.
-    let moved = moves s holds.0 holds.1.0 holds.1.1.0 holds.1.1.1 at fits in
-    (moved.0, keeps, tt, (moved.1.0, (moved.1.1.0, (holds.1.1.0, moved.1.1.1))), moved.1.1.2)))
+    let moved = moves s holds.0 holds.1.0 holds.1.1.0 holds.1.1.1 at in
+    let on = moved.1.4 holds.1.1.2.0 holds.1.1.2.1 in
+    (moved.0, keeps, tt, (moved.1.0, (_, (holds.1.1.0, moved.1.1, (_, on.1.1)))), moved.1.2)))

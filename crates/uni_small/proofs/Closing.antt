@@ -1,6 +1,7 @@
 -- What the words of a closed table show.
 use Rattle.uni_small.proofs.Vocabulary.{AreWords, Board, Contains, Idle, Image, IsBoard, IsClosed, IsFinal, IsShown, List, Local, Meaning, ProcessReturned, Rule, Seen, Sequential, Setup, Sizes, State, View, [], ap, arith, buffer_in, get_elem?, map, plain, refl, sequential_acts, slice_get, slice_index, some, state_place, subst, suc, sym, zero, ℕ, ◌*◌, ◌<◌, ◌∙◌, ◌∷◌, ◌≡◌, ◌≤◌}
 use Rattle.uni_small.specs.Reading.{IsStateIn}
+use Rattle.uni_small.specs.Ended.{HasRunTo}
 use Rattle.uni_small.proofs.Images.{reached_from, spell-state}
 use Rattle.uni_small.proofs.Lists.{same_list}
 use Rattle.uni_small.proofs.Loads.{buffer_of, call_at}
@@ -66,6 +67,10 @@ module _ {O : Type 0} (meaning : O → Meaning) (setup : Setup O) (few : setup.s
   pub closes_alone : (state : List ℕ) → IsStateIn sizes words state → IsFinal object sizes.processes [] state
   closes_alone = final [] (λ its has. absurd (let h = has.1 in omega arith))
 
+  pub ran_alone : (state : List ℕ) → IsStateIn sizes words state → HasRunTo object sizes [] state
+  unfolding final closes_alone
+  ran_alone state read = (closes_alone state read, holds.1.1.2.0, holds.1.1.2.1.acts_are)
+
   -- with a seat of one process that has no call pending, and of those that it has taken in
   pub closes_with : (id : ℕ) (view : View O) → get_elem? last.views id ≡ some view → view.known.count ≡ 1 → view.known.local.stage ≡ Idle []
       → (state : List ℕ) → IsStateIn sizes words state → IsFinal object sizes.processes (record { process = view.known.first; calls = view.known.local.own } ∷ view.known.taken) state
@@ -75,6 +80,11 @@ module _ {O : Type 0} (meaning : O → Meaning) (setup : Setup O) (few : setup.s
         let told = (is.seats id view seen).each view.known.first (omega arith) (omega (arith, single)) in
         subst IsDone e (told.0, ap (λ (l : Local). l.stage) told.2 ∙ idle, ap (λ (l : Local). l.own) told.2)
     one its (suc k, below, e) = (let t = (is.seats id view seen).taken its (k, (let b = below in omega arith), e) in (t.inside, t.idle, t.calls))
+
+  pub ran_with : (id : ℕ) (view : View O) → get_elem? last.views id ≡ some view → view.known.count ≡ 1 → view.known.local.stage ≡ Idle []
+      → (state : List ℕ) → IsStateIn sizes words state → HasRunTo object sizes (record { process = view.known.first; calls = view.known.local.own } ∷ view.known.taken) state
+  unfolding final closes_with
+  ran_with id view seen single idle state read = (closes_with id view seen single idle state read, holds.1.1.2.0, holds.1.1.2.1.acts_are)
 
 -- what tells of more calls tells of fewer
 pub final_of_fewer : (object : Sequential (List ℕ) (List ℕ) (List ℕ)) (n : ℕ) (all known : List ProcessReturned) (state : List ℕ) → ((its : ProcessReturned) → Contains known its → Contains all its) → IsFinal object n all state → IsFinal object n known state
@@ -90,3 +100,7 @@ final_of_fewer _ n all known state among final = record {
   rising = final.rising;
   stand = λ its has. final.stand its (among its has);
 }
+
+pub ran_of_fewer : (object : Sequential (List ℕ) (List ℕ) (List ℕ)) (sizes : Sizes) (all known : List ProcessReturned) (state : List ℕ) → ((its : ProcessReturned) → Contains known its → Contains all its) → HasRunTo object sizes all state → HasRunTo object sizes known state
+unfolding final_of_fewer
+ran_of_fewer object sizes all known state among ran = (final_of_fewer object sizes.processes all known state among ran.0, ran.1, ran.2)

@@ -118,7 +118,7 @@ buffers_at_end sizes most tries ended own me me1 h either long = record {
 }
 
 -- the most steps of a call, added up
-steps_are : (sizes : Sizes) → announced_steps sizes ≡ 2 * attempt_steps sizes + sizes.invocation + sizes.reply + 2
+pub steps_are : (sizes : Sizes) → announced_steps sizes ≡ 2 * attempt_steps sizes + sizes.invocation + sizes.reply + 2
 steps_are sizes =
     let a : (6 + 2 * sizes.invocation + 4 * sizes.reply) * sizes.processes ≡ (6 + 2 * sizes.invocation) * sizes.processes + 4 * sizes.reply * sizes.processes = add-mul (6 + 2 * sizes.invocation) (4 * sizes.reply) sizes.processes in
     let b : (6 + 2 * sizes.invocation) * sizes.processes ≡ 6 * sizes.processes + 2 * sizes.invocation * sizes.processes = add-mul 6 (2 * sizes.invocation) sizes.processes in

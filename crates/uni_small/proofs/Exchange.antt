@@ -1,6 +1,7 @@
 -- The exchange that makes a spare buffer current.
-use Rattle.uni_small.proofs.Vocabulary.{AcceptsAll-append, AreIn, AreWhole, AreWords, Board, Bool, Contains-append_cases, HasBrought, HasBroughtOwn, HasRows, HasSeen, HasTaken, HasWrittenAll, HasWrittenOwn, Idle, Image, Invoke, Invoked, IsAnnounced, IsAt, IsAttemptAt, IsAttempted, IsBoard, IsCallAt, IsClosed, IsDirect, IsOpen, IsOrdered, IsPending, IsSound, IsSteady, Last, Linearize, List, Local, MayBeWritten, Me, Meaning, Moves, None, Option, Reading, Ready, Returned, Seen, Sequential, Sizes, Some, Stage, StandsIn, Step, View, Writing, [], acts_by, announces, ap, append-nil, append_assoc, arith, at_start, brings, brings_own, brought, brought_own, buffer_in, buffer_words, calls_seen, current_word, due_at, either, eqb, exchanged, false, first_image, goes, if◌then◌else◌, image_from, in_of, inl, inr, length, length-append, length-set, lt_cases, map, map-append, most_calls, nat_lt, number_cases, refl, reply_of, reply_place, response_at, response_at-append, set-get_or, set_at, set_at-cases, set_at_elsewhere, set_at_same, slice_get, slice_get-append_left, slice_get-append_right, slice_get_within, slice_index, slice_set, some, some-injective, spell, state_after, subst, suc, sym, take, take-length, takes_effect, takes_effect_own, true, version_in, with_local, with_seen, zero, ℕ, ◌*◌, ◌++◌, ◌+◌, ◌<◌, ◌==◌, ◌∙◌, ◌∷◌, ◌≡◌, ◌≢◌, ◌≤◌, ◌⊎◌}
+use Rattle.uni_small.proofs.Vocabulary.{AcceptsAll-append, AreIn, AreWhole, AreWords, Board, Bool, Contains-append_cases, HasBrought, HasBroughtOwn, HasRows, IsLeft, HasSeen, HasTaken, HasWrittenAll, HasWrittenOwn, Idle, Image, Invoke, Invoked, IsAnnounced, IsAt, IsAttemptAt, IsAttempted, IsBoard, IsCallAt, IsClosed, IsDirect, IsOpen, IsOrdered, IsPending, IsSound, IsSteady, Last, Linearize, List, Local, MayBeWritten, Me, Meaning, Moves, None, Option, Reading, Ready, Returned, Seen, Sequential, Sizes, Some, Stage, StandsIn, Step, View, Writing, [], acts_by, announces, ap, append-nil, append_assoc, arith, at_start, brings, brings_own, brought, brought_own, buffer_in, buffer_words, calls_seen, current_word, due_at, either, eqb, exchanged, false, first_image, goes, if◌then◌else◌, image_from, in_of, inl, inr, length, length-append, length-set, lt_cases, map, map-append, most_calls, nat_lt, number_cases, refl, reply_of, reply_place, response_at, response_at-append, set-get_or, set_at, set_at-cases, set_at_elsewhere, set_at_same, slice_get, slice_get-append_left, slice_get-append_right, slice_get_within, slice_index, slice_set, some, some-injective, spell, state_after, subst, suc, sym, take, take-length, takes_effect, takes_effect_own, true, version_in, with_local, with_seen, zero, ℕ, ◌*◌, ◌++◌, ◌+◌, ◌<◌, ◌==◌, ◌∙◌, ◌∷◌, ◌≡◌, ◌≢◌, ◌≤◌, ◌⊎◌}
 use Rattle.uni_small.proofs.Frame.{Found, Given, step_law, sound_with, sound_same}
+use Rattle.uni_small.proofs.Stepping.{bring_own_steps, bring_steps}
 use Rattle.uni_small.proofs.Lists.{due-here, due-set, due_cases, get-set, get-append, get-contains}
 use Rattle.uni_small.proofs.Acts.{acts_by-append, acts_by-linearized}
 use Rattle.uni_small.proofs.Images.{spell-reply, image_from-append, with_seen-calls, reached_from, rows-seen, width_is, applied-seen, reply-seen}
@@ -469,13 +470,13 @@ module _ {O : Type 0} (meaning : O → Meaning) (o : O) (sizes : Sizes) (id : �
           }
 
     pub brings_in : Moves meaning o sizes id me 0 (λ found. either (eqb found s) st.second found) (takes_effect s seen) (λ found me'. HasBrought st me found me')
-    brings_in = step_law meaning o sizes id me 0 (λ found. either (eqb found s) st.second found) (takes_effect s seen) (λ found me'. HasBrought st me found me') single (λ g local words f fits.
+    brings_in = step_law meaning o sizes id me 0 (λ found. either (eqb found s) st.second found) (takes_effect s seen) (λ found me'. HasBrought st me found me') single (bring_steps meaning o sizes st me tries s has announced new_is) (λ g local words f.
         exchanged (slice_index words 0) s st.second (λ x. Given meaning o sizes me g local (slice_set words 0 x) (takes_effect s seen g (slice_index words 0)) (HasBrought st me (slice_index words 0)))
         (hit g local words f) (miss g local words f))
 
   -- the exchange of a direct attempt
   module _ (direct : IsDirect me) (s number : ℕ) (inv : List ℕ) (whole : length inv ≡ sizes.invocation) (number_is : number ≡ length l.own + 1) (room : number ≤ most_calls) (has : HasWrittenOwn object sizes s inv me)
-      (new_is : st.second ≡ current_word (version_in s + 1) (2 * p + l.spare)) (its : Seen) (said_is : st.said ≡ some its) (inv_is : its.invocation.items ≡ inv) where
+      (new_is : st.second ≡ current_word (version_in s + 1) (2 * p + l.spare)) where
     abbrev own_image : Image
     own_image = has.0
 
@@ -488,15 +489,14 @@ module _ {O : Type 0} (meaning : O → Meaning) (o : O) (sizes : Sizes) (id : �
     own_stage : l.stage ≡ Writing 0 s own_image own_seen
     own_stage = has.1.1
 
+    abbrev LeftOwn : (found : ℕ) → Me Seen (View O) → Type 0
+    LeftOwn found me' = IsLeft me (brought_own l s st.second inv found) me'
+
     told_own : (found : ℕ) (l' : Local) (test : Bool) → (found == s) ≡ test → (if test then brings_own l st.second inv else goes l (Idle [])) ≡ l'
-        → HasBroughtOwn st me found (with_local me.0 l', me.1)
-    told_own found l' test is same s' image' seen' its' stage' said' =
-        let e : Writing 0 s own_image own_seen ≡ Writing 0 s' image' seen' = sym own_stage ∙ stage' in
-        let c : s ≡ s' = cc in
-        let t : its ≡ its' = some-injective its its' (sym said_is ∙ said') in
-        let words : inv ≡ its'.invocation.items = sym inv_is ∙ ap (λ (x : Seen). x.invocation.items) t in
+        → LeftOwn found (with_local me.0 l', me.1)
+    told_own found l' test is same =
         let here : brought_own l s st.second inv found ≡ l' = rw is same in
-        ap (λ (x : Local). (with_local me.0 x, me.1)) (sym here ∙ (λ k. brought_own l (c k) st.second (words k) found))
+        ap (λ (x : Local). (with_local me.0 x, me.1)) (sym here)
 
     module _ (g : Board) (local : ℕ → Local) (words : List ℕ) (f : Found meaning o sizes me g local words) where
       steadily_own : IsSteady object sizes.reply
@@ -512,7 +512,7 @@ module _ {O : Type 0} (meaning : O → Meaning) (o : O) (sizes : Sizes) (id : �
       at_own = attempt_at object sizes g p l (Writing 0 s own_image own_seen) f.mine own_stage
 
       -- S has changed: no call has begun
-      miss_own : slice_index words 0 ≢ s → Given meaning o sizes me g local (slice_set words 0 (slice_index words 0)) (takes_effect_own l p inv s own_seen g (slice_index words 0)) (HasBroughtOwn st me (slice_index words 0))
+      miss_own : slice_index words 0 ≢ s → Given meaning o sizes me g local (slice_set words 0 (slice_index words 0)) (takes_effect_own l p inv s own_seen g (slice_index words 0)) (LeftOwn (slice_index words 0))
       miss_own apart = record {
         board = g;
         local' = goes l (Idle []);
@@ -755,7 +755,7 @@ module _ {O : Type 0} (meaning : O → Meaning) (o : O) (sizes : Sizes) (id : �
           ordered = ordered_stays object sizes steadily_own few g1 local1 sound1 all long1 full1 p f.inside known1 out1 (2 * p + l.spare) b_inside written1 exactly1 p l.after l.own mine1.ordered;
         }
 
-        hit_own : Given meaning o sizes me g local (slice_set words 0 st.second) (takes_effect_own l p inv s own_seen g (slice_index words 0)) (HasBroughtOwn st me (slice_index words 0))
+        hit_own : Given meaning o sizes me g local (slice_set words 0 st.second) (takes_effect_own l p inv s own_seen g (slice_index words 0)) (LeftOwn (slice_index words 0))
         hit_own = record {
           board = g3;
           local' = brings_own l st.second inv;
@@ -771,7 +771,20 @@ module _ {O : Type 0} (meaning : O → Meaning) (o : O) (sizes : Sizes) (id : �
           ];
         }
 
-    pub brings_in_own : Moves meaning o sizes id me 0 (λ found. either (eqb found s) st.second found) (takes_effect_own l p inv s own_seen) (λ found me'. HasBroughtOwn st me found me')
-    brings_in_own = step_law meaning o sizes id me 0 (λ found. either (eqb found s) st.second found) (takes_effect_own l p inv s own_seen) (λ found me'. HasBroughtOwn st me found me') single (λ g local words f fits.
-        exchanged (slice_index words 0) s st.second (λ x. Given meaning o sizes me g local (slice_set words 0 x) (takes_effect_own l p inv s own_seen g (slice_index words 0)) (HasBroughtOwn st me (slice_index words 0)))
+    pub brings_in_left : Moves meaning o sizes id me 0 (λ found. either (eqb found s) st.second found) (takes_effect_own l p inv s own_seen) LeftOwn
+    brings_in_left = step_law meaning o sizes id me 0 (λ found. either (eqb found s) st.second found) (takes_effect_own l p inv s own_seen) LeftOwn single (bring_own_steps meaning o sizes st me s inv has direct whole (omega (arith, number_is, room)) new_is) (λ g local words f.
+        exchanged (slice_index words 0) s st.second (λ x. Given meaning o sizes me g local (slice_set words 0 x) (takes_effect_own l p inv s own_seen g (slice_index words 0)) (LeftOwn (slice_index words 0)))
         (λ same. hit_own g local words f same) (miss_own g local words f))
+
+    -- and the exchange that is told the call
+    pub brings_in_own : (its : Seen) → st.said ≡ some its → its.invocation.items ≡ inv
+        → Moves meaning o sizes id me 0 (λ found. either (eqb found s) st.second found) (takes_effect_own l p inv s own_seen) (λ found me'. HasBroughtOwn st me found me')
+    brings_in_own its said_is inv_is state g local seat_of is at =
+        let h = brings_in_left state g local seat_of is at in (h.0, (h.1.0, h.1.1, told_to (slice_index state.words 0) (h.0, me.1) h.1.2, h.1.3, h.1.4)) where
+      told_to : (found : ℕ) (me' : Me Seen (View O)) → LeftOwn found me' → HasBroughtOwn st me found me'
+      told_to found me' left s' image' seen' its' stage' said' =
+          let e : Writing 0 s own_image own_seen ≡ Writing 0 s' image' seen' = sym own_stage ∙ stage' in
+          let c : s ≡ s' = cc in
+          let t : its ≡ its' = some-injective its its' (sym said_is ∙ said') in
+          let words : inv ≡ its'.invocation.items = sym inv_is ∙ ap (λ (x : Seen). x.invocation.items) t in
+          left ∙ (λ k. (with_local me.0 (brought_own l (c k) st.second (words k) found), me.1))

@@ -1,5 +1,6 @@
 -- A word step of a seat of one process keeps the rule: what has to be shown of the board.
 use Rattle.uni_small.proofs.Vocabulary.{Act, AreWidths, AreWords, Board, IsAt, IsBoard, IsShown, IsSound, List, Local, Me, Meaning, Moves, Seen, Sequential, Sizes, Some, State, Tells, View, ap, append-nil, arith, at_set, get_elem?, inl, inr, nothing, set, set-get_or, set_at, set_at-cases, set_at_elsewhere, set_at_same, slice_index, slice_set, some, subst, sym, with_local, ℕ, ⊎_elim, ◌++◌, ◌<◌, ◌∙◌, ◌≡◌, ◌≢◌}
+use Rattle.uni_small.proofs.Running.{IsStepTo, runs_on}
 
 -- one process gets another local, and the others stay where they are
 pub sound_with : (object : Sequential (List ℕ) (List ℕ) (List ℕ)) (sizes : Sizes) (g g' : Board) (local : ℕ → Local) (p : ℕ) (l' : Local) → IsSound object sizes g local
@@ -29,6 +30,12 @@ pub record Found {O : Type 0} (meaning : O → Meaning) (o : O) (sizes : Sizes) 
   pub sound : IsSound (meaning o).object sizes g local
   pub mine : IsAt (meaning o).object sizes g me.0.known.first me.0.known.local
 
+-- The step of a seat of one process is one of its process in an execution, whatever it finds.
+abbrev pub Steps : {O : Type 0} (meaning : O → Meaning) (o : O) (sizes : Sizes) (me : Me Seen (View O)) (j : ℕ) (f : ℕ → ℕ) (acts : Board → ℕ → List (Act (List ℕ) (List ℕ))) (says : ℕ → Me Seen (View O) → Type 0) → Type 0
+Steps {O} meaning o sizes me j f acts says =
+    (g : Board) (local : ℕ → Local) (words : List ℕ) → Found meaning o sizes me g local words → (me' : Me Seen (View O)) → says (slice_index words j) me'
+    → IsStepTo (meaning o).object sizes me.0.known.first words j (f (slice_index words j)) me'.0.known.local (acts g (slice_index words j)) me.0.known.local
+
 -- what has to be given: the board afterwards, with these acts more, and what the process knows then
 pub record Given {O : Type 0} (meaning : O → Meaning) (o : O) (sizes : Sizes) (me : Me Seen (View O)) (g : Board) (local : ℕ → Local) (words' : List ℕ) (acts : List (Act (List ℕ) (List ℕ))) (says : Me Seen (View O) → Type 0) : Type 0 where
   pub board : Board
@@ -39,7 +46,7 @@ pub record Given {O : Type 0} (meaning : O → Meaning) (o : O) (sizes : Sizes) 
   pub appended : board.acts ≡ g.acts ++ acts
 
 module _ {O : Type 0} (meaning : O → Meaning) (o : O) (sizes : Sizes) (id : ℕ) (me : Me Seen (View O)) (i : ℕ) (f : ℕ → ℕ) (acts : Board → ℕ → List (Act (List ℕ) (List ℕ))) (says : ℕ → Me Seen (View O) → Type 0)
-    (single : me.0.known.count ≡ 1) where
+    (single : me.0.known.count ≡ 1) (steps : Steps meaning o sizes me i f acts says) where
   abbrev p : ℕ
   p = me.0.known.first
 
@@ -101,31 +108,31 @@ module _ {O : Type 0} (meaning : O → Meaning) (o : O) (sizes : Sizes) (id : �
           })
           (at_set s.views id j (with_local me.0 given.local') u e)
 
-  pub step_law : ((g : Board) (local : ℕ → Local) (words : List ℕ) → Found meaning o sizes me g local words → slice_index words i < 18446744073709551616
+  pub step_law : ((g : Board) (local : ℕ → Local) (words : List ℕ) → Found meaning o sizes me g local words
       → Given meaning o sizes me g local (slice_set words i (f (slice_index words i))) (acts g (slice_index words i)) (says (slice_index words i)))
       → Moves meaning o sizes id me i f acts says
-  step_law give s g local seat_of is at fits =
-      let given = give g local s.words (found s g local seat_of is at) fits in (
+  step_law give s g local seat_of is at =
+      let given = give g local s.words (found s g local seat_of is at) in (
         with_local me.0 given.local',
         (
           given.board,
-          (
-            set_at local p given.local',
-            record { widths = is.widths; words = given.words_are; seats = seats_later s g local seat_of is at given; sound = given.sound },
-            given.said,
-            given.appended,
-          ),
+          record { widths = is.widths; words = given.words_are; seats = seats_later s g local seat_of is at given; sound = given.sound },
+          given.said,
+          given.appended,
+          runs_on (meaning o).object sizes g given.board local s.words p (own s g local seat_of is at).0 me.0.known.local (own s g local seat_of is at).2
+              i (f (slice_index s.words i)) given.local' (acts g (slice_index s.words i))
+              (steps g local s.words (found s g local seat_of is at) (with_local me.0 given.local', me.1) given.said) given.appended,
         ),
       )
 
 -- a load leaves the words and the board as they are
 pub load_law : {O : Type 0} (meaning : O → Meaning) (o : O) (sizes : Sizes) (id : ℕ) (me : Me Seen (View O)) (i : ℕ) (says : ℕ → Me Seen (View O) → Type 0)
-    → me.0.known.count ≡ 1
+    → me.0.known.count ≡ 1 → Steps meaning o sizes me i (λ x. x) nothing says
     → ((g : Board) (local : ℕ → Local) (words : List ℕ) → Found meaning o sizes me g local words
     → (l' : Local) × IsAt (meaning o).object sizes g me.0.known.first l' × says (slice_index words i) (with_local me.0 l', me.1))
     → Moves meaning o sizes id me i (λ x. x) nothing says
-load_law meaning o sizes id me i says single give = step_law meaning o sizes id me i (λ x. x) nothing says single
-    (λ g local words found fits.
+load_law meaning o sizes id me i says single steps give = step_law meaning o sizes id me i (λ x. x) nothing says single steps
+    (λ g local words found.
     let given = give g local words found in record {
       board = g;
       local' = given.0;

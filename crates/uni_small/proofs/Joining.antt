@@ -33,6 +33,7 @@ joins {O} meaning o sizes id v other x some_left single idle s holds at apart th
             seats = seats_later g local seat_of is told theirs;
             sound = is.sound;
           },
+          holds.1.1.2,
         ),
       ),
     ) where

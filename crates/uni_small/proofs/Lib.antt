@@ -14,6 +14,7 @@ pub mod Batch
 pub mod Exchange
 pub mod Reply
 pub mod Allowed
+pub mod Stepping
 pub mod Opening
 pub mod Splitting
 pub mod Going
@@ -21,3 +22,8 @@ pub mod Ending
 pub mod Seating
 pub mod Closing
 pub mod Joining
+pub mod Running
+pub mod Executing
+pub mod Linearity
+pub mod Progressing
+pub mod Sampled

@@ -3,6 +3,7 @@ use Rattle.uni_small.proofs.Vocabulary.{AreHeld, AreIn, AreWhole, Board, Bool, H
 use Rattle.uni_small.specs.Invariant.{IsCopied}
 use Rattle.std.proofs.lemmas.Bool.Decides.{nat_tests}
 use Rattle.uni_small.proofs.Frame.{Found, load_law}
+use Rattle.uni_small.proofs.Stepping.{ask_steps, begin_steps, check_own_steps, check_steps, copy_steps, follow_steps, look_steps, start_steps, turn_steps}
 use Rattle.uni_small.proofs.Lists.{due-set, due_cases, due_last, due_same, due_snoc, get-contains, get_last, get_snoc, index_last, index_snoc, same_list, sum_most}
 use Rattle.uni_small.proofs.Rows.{begins_more}
 use Rattle.uni_small.proofs.Images.{spell-length, spell-applied, read-spell, reached_from, rows-seen, width_is, reply-seen}
@@ -136,8 +137,8 @@ module _ {O : Type 0} (meaning : O → Meaning) (o : O) (sizes : Sizes) (id : �
   attempted_closed g direct call = subst (IsAttempted object sizes g p l) direct call
 
   -- an attempt begins
-  pub starts : (tries : ℕ) → stage_of me ≡ Ready tries → Moves meaning o sizes id me 0 (λ x. x) nothing (λ found me'. HasStarted st me found me')
-  starts tries stage = load_law meaning o sizes id me 0 (λ found me'. HasStarted st me found me') single (λ g local words f.
+  pub starts : (tries : ℕ) → tries < 2 → stage_of me ≡ Ready tries → Moves meaning o sizes id me 0 (λ x. x) nothing (λ found me'. HasStarted st me found me')
+  starts tries fresh stage = load_law meaning o sizes id me 0 (λ found me'. HasStarted st me found me') single (start_steps meaning o sizes st me tries fresh stage) (λ g local words f.
       let s = slice_index words 0 in
       let is : s ≡ current_word g.version g.current = f.words_are.current in
       let here : buffer_in s ≡ g.current = ap buffer_in is ∙ buffer_of g.version g.current (let c = f.sound.board.current in omega arith) in
@@ -166,7 +167,7 @@ module _ {O : Type 0} (meaning : O → Meaning) (o : O) (sizes : Sizes) (id : �
   -- a word of the current buffer is copied
   pub copies : (tries s i : ℕ) → IsCopying tries s i me → i < buffer_words sizes → buffer_in s < 2 * sizes.processes
       → Moves meaning o sizes id me (buffer_word sizes (buffer_in s) i) (λ x. x) nothing (λ found me'. HasCopied st me found me')
-  copies tries s i copying below named = load_law meaning o sizes id me (buffer_word sizes (buffer_in s) i) (λ found me'. HasCopied st me found me') single (λ g local words f.
+  copies tries s i copying below named = load_law meaning o sizes id me (buffer_word sizes (buffer_in s) i) (λ found me'. HasCopied st me found me') single (copy_steps meaning o sizes st me tries s i copying below) (λ g local words f.
       let x = slice_index words (buffer_word sizes (buffer_in s) i) in
       let copy = copying.0 in
       let stage = copying.1 in
@@ -200,7 +201,7 @@ module _ {O : Type 0} (meaning : O → Meaning) (o : O) (sizes : Sizes) (id : �
   -- an announcement is looked at
   pub looks : (tries s r : ℕ) → IsLooking sizes tries s r me → r < sizes.processes
       → Moves meaning o sizes id me (announce_word r) (λ x. x) nothing (λ found me'. HasLooked st me found me')
-  looks tries s r looking inside = load_law meaning o sizes id me (announce_word r) (λ found me'. HasLooked st me found me') single (λ g local words f.
+  looks tries s r looking inside = load_law meaning o sizes id me (announce_word r) (λ found me'. HasLooked st me found me') single (look_steps meaning o sizes st me tries s r looking inside) (λ g local words f.
       let x = slice_index words (announce_word r) in
       let copy = looking.0 in
       let seen = looking.1.0 in
@@ -285,7 +286,7 @@ module _ {O : Type 0} (meaning : O → Meaning) (o : O) (sizes : Sizes) (id : �
   -- a word of an invocation is asked for
   pub asks : (tries s r i : ℕ) → IsAsking tries s r i me → r < sizes.processes → i < sizes.invocation
       → Moves meaning o sizes id me (argument_word sizes r i) (λ x. x) nothing (λ found me'. HasAsked st me found me')
-  asks tries s r i asking inside room = load_law meaning o sizes id me (argument_word sizes r i) (λ found me'. HasAsked st me found me') single (λ g local words f.
+  asks tries s r i asking inside room = load_law meaning o sizes id me (argument_word sizes r i) (λ found me'. HasAsked st me found me') single (ask_steps meaning o sizes st me tries s r i asking inside room) (λ g local words f.
       let x = slice_index words (argument_word sizes r i) in
       let copy = asking.0 in
       let seen = asking.1.0 in
@@ -336,7 +337,7 @@ module _ {O : Type 0} (meaning : O → Meaning) (o : O) (sizes : Sizes) (id : �
 
   -- after two attempts that failed the call is in
   pub turns : (tries : ℕ) → 2 ≤ tries → stage_of me ≡ Ready tries → IsAnnounced me → Moves meaning o sizes id me 0 (λ x. x) nothing (λ found me'. HasTurned st me found me')
-  turns tries two stage announced = load_law meaning o sizes id me 0 (λ found me'. HasTurned st me found me') single (λ g local words f.
+  turns tries two stage announced = load_law meaning o sizes id me 0 (λ found me'. HasTurned st me found me') single (turn_steps meaning o sizes st me tries two stage announced) (λ g local words f.
       let s = slice_index words 0 in
       let is : s ≡ current_word g.version g.current = f.words_are.current in
       let since : g.since p + tries ≤ g.version = attempt_at object sizes g p l (Ready tries) f.mine stage in
@@ -373,7 +374,7 @@ module _ {O : Type 0} (meaning : O → Meaning) (o : O) (sizes : Sizes) (id : �
   -- S is loaded again
   pub checks : (tries s : ℕ) → IsLooking sizes tries s sizes.processes me → IsAnnounced me → IsSteady (meaning o).object (meaning o).reply
       → Moves meaning o sizes id me 0 (λ x. x) nothing (λ found me'. (q : O) → me.0.object ≡ Some q → HasChecked (meaning q) st me found me')
-  checks tries s looking announced_is steady = load_law meaning o sizes id me 0 (λ found me'. (q : O) → me.0.object ≡ Some q → HasChecked (meaning q) st me found me') single (λ g local words f.
+  checks tries s looking announced_is steady = load_law meaning o sizes id me 0 (λ found me'. (q : O) → me.0.object ≡ Some q → HasChecked (meaning q) st me found me') single (check_steps meaning o sizes st me tries s looking announced_is) (λ g local words f.
       let x = slice_index words 0 in
       let copy = looking.0 in
       let seen = looking.1.0 in
@@ -447,8 +448,8 @@ module _ {O : Type 0} (meaning : O → Meaning) (o : O) (sizes : Sizes) (id : �
             (by_in {local = local} {words = words} g copy seen x f wide long full call was is same (slice_index copy p == length l.own + 1) refl)
 
   -- a direct attempt begins
-  pub begins_own : stage_of me ≡ Idle [] → Moves meaning o sizes id me 0 (λ x. x) nothing (λ found me'. HasBegun st me found me')
-  begins_own stage = load_law meaning o sizes id me 0 (λ found me'. HasBegun st me found me') single (λ g local words f.
+  pub begins_own : stage_of me ≡ Idle [] → length l.own < most_calls → Moves meaning o sizes id me 0 (λ x. x) nothing (λ found me'. HasBegun st me found me')
+  begins_own stage room = load_law meaning o sizes id me 0 (λ found me'. HasBegun st me found me') single (begin_steps meaning o sizes st me stage room) (λ g local words f.
       let s = slice_index words 0 in
       let is : s ≡ current_word g.version g.current = f.words_are.current in
       let here : buffer_in s ≡ g.current = ap buffer_in is ∙ buffer_of g.version g.current (let c = f.sound.board.current in omega arith) in
@@ -484,7 +485,7 @@ module _ {O : Type 0} (meaning : O → Meaning) (o : O) (sizes : Sizes) (id : �
   -- S is loaded again in a direct attempt
   pub checks_own : (s : ℕ) → IsLooking sizes 0 s sizes.processes me → IsDirect me → IsSteady (meaning o).object (meaning o).reply
       → Moves meaning o sizes id me 0 (λ x. x) nothing (λ found me'. (q : O) → me.0.object ≡ Some q → HasCheckedOwn (meaning q) st me found me')
-  checks_own s looking direct steady = load_law meaning o sizes id me 0 (λ found me'. (q : O) → me.0.object ≡ Some q → HasCheckedOwn (meaning q) st me found me') single (λ g local words f.
+  checks_own s looking direct steady = load_law meaning o sizes id me 0 (λ found me'. (q : O) → me.0.object ≡ Some q → HasCheckedOwn (meaning q) st me found me') single (check_own_steps meaning o sizes st me s looking direct) (λ g local words f.
       let x = slice_index words 0 in
       let copy = looking.0 in
       let seen = looking.1.0 in
@@ -530,7 +531,7 @@ module _ {O : Type 0} (meaning : O → Meaning) (o : O) (sizes : Sizes) (id : �
 
   -- S is loaded between calls
   pub follows_on : stage_of me ≡ Idle [] → Moves meaning o sizes id me 0 (λ x. x) nothing (λ found me'. HasFollowed st me found me')
-  follows_on stage = load_law meaning o sizes id me 0 (λ found me'. HasFollowed st me found me') single (λ g local words f.
+  follows_on stage = load_law meaning o sizes id me 0 (λ found me'. HasFollowed st me found me') single (follow_steps meaning o sizes st me stage) (λ g local words f.
       let s = slice_index words 0 in
       let is : s ≡ current_word g.version g.current = f.words_are.current in
       let b = f.sound.board in

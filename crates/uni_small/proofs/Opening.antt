@@ -1,5 +1,6 @@
 -- The table that is made shows the board that is opened.
 use Rattle.uni_small.proofs.Vocabulary.{AreHeld, AreWidths, AreWords, HasRows, IsBoard, IsSound, List, Meaning, Seen, Sequential, ShowsBoard, Sizes, Tells, View, [], ap, append-nil, append_assoc, argument_word, arith, at_rest, buffer_word, buffer_words, first_held, first_image, first_view, get_elem?, get_or-append-add, get_or-replicate, get_or_append_left, held_place, joined, length, length-append, length-replicate, opened, opening, refl, replicate, replicate-append-replicate, slice_get_within, slice_index, some, some-injective, some-ne-none, spell, subst, suc, suc-mul, sym, words_before, words_of, zero, ℕ, ◌*◌, ◌++◌, ◌+◌, ◌<◌, ◌∙◌, ◌∷◌, ◌≡◌, ◌≤◌}
+use Rattle.uni_small.specs.Execution.Execution.{Ends}
 use Rattle.uni_small.proofs.Images.{spell-length, spell-reply}
 use Rattle.uni_small.proofs.Rows.{later}
 
@@ -84,7 +85,7 @@ module _ (object : Sequential (List ℕ) (List ℕ) (List ℕ)) (sizes : Sizes) 
   made_length = length-append (replicate (words_before sizes) 0) (joined (replicate (2 * sizes.processes) first))
       ∙ (λ k. length_zeros (words_before sizes) k + copies_length first (2 * sizes.processes) k) ∙ ap (λ w. words_before sizes + 2 * sizes.processes * w) first_length
 
-  words_are : AreWords sizes (opened object sizes) words
+  pub words_are : AreWords sizes (opened object sizes) words
   words_are = record {
     wide = made_length;
     current = before 0 (omega arith);
@@ -131,7 +132,7 @@ module _ (object : Sequential (List ℕ) (List ℕ) (List ℕ)) (sizes : Sizes) 
     history = refl;
   }
 
-  sound : IsSound object sizes (opened object sizes) (λ p. at_rest (first_held object sizes))
+  pub sound : IsSound object sizes (opened object sizes) (λ p. at_rest (first_held object sizes))
   sound = record {
     board = board;
     each = λ p below. record {
@@ -163,6 +164,7 @@ opening_shows {O} meaning o sizes widths few wide = (
         seats = seats;
         sound = sound (meaning o).object sizes few wide;
       },
+      (Ends, record { words_are = refl; locals_are = λ p inside. refl; acts_are = refl }),
     ),
   ),
 ) where

@@ -1,6 +1,7 @@
 -- The load of the reply, by which a call returns.
 use Rattle.uni_small.proofs.Vocabulary.{AcceptsAll-append, Act, AreWords, Atomic, Board, HasLoaded, HasReplied, HasTaken, Invoke, Invoked, IsBeginning, IsLoading, IsOpen, IsPending, Last, List, Local, Me, Meaning, Moves, None, Respond, Returned, Seen, Sequential, Sizes, Some, StandsIn, Step, View, [], ap, append_assoc, arith, at_start, buffer_in, buffer_word, ending, ends, goes, in_of, inl, inr, length, length-append, lt_cases, map, nothing, plain, refl, reply_of, reply_place, response_at, returns, sequential_acts, set-get_or, set_at, set_at-cases, set_at_elsewhere, set_at_same, slice_index, some, stage_of, subst, sym, version_in, with_local, ℕ, ◌*◌, ◌++◌, ◌+◌, ◌<◌, ◌∙◌, ◌∷◌, ◌≡◌, ◌≤◌}
 use Rattle.uni_small.proofs.Frame.{Found, load_law, sound_with, step_law}
+use Rattle.uni_small.proofs.Stepping.{load_steps, reply_steps}
 use Rattle.uni_small.proofs.Rows.{begins_more, begins_whole, later}
 use Rattle.uni_small.proofs.Lists.{get_snoc}
 use Rattle.uni_small.proofs.Loads.{call_at, attempt_at, none_beyond}
@@ -31,14 +32,14 @@ module _ {O : Type 0} (meaning : O → Meaning) (o : O) (sizes : Sizes) (id : �
       (found ∙ b.kept (buffer_in s) p (length loaded) named f.inside room (record { process = p; nth = length l.own; inv = l.inv }, call.is_open) was.1)
 
   -- a word of it, of which more are to come
-  pub loads : (s k : ℕ) → IsLoading s k me → k < sizes.reply → buffer_in s < 2 * sizes.processes
+  pub loads : (s k : ℕ) → IsLoading s k me → k + 1 < sizes.reply → buffer_in s < 2 * sizes.processes
       → Moves meaning o sizes id me (buffer_word sizes (buffer_in s) (reply_place sizes p k)) (λ x. x) nothing (λ found me'. HasLoaded st me found me')
-  loads s k loading room named =
+  loads s k loading more named =
       let loaded = loading.0 in
       let stage : l.stage ≡ Last s loaded = loading.1 in
       let long : length loaded ≡ k = loading.2 in
       subst (λ j. Moves meaning o sizes id me (buffer_word sizes (buffer_in s) (reply_place sizes p j)) (λ x. x) nothing (λ found me'. HasLoaded st me found me')) long
-      (load_law meaning o sizes id me (buffer_word sizes (buffer_in s) (reply_place sizes p (length loaded))) (λ found me'. HasLoaded st me found me') single (λ g local words f.
+      (load_law meaning o sizes id me (buffer_word sizes (buffer_in s) (reply_place sizes p (length loaded))) (λ found me'. HasLoaded st me found me') single (load_steps meaning o sizes st me s (length loaded) (loaded, stage, refl) (omega (arith, long, more))) (λ g local words f.
       let x = slice_index words (buffer_word sizes (buffer_in s) (reply_place sizes p (length loaded))) in
       let was = attempt_at object sizes g p l (Last s loaded) f.mine stage in (
         goes l (Last s (loaded ++ x ∷ [])),
@@ -59,7 +60,7 @@ module _ {O : Type 0} (meaning : O → Meaning) (o : O) (sizes : Sizes) (id : �
   -- the last word
   pub replies : (s : ℕ) (loaded : List ℕ) → stage_of me ≡ Last s loaded → length loaded + 1 ≡ sizes.reply → buffer_in s < 2 * sizes.processes
       → Moves meaning o sizes id me (buffer_word sizes (buffer_in s) (reply_place sizes p (length loaded))) (λ x. x) (ends l p loaded) (λ found me'. HasReplied st me found me')
-  replies s loaded stage last named = step_law meaning o sizes id me (buffer_word sizes (buffer_in s) (reply_place sizes p (length loaded))) (λ x. x) (ends l p loaded) (λ found me'. HasReplied st me found me') single (λ g local words f fits.
+  replies s loaded stage last named = step_law meaning o sizes id me (buffer_word sizes (buffer_in s) (reply_place sizes p (length loaded))) (λ x. x) (ends l p loaded) (λ found me'. HasReplied st me found me') single (reply_steps meaning o sizes st me s loaded stage last) (λ g local words f.
       let x = loaded ++ slice_index words (buffer_word sizes (buffer_in s) (reply_place sizes p (length loaded))) ∷ [] in
       let call : IsOpen object g p l.inv l.own = call_at object sizes g p l (Last s loaded) f.mine stage in
       let was = attempt_at object sizes g p l (Last s loaded) f.mine stage in

@@ -1,6 +1,7 @@
 -- The word steps that store.
 use Rattle.uni_small.proofs.Vocabulary.{AcceptsAll-append, Act, AreHeld, Atomic, Board, Bool, HasAnnounced, HasStored, HasWritten, Idle, Invoke, IsAttemptAt, IsAttempted, IsBeginning, IsCallAt, IsClosed, IsOpen, IsStoring, IsWriting, List, Local, MayBeWritten, Me, Meaning, Moves, Option, Seen, Sequential, Sizes, Some, Step, View, Writing, [], announce_word, announces, ap, append-nil, argument_word, arith, at_start, begins, buffer_word, buffer_words, due_at, false, get_or-set_other, get_or-set_same, goes, held_place, in_of, inl, inr, length, length-set, most_calls, nothing, number_cases, refl, reply_place, set_at, set_at-cases, set_at_elsewhere, set_at_same, slice_index, slice_set, spell, stage_of, subst, sym, true, with_local, with_seen, wrote, ℕ, ◌*◌, ◌++◌, ◌+◌, ◌<◌, ◌∙◌, ◌∷◌, ◌≡◌, ◌≢◌, ◌≤◌}
 use Rattle.uni_small.proofs.Frame.{step_law, sound_with}
+use Rattle.uni_small.proofs.Stepping.{announce_steps, store_steps, write_steps}
 use Rattle.uni_small.proofs.Images.{spell-reply}
 use Rattle.uni_small.proofs.Loads.{call_at, attempt_at}
 use Rattle.uni_small.proofs.Acts.{invoked_other, invoked_own}
@@ -45,7 +46,7 @@ module _ {O : Type 0} (meaning : O → Meaning) (o : O) (sizes : Sizes) (id : �
 
   -- a word of the invocation of the next call is stored
   pub stores : (k x : ℕ) → IsStoring k me → k < sizes.invocation → Moves meaning o sizes id me (argument_word sizes p k) (λ y. x) nothing (λ found me'. HasStored st me x me')
-  stores k x storing room = step_law meaning o sizes id me (argument_word sizes p k) (λ y. x) nothing (λ found me'. HasStored st me x me') single (λ g local words f fits.
+  stores k x storing room = step_law meaning o sizes id me (argument_word sizes p k) (λ y. x) nothing (λ found me'. HasStored st me x me') single (store_steps meaning o sizes st me k x storing room) (λ g local words f.
       let stored = storing.0 in
       let stage : l.stage ≡ Idle stored = storing.1 in
       let long : length stored ≡ k = storing.2 in
@@ -122,7 +123,7 @@ module _ {O : Type 0} (meaning : O → Meaning) (o : O) (sizes : Sizes) (id : �
   -- the call is announced: it begins
   pub announced : (number : ℕ) (inv : List ℕ) → number ≡ length l.own + 1 → number ≤ most_calls → stage_of me ≡ Idle inv → length inv ≡ sizes.invocation
       → Moves meaning o sizes id me (announce_word p) (λ x. number) (begins l p inv) (λ found me'. HasAnnounced st me number me')
-  announced number inv is few stage long = step_law meaning o sizes id me (announce_word p) (λ x. number) (begins l p inv) (λ found me'. HasAnnounced st me number me') single (λ g local words f fits.
+  announced number inv is few stage long = step_law meaning o sizes id me (announce_word p) (λ x. number) (begins l p inv) (λ found me'. HasAnnounced st me number me') single (announce_steps meaning o sizes st me number inv is few stage long) (λ g local words f.
       let call = call_at object sizes g p l (Idle inv) f.mine stage in
       let stored : g.argument p ≡ inv = begins_whole inv (g.argument p) call.1 (long ∙ sym (f.sound.board.arguments p f.inside)) in
       record {
@@ -135,9 +136,9 @@ module _ {O : Type 0} (meaning : O → Meaning) (o : O) (sizes : Sizes) (id : �
       })
 
   -- a word of the spare buffer is stored
-  pub writes : (k x : ℕ) → IsWriting object k x me → k < buffer_words sizes → st.word ≡ buffer_word sizes (2 * p + l.spare) k
+  pub writes : (k x : ℕ) → IsWriting object k x me → k < buffer_words sizes → slice_index l.held (held_place sizes l.spare k) ≢ x → st.word ≡ buffer_word sizes (2 * p + l.spare) k
       → Moves meaning o sizes id me (buffer_word sizes (2 * p + l.spare) k) (λ y. x) nothing (λ found me'. HasWritten st me x me')
-  writes k x writing room word_is = step_law meaning o sizes id me (buffer_word sizes (2 * p + l.spare) k) (λ y. x) nothing (λ found me'. HasWritten st me x me') single (λ g local words f fits.
+  writes k x writing room differs word_is = step_law meaning o sizes id me (buffer_word sizes (2 * p + l.spare) k) (λ y. x) nothing (λ found me'. HasWritten st me x me') single (write_steps meaning o sizes st me k x writing room differs word_is) (λ g local words f.
       let tries = writing.0 in
       let s = writing.1 in
       let image = writing.2 in

@@ -1,13 +1,14 @@
 -- What the steps on words append to the history of the board.
-use Rattle.std.specs.Prelude.{◌≡◌, ℕ, ◌==◌, ◌<◌, List, [], ◌∷◌, ◌++◌, map, length, slice_index, slice_set, Option, Some, refl, if◌then◌else◌}
+use Rattle.std.specs.Prelude.{◌≡◌, ℕ, ◌==◌, List, [], ◌∷◌, ◌++◌, map, length, slice_index, slice_set, Option, Some, refl, if◌then◌else◌}
 use mathlib.Core.Option.{some}
 use lib.ListN.{get_elem?}
 use Rattle.atomic_table.specs.Table.{State, Me, keeps, stepped}
-use Rattle.uni_model.specs.AtomicObject.{Act}
+use Rattle.uni_model.specs.AtomicObject.{Act, set_at}
 use Rattle.uni_model.specs.AtomicObject.Act.{Invoke, Linearize, Respond}
 use Rattle.uni_small.specs.Image.{Meaning, calls_seen, counter_sizes, sample_counter}
 use Rattle.uni_small.specs.View.{Local}
 use Rattle.uni_small.specs.Board.{Board, opened}
+use Rattle.uni_small.specs.Ran.{GoesOn}
 use Rattle.uni_small.specs.Shown.{IsShown}
 use Rattle.uni_small.specs.declared.seat.Seen.{Seen}
 use Rattle.uni_small.specs.declared.sizes.Sizes.{Sizes}
@@ -15,14 +16,17 @@ use Rattle.uni_small.specs.declared.view.View.{View}
 
 module _ {O : Type 0} (meaning : O → Meaning) (o : O) (sizes : Sizes) (id : ℕ) (me : Me Seen (View O)) where
   -- Where the table shows a board, and the word i becomes f of what it was by a step of the seat id, the table shows a board whose history
-  -- has these acts more, and the seat is told this.
+  -- has these acts more, the seat is told this, and the seat's process alone stands elsewhere. And each execution that led here leads there with
+  -- one step of that process more.
   abbrev pub Moves : (i : ℕ) → (f : ℕ → ℕ) → (acts : Board → (found : ℕ) → List (Act (List ℕ) (List ℕ))) → (says : ℕ → Me Seen (View O) → Type 0) → Type 0
   Moves i f acts says =
       (s : State Seen (View O)) (g : Board) (local : ℕ → Local) (seat_of : ℕ → ℕ) → IsShown sizes meaning o g local seat_of s
-      → get_elem? s.views id ≡ some me.0 → slice_index s.words i < 18446744073709551616
-      → (v : View O) × ((g' : Board) × ((local' : ℕ → Local)
-      × IsShown sizes meaning o g' local' seat_of (stepped s i (f (slice_index s.words i)) id me.1 v keeps)
-      × says (slice_index s.words i) (v, me.1) × (g'.acts ≡ g.acts ++ acts g (slice_index s.words i))))
+      → get_elem? s.views id ≡ some me.0
+      → (v : View O) × ((g' : Board)
+      × IsShown sizes meaning o g' (set_at local me.0.known.first v.known.local) seat_of (stepped s i (f (slice_index s.words i)) id me.1 v keeps)
+      × says (slice_index s.words i) (v, me.1) × (g'.acts ≡ g.acts ++ acts g (slice_index s.words i))
+      × GoesOn (meaning o).object sizes me.0.known.first g local s.words g' (set_at local me.0.known.first v.known.local)
+      (slice_set s.words i (f (slice_index s.words i))))
 
 -- no act
 abbrev pub nothing : Board → (found : ℕ) → List (Act (List ℕ) (List ℕ))

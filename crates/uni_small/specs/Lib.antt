@@ -10,5 +10,10 @@ pub mod Laws
 pub mod Rule
 pub mod Plays
 pub mod Standing
+pub mod Execution
+pub mod Ran
+pub mod Linearized
+pub mod Progress
 pub mod Belongs
 pub mod Final
+pub mod Ended

@@ -8,6 +8,7 @@ use Rattle.uni_small.specs.View.{Local, Known, ProcessReturned}
 use Rattle.uni_small.specs.View.Stage.{Idle}
 use Rattle.uni_small.specs.Board.{Board, words_of, current_word, announce_word, argument_word, buffer_word}
 use Rattle.uni_small.specs.Invariant.{IsSound}
+use Rattle.uni_small.specs.Ran.{HasRun}
 use Rattle.uni_small.specs.declared.seat.Seen.{Seen}
 use Rattle.uni_small.specs.declared.sizes.Sizes.{Sizes}
 use Rattle.uni_small.specs.declared.view.View.{View}
@@ -45,7 +46,8 @@ module _ (sizes : Sizes) where
     pub seats : (id : ℕ) (v : View O) → get_elem? s.views id ≡ some v → Tells o local seat_of id v
     pub sound : IsSound (meaning o).object sizes g local
 
--- the rule: the table shows some board
+-- the rule: the table shows some board, to which an execution has led
 abbrev pub ShowsBoard : {O : Type 0} → (meaning : O → Meaning) → (o : O) → Sizes → State Seen (View O) → Type 0
 ShowsBoard meaning o sizes s =
-    (g : Board) × ((local : ℕ → Local) × ((seat_of : ℕ → ℕ) × IsShown sizes meaning o g local seat_of s))
+    (g : Board) × ((local : ℕ → Local) × ((seat_of : ℕ → ℕ) × IsShown sizes meaning o g local seat_of s
+    × HasRun (meaning o).object sizes g local s.words))

@@ -332,6 +332,7 @@ impl<O: SmallObject> SmallShared<O> {
         requires table { seat.old.table_id ≡ self.now.table.shared.table_id }
         requires inside { p < self.now.setup.sizes.processes }
         requires of { IsOf self.now.setup.object self.now.setup.sizes p seat.old.me }
+        requires few { tries < 2 }
         requires stage { stage_of seat.old.me ≡ Ready tries }
         requires own { AreBuffers self.now.setup.sizes (local_of seat.old.me) own.now }
         requires room { HasRoom self.now.setup.sizes room.old }
@@ -432,6 +433,7 @@ impl<O: SmallObject> SmallShared<O> {
         requires inside { p < self.now.setup.sizes.processes }
         requires of { IsOf self.now.setup.object self.now.setup.sizes p seat.old.me }
         requires announced { IsAnnounced seat.old.me }
+        requires few { tries < 2 }
         requires stage { stage_of seat.old.me ≡ Ready tries }
         requires number { number ≡ length (local_of seat.old.me).own + 1 }
         requires own { AreBuffers self.now.setup.sizes (local_of seat.old.me) own.old }

@@ -1,9 +1,10 @@
 //! Closing an object.
 ghost use Rattle.std.specs.Prelude.{◌≡◌, ◌++◌, ◌+◌, ◌*◌, ◌<◌, ◌≤◌, [], All, flat_map, length, slice_index};
 ghost use Rattle.std.specs.Mem.Slots.{IsFull, slots_items, slots_len};
-ghost use Rattle.uni_small.specs.Belongs.{IsSeatOf, calls_made, calls_of, known_calls, object_of, version_of};
+ghost use Rattle.uni_small.specs.Belongs.{IsSeatOf, calls_made, calls_of, known_calls, object_of, sizes_of, version_of};
 ghost use Rattle.uni_small.specs.Belongs.{invocation_width_of, processes_of, reply_width_of, width_of, word_steps_of};
 ghost use Rattle.uni_small.specs.Board.{AreFew, buffer_in, words_of};
+ghost use Rattle.uni_small.specs.Ended.{HasRunTo};
 ghost use Rattle.uni_small.specs.Final.{IsFinal};
 ghost use Rattle.uni_small.specs.Reading.{IsStateIn};
 
@@ -63,6 +64,7 @@ impl<O: SmallObject> SmallShared<O> {
     pub fn close(self, state: &mut [u64])
         requires wide { length state.old ≡ width_of self }
         ensures told { IsFinal (O.meaning (object_of self)).object (processes_of self) [] state.new }
+        ensures ran { HasRunTo (O.meaning (object_of self)).object (sizes_of self) [] state.new }
     {
         let SmallShared { setup, table } = self;
         let Setup { object, sizes } = setup;
@@ -81,6 +83,7 @@ impl<O: SmallObject> SmallShared<O> {
         requires seat { IsSeatOf self seat }
         requires wide { length state.old ≡ width_of self }
         ensures told { IsFinal (O.meaning (object_of self)).object (processes_of self) (known_calls seat) state.new }
+        ensures ran { HasRunTo (O.meaning (object_of self)).object (sizes_of self) (known_calls seat) state.new }
     {
         let SmallShared { setup, table } = self;
         let Setup { object, sizes } = setup;
@@ -95,6 +98,8 @@ impl<O: SmallObject> SmallShared<O> {
         requires seats { All (IsSeatOf self) seats.items }
         requires wide { length state.old ≡ width_of self }
         ensures told { IsFinal (O.meaning (object_of self)).object (processes_of self)
+            (flat_map known_calls seats.items) state.new }
+        ensures ran { HasRunTo (O.meaning (object_of self)).object (sizes_of self)
             (flat_map known_calls seats.items) state.new }
     {
         let mut seats = seats;

@@ -1,9 +1,9 @@
 //! What the steps on words append to the history, each law the contract of a function with an empty body.
-ghost use Rattle.std.specs.Prelude.{◌≡◌, ◌==◌, ℕ, ◌+◌, ◌*◌, ◌<◌, ◌≤◌};
+ghost use Rattle.std.specs.Prelude.{◌≡◌, ◌≢◌, ◌==◌, ℕ, ◌+◌, ◌*◌, ◌<◌, ◌≤◌};
 ghost use Rattle.std.specs.Prelude.{List, Option, Some, [], length, slice_get, slice_index, slice_set};
 ghost use prog.Atomic.{either};
 ghost use Rattle.atomic_table.specs.Table.{State, Me, Step};
-ghost use Rattle.uni_small.specs.Image.{Image, buffer_words, reply_place};
+ghost use Rattle.uni_small.specs.Image.{Image, buffer_words, held_place, reply_place};
 ghost use Rattle.uni_small.specs.View.{Local, Returned};
 ghost use Rattle.uni_small.specs.View.Stage.{Idle, Last, Ready, Writing};
 ghost use Rattle.uni_small.specs.Board.{Board, announce_word, argument_word, buffer_word};
@@ -18,6 +18,9 @@ ghost use Rattle.uni_small.specs.Standing.{IsAsking, IsCopying, IsLoading, IsLoo
 ghost use Rattle.uni_small.specs.Standing.{IsAnnounced, IsDirect, local_of};
 ghost use mathlib.Core.Option.{some};
 ghost use Rattle.uni_small.specs.declared.seat.Seen.{Seen};
+ghost use Rattle.uni_small.specs.Execution.{Execution, last_moment, opened_moment};
+ghost use Rattle.uni_small.specs.Linearized.{AreSizesOf, IsLinearized, KeepsOrder};
+ghost use Rattle.uni_small.specs.Progress.{KeepsBound, NeverBlocks};
 ghost use Rattle.uni_small.specs.declared.sizes.Sizes.{Sizes};
 ghost use Rattle.uni_small.specs.declared.view.View.{View};
 
@@ -78,6 +81,7 @@ pub fn stores_append_nothing<O: SmallObject>()
         nothing (λ found me'. HasStored st me x me') }
     ensures buffer { (o : O) (sizes : Sizes) (id k x : ℕ) (st : Step Seen) (me : Me Seen (View O)) →
         me.0.known.count ≡ 1 → IsWriting (O.meaning o).object k x me → k < buffer_words sizes
+        → slice_index (local_of me).held (held_place sizes (local_of me).spare k) ≢ x
         → st.word ≡ buffer_word sizes (2 * me.0.known.first + (local_of me).spare) k
         → Moves O.meaning o sizes id me
         (buffer_word sizes (2 * me.0.known.first + (local_of me).spare) k) (λ y. x)
@@ -87,10 +91,10 @@ pub fn stores_append_nothing<O: SmallObject>()
 /// The other loads append nothing.
 pub fn loads_append_nothing<O: SmallObject>()
     ensures start { (o : O) (sizes : Sizes) (id tries : ℕ) (st : Step Seen) (me : Me Seen (View O)) →
-        sizes.processes ≤ 64 → me.0.known.count ≡ 1 → stage_of me ≡ Ready tries
+        sizes.processes ≤ 64 → me.0.known.count ≡ 1 → tries < 2 → stage_of me ≡ Ready tries
         → Moves O.meaning o sizes id me 0 (λ x. x) nothing (λ found me'. HasStarted st me found me') }
     ensures begin { (o : O) (sizes : Sizes) (id : ℕ) (st : Step Seen) (me : Me Seen (View O)) →
-        sizes.processes ≤ 64 → me.0.known.count ≡ 1 → stage_of me ≡ Idle []
+        sizes.processes ≤ 64 → me.0.known.count ≡ 1 → stage_of me ≡ Idle [] → length (local_of me).own < most_calls
         → Moves O.meaning o sizes id me 0 (λ x. x) nothing (λ found me'. HasBegun st me found me') }
     ensures check_own { (o : O) (sizes : Sizes) (id s : ℕ) (st : Step Seen) (me : Me Seen (View O)) →
         sizes.processes ≤ 64 → me.0.known.count ≡ 1 → IsLooking sizes 0 s sizes.processes me → IsDirect me
@@ -119,7 +123,7 @@ pub fn loads_append_nothing<O: SmallObject>()
         sizes.processes ≤ 64 → me.0.known.count ≡ 1 → stage_of me ≡ Idle []
         → Moves O.meaning o sizes id me 0 (λ x. x) nothing (λ found me'. HasFollowed st me found me') }
     ensures reply { (o : O) (sizes : Sizes) (id s k : ℕ) (st : Step Seen) (me : Me Seen (View O)) →
-        me.0.known.count ≡ 1 → IsLoading s k me → k < sizes.reply → buffer_in s < 2 * sizes.processes
+        me.0.known.count ≡ 1 → IsLoading s k me → k + 1 < sizes.reply → buffer_in s < 2 * sizes.processes
         → Moves O.meaning o sizes id me
         (buffer_word sizes (buffer_in s) (reply_place sizes me.0.known.first k)) (λ x. x)
         nothing (λ found me'. HasLoaded st me found me') }
@@ -132,4 +136,28 @@ pub fn returned_has_come<O: SmallObject>()
         sizes.processes ≤ 64 → IsShown sizes O.meaning o g local seat_of s → p < sizes.processes
         → slice_get (local p).own k ≡ Some call
         → call.version ≤ version_in (slice_index s.words 0) }
+{}
+
+/// Every execution from the opening, in which the processes take their word steps in any order, is linearizable
+/// in real time: each call takes effect at one of the steps between its announcement and its last one. And
+/// strongly: where an execution goes on, only further calls come behind those that took effect.
+pub fn every_execution_is_linearizable<O: SmallObject>()
+    ensures linearized { (o : O) (sizes : Sizes) → AreSizesOf (O.meaning o) sizes
+        → (e : Execution (O.meaning o).object sizes (opened_moment (O.meaning o).object sizes))
+        → IsLinearized (O.meaning o).object sizes e }
+    ensures strongly { (o : O) (sizes : Sizes)
+        → (e : Execution (O.meaning o).object sizes (opened_moment (O.meaning o).object sizes))
+        (more : Execution (O.meaning o).object sizes (last_moment (O.meaning o).object sizes e))
+        → KeepsOrder (O.meaning o).object sizes e more }
+{}
+
+/// The construction is wait-free in every execution: a process with a call pending can always take a step, and
+/// no call takes more than `4 * W + (6 + 2 * I + 4 * R) * n + I + R + 8` steps of its own process.
+pub fn every_call_is_wait_free<O: SmallObject>()
+    ensures blocks { (o : O) (sizes : Sizes) → AreSizesOf (O.meaning o) sizes
+        → (e : Execution (O.meaning o).object sizes (opened_moment (O.meaning o).object sizes))
+        → NeverBlocks (O.meaning o).object sizes e }
+    ensures bound { (o : O) (sizes : Sizes) → AreSizesOf (O.meaning o) sizes
+        → (e : Execution (O.meaning o).object sizes (opened_moment (O.meaning o).object sizes))
+        → KeepsBound (O.meaning o).object sizes e }
 {}

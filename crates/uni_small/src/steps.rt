@@ -1,5 +1,5 @@
 //! The word steps, each one function.
-ghost use Rattle.std.specs.Prelude.{◌≡◌, ℕ, ◌+◌, ◌*◌, ◌<◌, ◌≤◌, ◌==◌, List, [], ◌∷◌, ◌++◌, Option, Some, None};
+ghost use Rattle.std.specs.Prelude.{◌≡◌, ◌≢◌, ℕ, ◌+◌, ◌*◌, ◌<◌, ◌≤◌, ◌==◌, List, [], ◌∷◌, ◌++◌, Option, Some, None};
 ghost use Rattle.std.specs.Prelude.{if◌then◌else◌, length, slice_index};
 ghost use Rattle.uni_small.specs.Image.{HasRows, buffer_words, held_place, spell, with_seen, read_image};
 ghost use Rattle.uni_small.specs.View.{announces, begins_directly, brings, goes, knows, returns, wrote};
@@ -58,6 +58,7 @@ impl<O: SmallObject> SmallShared<O> {
         requires table { seat.old.table_id ≡ self.now.table.shared.table_id }
         requires inside { p < self.now.setup.sizes.processes }
         requires of { IsOf self.now.setup.object self.now.setup.sizes p seat.old.me }
+        requires few { tries < 2 }
         requires stage { stage_of seat.old.me ≡ Ready tries }
         ensures same { (seat.new.table_id ≡ seat.old.table_id) × (seat.new.id ≡ seat.old.id) }
         ensures left { Goes seat.old.me
@@ -73,6 +74,7 @@ impl<O: SmallObject> SmallShared<O> {
         requires inside { p < self.now.setup.sizes.processes }
         requires of { IsOf self.now.setup.object self.now.setup.sizes p seat.old.me }
         requires stage { stage_of seat.old.me ≡ Idle [] }
+        requires room { length (local_of seat.old.me).own + 1 ≤ most_calls }
         ensures same { (seat.new.table_id ≡ seat.old.table_id) × (seat.new.id ≡ seat.old.id) }
         ensures left { IsLeft seat.old.me (begins_directly (local_of seat.old.me) result
             (begun self.now.setup.sizes p (local_of seat.old.me).held result)) seat.new.me }
@@ -200,6 +202,7 @@ impl<O: SmallObject> SmallShared<O> {
         requires of { IsOf self.now.setup.object self.now.setup.sizes p seat.old.me }
         requires stage { IsWriting (O.meaning self.now.setup.object).object i x seat.old.me }
         requires spare { ((local_of seat.old.me).spare ≡ spare) × (spare ≤ 1) }
+        requires differs { slice_index (local_of seat.old.me).held (held_place self.now.setup.sizes spare i) ≢ x }
         ensures same { (seat.new.table_id ≡ seat.old.table_id) × (seat.new.id ≡ seat.old.id) }
         ensures left { IsLeft seat.old.me
             (wrote (local_of seat.old.me) (held_place self.now.setup.sizes spare i) x) seat.new.me }

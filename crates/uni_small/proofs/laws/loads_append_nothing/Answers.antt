@@ -3,7 +3,7 @@ use Rattle.uni_small.proofs.Reply.{loads}
 use Rattle.uni_small.proofs.laws.loads_append_nothing.Goals as goal
 
 pub returns-clause-start : goal.returns-clause-start
-returns-clause-start g c o sizes id tries st me few single stage = starts g.O.SmallObject.meaning o sizes id few st me single tries stage
+returns-clause-start g c o sizes id tries st me few single below stage = starts g.O.SmallObject.meaning o sizes id few st me single tries below stage
 
 pub returns-clause-copy : goal.returns-clause-copy
 returns-clause-copy g c o sizes id tries s i st me few single copying below named = copies g.O.SmallObject.meaning o sizes id few st me single tries s i copying below named
@@ -27,7 +27,7 @@ pub returns-clause-reply : goal.returns-clause-reply
 returns-clause-reply g c o sizes id s k st me single loading below named = loads g.O.SmallObject.meaning o sizes id st me single s k loading below named
 
 pub returns-clause-begin : goal.returns-clause-begin
-returns-clause-begin g c o sizes id st me few single stage = begins_own g.O.SmallObject.meaning o sizes id few st me single stage
+returns-clause-begin g c o sizes id st me few single stage room = begins_own g.O.SmallObject.meaning o sizes id few st me single stage room
 
 pub returns-clause-check_own : goal.returns-clause-check_own
 returns-clause-check_own g c o sizes id s st me few single looking direct = checks_own g.O.SmallObject.meaning o sizes id few st me single s looking direct (g.met.O.SmallObject.steady o)

@@ -5,4 +5,4 @@ pub returns-clause-argument : goal.returns-clause-argument
 returns-clause-argument g c o sizes id k x st me single storing below = stores g.O.SmallObject.meaning o sizes id st me single k x storing below
 
 pub returns-clause-buffer : goal.returns-clause-buffer
-returns-clause-buffer g c o sizes id k x st me single writing room word = writes g.O.SmallObject.meaning o sizes id st me single k x writing room word
+returns-clause-buffer g c o sizes id k x st me single writing room differs word = writes g.O.SmallObject.meaning o sizes id st me single k x writing room differs word

@@ -1,5 +1,5 @@
 use Rattle.uni_small.proofs.Vocabulary.{Rule, slots_items, subst, ◌∙◌}
-use Rattle.uni_small.proofs.Closing.{closes_alone, named_inside}
+use Rattle.uni_small.proofs.Closing.{closes_alone, named_inside, ran_alone}
 use Rattle.uni_small.proofs.log.SmallShared.close.Goals as goal
 
 pub write_state-requires : goal.write_state-requires
@@ -16,9 +16,16 @@ write_state-requires g c =
       wide = c.requires.wide;
     }
 
-pub returns : goal.returns
-returns g c =
+pub returns-clause-told : goal.returns-clause-told
+returns-clause-told g c =
     let self = c.args.self in
     let final = c.close.ensures.values.2 in
     let holds = subst (λ key. Rule g.O.SmallObject.meaning key final.0) self.same final.1 in
-    record { told = closes_alone g.O.SmallObject.meaning self.setup self.few.1 final.0 holds (slots_items c.close.result.words) final.2 c.write_state.new.state c.write_state.ensures.read }
+    closes_alone g.O.SmallObject.meaning self.setup self.few.1 final.0 holds (slots_items c.close.result.words) final.2 c.write_state.new.state c.write_state.ensures.read
+
+pub returns-clause-ran : goal.returns-clause-ran
+returns-clause-ran g c =
+    let self = c.args.self in
+    let final = c.close.ensures.values.2 in
+    let holds = subst (λ key. Rule g.O.SmallObject.meaning key final.0) self.same final.1 in
+    ran_alone g.O.SmallObject.meaning self.setup self.few.1 final.0 holds (slots_items c.close.result.words) final.2 c.write_state.new.state c.write_state.ensures.read

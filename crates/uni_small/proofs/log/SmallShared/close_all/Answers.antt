@@ -1,5 +1,7 @@
 use Rattle.uni_small.proofs.Vocabulary.{All-contains, All-head, All-same, All-tail, Contains, Contains-append_left, Contains-push, IsSeatOf, [], ap, append-nil, append_assoc, flat_map, into_iter_items, known_calls, nil_from_length, subst, sym, ◌++◌, ◌∙◌, ◌∷◌, ◌≡◌}
-use Rattle.uni_small.proofs.Closing.{final_of_fewer}
+use Rattle.std.proofs.Common.{rules, arith}
+use Rattle.uni_small.specs.Ended.{HasRunTo}
+use Rattle.uni_small.proofs.Closing.{final_of_fewer, ran_of_fewer}
 use Rattle.uni_small.proofs.Seating.{All-each, known_last}
 use Rattle.uni_small.proofs.log.SmallShared.close_all.Goals as goal
 
@@ -37,10 +39,19 @@ loop-seat-preserved g c =
 pub close_with-requires : goal.close_with-requires
 close_with-requires g c = record { seat = c.loop-seat.invariant.0; wide = c.requires.wide }
 
-pub returns : goal.returns
-returns g c =
+pub returns-clause-told : goal.returns-clause-told
+returns-clause-told g c =
     let none = nil_from_length _ (sym c.loop-seat.seat-iterator.rest.ok.0 ∙ c.in-None.ensures.steps.0) in
-    record {
-      told = final_of_fewer (g.O.SmallObject.meaning c.args.self.setup.object).object c.args.self.setup.sizes.processes (known_calls c.loop-seat.first) (flat_map known_calls c.args.seats.items) c.close_with.new.state
-          (λ its has. subst (λ l. Contains l its) (ap (λ l. known_calls c.loop-seat.first ++ flat_map known_calls l) none ∙ append-nil (known_calls c.loop-seat.first)) (c.loop-seat.invariant.2 its has)) c.close_with.ensures.told;
-    }
+    final_of_fewer (g.O.SmallObject.meaning c.args.self.setup.object).object c.args.self.setup.sizes.processes (known_calls c.loop-seat.first) (flat_map known_calls c.args.seats.items) c.close_with.new.state
+    (λ its has. subst (λ l. Contains l its) (ap (λ l. known_calls c.loop-seat.first ++ flat_map known_calls l) none ∙ append-nil (known_calls c.loop-seat.first)) (c.loop-seat.invariant.2 its has)) c.close_with.ensures.told
+
+pub returns-clause-ran : goal.returns-clause-ran
+returns-clause-ran g c =
+    let none = nil_from_length _ (sym c.loop-seat.seat-iterator.rest.ok.0 ∙ c.in-None.ensures.steps.0) in
+    ran_of_fewer (g.O.SmallObject.meaning c.args.self.setup.object).object c.args.self.setup.sizes (known_calls c.loop-seat.first) (flat_map known_calls c.args.seats.items) c.close_with.new.state
+    (λ its has. subst (λ l. Contains l its) (ap (λ l. known_calls c.loop-seat.first ++ flat_map known_calls l) none ∙ append-nil (known_calls c.loop-seat.first)) (c.loop-seat.invariant.2 its has)) c.close_with.ensures.ran
+
+pub returns-in_default-clause-ran : goal.returns-in_default-clause-ran
+returns-in_default-clause-ran g c =
+    let empty : c.args.seats.items ≡ [] = first_of (search rules, grind (arith, rules)) in
+    subst (λ l. HasRunTo (g.O.SmallObject.meaning c.args.self.setup.object).object c.args.self.setup.sizes (flat_map known_calls l) c.close.new.state) (sym empty) c.close.ensures.ran

@@ -20,5 +20,5 @@ load-requires g c =
       by_key meaning shared.table.shared.key shared.setup shared.same slots id me i (buffer_word sizes (buffer_in c.args.s) (reply_place sizes me.0.known.first c.args.k))
           (c.reply_word.ensures ∙ ap (λ q. buffer_word sizes (buffer_in c.args.s) (reply_place sizes q c.args.k)) (sym c.requires.of.first)) (λ x. x) (λ x me'. HasLoaded st me x me')
           nothing
-          (loads meaning o sizes id st me c.requires.of.alone c.args.s c.args.k c.requires.stage (let a = c.requires.inside.1 in omega arith) c.requires.named),
+          (loads meaning o sizes id st me c.requires.of.alone c.args.s c.args.k c.requires.stage c.requires.inside.1 c.requires.named),
     )

@@ -18,5 +18,5 @@ load-requires g c =
       (let q0 = shared.sized in omega arith),
       by_key meaning shared.table.shared.key shared.setup shared.same slots id me i 0 refl (λ x. x) (λ x me'. HasStarted st me x me')
           nothing
-          (starts meaning o sizes id shared.few.1 st me c.requires.of.alone c.args.tries c.requires.stage),
+          (starts meaning o sizes id shared.few.1 st me c.requires.of.alone c.args.tries c.requires.few c.requires.stage),
     )

@@ -1,4 +1,4 @@
-use Rattle.uni_small.proofs.Vocabulary.{Buffers, List, WritesWithin, ap, arith, buffer_words, get_or_default_zero, held_place, length, refl, slice_index, slice_index_or, slice_set, subst, sym, take, with_row, ℕ, ◌*◌, ◌+◌, ◌<◌, ◌∙◌, ◌≡◌}
+use Rattle.uni_small.proofs.Vocabulary.{Buffers, List, Me, View, WritesWithin, local_of, ap, arith, buffer_words, get_or_default_zero, held_place, length, refl, slice_index, slice_index_or, slice_set, subst, sym, take, with_row, ℕ, ◌*◌, ◌+◌, ◌<◌, ◌∙◌, ◌≡◌}
 use Rattle.std.proofs.Common.{take_all}
 use Rattle.atomic_table.specs.declared.shared.Seat.{Seat}
 use Rattle.uni_small.proofs.Going.{writes_applied, writes_stage, add_assoc, writes_nothing, writes_one, writes_none}
@@ -6,6 +6,24 @@ use Rattle.uni_small.proofs.Rows.{with_row-length, with_row-more, with_row-same}
 use Rattle.uni_small.proofs.Words.{held_inside}
 use Rattle.uni_small.proofs.log.SmallShared.write_row.Goals.{then-index-row, else-index-row}
 use Rattle.uni_small.proofs.log.SmallShared.write_row.Goals as goal
+
+pub write_word-requires-clause-differs : goal.write_word-requires-clause-differs
+write_word-requires-clause-differs g c = λ e.
+    let sizes = c.args.self.now.setup.sizes in
+    let row = c.args.row.now in
+    let i = c.loop-i.i in
+    let held = c.loop-i.own.held.items in
+    let at = held_place sizes c.args.own.now.spare (c.args.from + i) in
+    let was = c.loop-i.invariant in
+    let here : c.args.own.now.spare * c.buffer_words.result + c.args.from + i ≡ at = (λ k. c.args.own.now.spare * c.buffer_words.ensures k + c.args.from + i) ∙ add_assoc (c.args.own.now.spare * buffer_words sizes) c.args.from i in
+    let inside : at < length held = (
+    let h = held_inside sizes c.args.own.now.spare (c.args.from + i) c.requires.own.which (let r = c.requires.inside.1 in let t = c.loop-i-test.true in omega arith) in
+    let l : length held ≡ length c.args.own.now.held.items = ap (λ (xs : List ℕ). length xs) was.3 ∙ with_row-length c.args.own.now.held.items (held_place sizes c.args.own.now.spare c.args.from) (take i row) in
+    let o = c.requires.own.long in omega arith) in
+    let found : slice_index held at ≡ c.index.result.now
+    = sym (c.index.ensures ∙ ap (λ k. slice_index_or held k c.index.result.now) here ∙ get_or_default_zero held at c.index.result.now inside) in
+    let own : (local_of c.loop-i.seat.me).held ≡ held = ap (λ (m : Me ℕ (View _)). (local_of m).held) was.2.2 in
+    c.if-index-row.true (sym found ∙ ap (λ (h : List ℕ). slice_index h at) (sym own) ∙ e)
 
 pub loop-i-init : goal.loop-i-init
 loop-i-init g c = (refl, refl, writes_nothing c.args.seat.now.me c.args.own.now.held.items c.requires.own.held, refl, refl)

@@ -1,4 +1,4 @@
-use Rattle.uni_small.proofs.Vocabulary.{HasWritten, arith, buffer_word, held_place, local_of, none, nothing, step, sym, with_local, wrote, ◌*◌, ◌+◌, ◌∙◌}
+use Rattle.uni_small.proofs.Vocabulary.{HasWritten, ap, arith, buffer_word, held_place, local_of, none, nothing, slice_index, step, sym, with_local, wrote, ◌*◌, ◌+◌, ◌∙◌}
 use Rattle.uni_small.proofs.Allowed.{by_key}
 use Rattle.uni_small.proofs.Stores.{writes}
 use Rattle.uni_small.proofs.Words.{buffer_inside}
@@ -20,7 +20,7 @@ store-requires g c =
       (let q = c.buffer_word.ensures in let r = buffer_inside sizes (2 * c.args.p + c.args.spare) c.args.i (let a = c.requires.inside.0 in let b = c.requires.spare.1 in omega arith) c.requires.inside.1 in let t = shared.sized in omega arith),
       by_key meaning shared.table.shared.key shared.setup shared.same slots id me i (buffer_word sizes (2 * me.0.known.first + me.0.known.local.spare) c.args.i) word (λ x. c.args.x) (λ x me'. HasWritten st me c.args.x me')
           nothing
-          (writes meaning o sizes id st me c.requires.of.alone c.args.i c.args.x c.requires.stage c.requires.inside.1 word),
+          (writes meaning o sizes id st me c.requires.of.alone c.args.i c.args.x c.requires.stage c.requires.inside.1 (λ e. c.requires.differs (ap (λ k. slice_index me.0.known.local.held (held_place sizes k c.args.i)) (sym c.requires.spare.0) ∙ e)) word),
     )
 
 pub returns-clause-left : goal.returns-clause-left
