@@ -126,5 +126,5 @@ writes_direct me me1 most held first = ap (λ (m : Me Seen (View _)). (local_of 
 pub writes_own : {O : Type 0} (me me1 : Me Seen (View O)) (most : ℕ) (held : List ℕ) → WritesWithin me most held me1 → (local_of me1).own ≡ (local_of me).own
 writes_own me me1 most held first = ap (λ (m : Me Seen (View _)). (local_of m).own) first.2
 
-pub writes_applied : {O : Type 0} (me me1 : Me Seen (View O)) (most : ℕ) (held : List ℕ) (seen all : List (Option (List ℕ))) → WritesWithin me most held me1 → AreApplied me.0.known.first seen all → AreApplied me1.0.known.first seen all
-writes_applied me me1 most held seen all first are = subst (λ (m : Me Seen (View _)). AreApplied m.0.known.first seen all) (sym first.2) are
+pub writes_applied : {O : Type 0} (me me1 : Me Seen (View O)) (most : ℕ) (held : List ℕ) (seen all : List (Option (List ℕ))) → WritesWithin me most held me1 → AreApplied (local_of me).direct me.0.known.first seen all → AreApplied (local_of me1).direct me1.0.known.first seen all
+writes_applied me me1 most held seen all first are = subst (λ (m : Me Seen (View _)). AreApplied (local_of m).direct m.0.known.first seen all) (sym first.2) are

@@ -281,13 +281,13 @@ module _ (object : Sequential (List ℕ) (List ℕ) (List ℕ)) (sizes : Sizes) 
   next_of some p l (Writing tries s image seen) at standing mode pending = ⊎_elim
       (λ announced. ⊎_elim
       (λ all. Bring tries s image seen at all announced)
-      (λ differ. Write tries s image seen seen differ.0 at (inl refl) differ.1 differ.2)
+      (λ differ. Write tries s image seen seen differ.0 at (inl (announced, refl)) differ.1 differ.2)
       (find (λ i. slice_index l.held (held_place sizes l.spare i)) (λ i. slice_index (spell (with_seen object image 0 seen)) i) (buffer_words sizes)))
       (λ own.
       let inv : List ℕ = replicate sizes.invocation 0 in
       ⊎_elim
       (λ all. BringOwn s image seen inv (at ∙ ap (λ k. Writing k s image seen) own.1) all own.0 (length-replicate sizes.invocation 0) own.2)
-      (λ differ. Write tries s image seen (slice_set seen p (Some inv)) differ.0 at (inr (inv, refl)) differ.1 differ.2)
+      (λ differ. Write tries s image seen (slice_set seen p (Some inv)) differ.0 at (inr (own.0, inv, refl)) differ.1 differ.2)
       (find (λ i. slice_index l.held (held_place sizes l.spare i)) (λ i. slice_index (spell (with_seen object image 0 (slice_set seen p (Some inv)))) i) (buffer_words sizes)))
       mode
   next_of some p l (Last s loaded) at standing mode pending = ⊎_elim
@@ -353,9 +353,10 @@ module _ (object : Sequential (List ℕ) (List ℕ) (List ℕ)) (sizes : Sizes) 
   unless_announced false steps = steps
 
   -- how many words an attempt still stores at most
-  abbrev to_write : Local → Image → (plan : Option (List (Option (List ℕ)))) → ℕ
-  to_write l image None = buffer_words sizes
-  to_write l image (Some all) = count (there l) (wanted image all) (buffer_words sizes)
+  abbrev to_write : (direct : Bool) → Local → Image → (seen : List (Option (List ℕ))) → (plan : Option (List (Option (List ℕ)))) → ℕ
+  to_write false l image seen plan = count (there l) (wanted image seen) (buffer_words sizes)
+  to_write true l image seen None = buffer_words sizes
+  to_write true l image seen (Some all) = count (there l) (wanted image all) (buffer_words sizes)
 
   -- how many steps of its call a process can still take at most
   abbrev left : Local → (plan : Option (List (Option (List ℕ)))) → Stage → ℕ
@@ -366,7 +367,7 @@ module _ (object : Sequential (List ℕ) (List ℕ) (List ℕ)) (sizes : Sizes) 
       unless_announced l.direct ((1 - tries) * most sizes + (1 + sizes.reply))
       + ((buffer_words sizes - length copy) + to_look sizes (length seen) + lacking sizes seen + buffer_words sizes + 2)
   left l plan (Writing tries s image seen) =
-      unless_announced l.direct ((1 - tries) * most sizes + (1 + sizes.reply)) + (to_write l image plan + 1)
+      unless_announced l.direct ((1 - tries) * most sizes + (1 + sizes.reply)) + (to_write l.direct l image seen plan + 1)
   left l plan (Last s loaded) = sizes.reply - length loaded
 
   abbrev IsWithin : Local → Stage → (taken : ℕ) → (plan : Option (List (Option (List ℕ)))) → Type 0
@@ -394,14 +395,17 @@ module _ (object : Sequential (List ℕ) (List ℕ) (List ℕ)) (sizes : Sizes) 
       → IsWithin l (if b then (if c then Last s [] else Writing tries s image seen) else Ready (tries + 1)) (taken + 1) None
   checked_within l true true tries s image seen taken announced h = omega (arith, h)
   checked_within l true false tries s image seen taken announced h =
-      let u = unless_false l.direct ((1 - tries) * most sizes + (1 + sizes.reply)) announced in omega (arith, h, u)
+      let u = unless_false l.direct ((1 - tries) * most sizes + (1 + sizes.reply)) announced in
+      let t : to_write l.direct l image seen None ≡ count (there l) (wanted image seen) (buffer_words sizes) = ap (λ b. to_write b l image seen None) announced in
+      let m = count_most (there l) (wanted image seen) (buffer_words sizes) in omega (arith, h, u, t, m)
   checked_within l false c tries s image seen taken announced h = let e = same_tries tries in omega (arith, h, e)
 
   checked_own_within : (l : Local) (b : Bool) (s : ℕ) (image : Image) (seen : List (Option (List ℕ))) (taken : ℕ) → l.direct ≡ true
       → taken + 1 + (announced_steps sizes + (buffer_words sizes + 1)) ≤ call_steps sizes
       → IsWithin l (if b then Writing 0 s image seen else Idle []) (taken + 1) None
   checked_own_within l true s image seen taken direct h =
-      let u = unless_true l.direct ((1 - 0) * most sizes + (1 + sizes.reply)) direct in omega (arith, h, u)
+      let u = unless_true l.direct ((1 - 0) * most sizes + (1 + sizes.reply)) direct in
+      let t : to_write l.direct l image seen None ≡ buffer_words sizes = ap (λ b. to_write b l image seen None) direct in omega (arith, h, u, t)
   checked_own_within l false s image seen taken direct h =
       let u = unless_true l.direct 0 direct in omega (arith, h, u)
 
@@ -418,26 +422,20 @@ module _ (object : Sequential (List ℕ) (List ℕ) (List ℕ)) (sizes : Sizes) 
   announced_within false taken w =
       let e = steps_are sizes in let m = most_is sizes in let t : (2 - 0) * most sizes ≡ most sizes + most sizes = omega arith in omega (arith, e, m, t)
 
-  -- a word is stored: by what the attempt applies already, or by what it chooses now
-  written_within : (l l' : Local) (tries s : ℕ) (image : Image) (seen all : List (Option (List ℕ))) (taken : ℕ) (plan : Option (List (Option (List ℕ)))) → l'.direct ≡ l.direct
-      → count (there l') (wanted image all) (buffer_words sizes) + 1 ≡ count (there l) (wanted image all) (buffer_words sizes)
-      → ((was : List (Option (List ℕ))) → plan ≡ Some was → all ≡ was) → IsWithin l (Writing tries s image seen) taken plan
-      → IsWithin l' (Writing tries s image seen) (taken + 1) (Some all)
-  written_within l l' tries s image seen all taken None same less keeps w =
-      let m = count_most (there l) (wanted image all) (buffer_words sizes) in
-      let u : unless_announced l'.direct ((1 - tries) * most sizes + (1 + sizes.reply)) ≡ unless_announced l.direct ((1 - tries) * most sizes + (1 + sizes.reply))
-      = ap (λ b. unless_announced b ((1 - tries) * most sizes + (1 + sizes.reply))) same in
-      omega (arith, w, less, m, u)
-  written_within l l' tries s image seen all taken (Some was) same less keeps w =
-      let u : unless_announced l'.direct ((1 - tries) * most sizes + (1 + sizes.reply)) ≡ unless_announced l.direct ((1 - tries) * most sizes + (1 + sizes.reply))
-      = ap (λ b. unless_announced b ((1 - tries) * most sizes + (1 + sizes.reply))) same in
-      let w' = subst (λ (x : List (Option (List ℕ))). IsWithin l (Writing tries s image seen) taken (Some x)) (sym (keeps was refl)) w in
-      omega (arith, w', less, u)
-
-  kept : (all : List (Option (List ℕ))) (plan : Option (List (Option (List ℕ)))) → IsPlanned plan all → (was : List (Option (List ℕ))) → plan ≡ Some was → all ≡ was
-  unfolding or_else
-  kept all None keeps was e = none-some was e
-  kept all (Some it) keeps was e = keeps ∙ ap (λ o. or_else o it) e
+  -- a word is stored: of what was seen, or of what a direct attempt applies already, or chooses now
+  written_within : (p : ℕ) (direct : Bool) (l l' : Local) (tries : ℕ) (image : Image) (seen all : List (Option (List ℕ))) (taken : ℕ) (plan : Option (List (Option (List ℕ)))) → AreApplied direct p seen all
+      → count (there l') (wanted image all) (buffer_words sizes) + 1 ≡ count (there l) (wanted image all) (buffer_words sizes) → Where direct (IsPlanned plan all)
+      → taken + (unless_announced direct ((1 - tries) * most sizes + (1 + sizes.reply)) + (to_write direct l image seen plan + 1)) ≤ call_steps sizes
+      → taken + 1 + (unless_announced direct ((1 - tries) * most sizes + (1 + sizes.reply)) + (to_write direct l' image seen (Some all) + 1)) ≤ call_steps sizes
+  written_within p false l l' tries image seen all taken plan applied less keeps w =
+      let same : all ≡ seen = ⊎_elim (λ its. its.1) (λ own. absurd (let e : false ≡ true = own.0 in cc)) applied in
+      let less' = subst (λ (x : List (Option (List ℕ))). count (there l') (wanted image x) (buffer_words sizes) + 1 ≡ count (there l) (wanted image x) (buffer_words sizes)) same less in
+      omega (arith, w, less')
+  written_within p true l l' tries image seen all taken None applied less keeps w =
+      let m = count_most (there l) (wanted image all) (buffer_words sizes) in omega (arith, w, less, m)
+  written_within p true l l' tries image seen all taken (Some was) applied less keeps w =
+      let w' = subst (λ (x : List (Option (List ℕ))). taken + (unless_announced true ((1 - tries) * most sizes + (1 + sizes.reply)) + (to_write true l image seen (Some x) + 1)) ≤ call_steps sizes) (sym keeps) w in
+      omega (arith, w', less)
 
   within_after : (p : ℕ) (l : Local) → Stands object sizes some_reply l → (next : Next object sizes p l) (found taken : ℕ) (plan : Option (List (Option (List ℕ))))
       → KeepsPlan object sizes next plan → IsWithin l l.stage taken plan
@@ -494,7 +492,7 @@ module _ (object : Sequential (List ℕ) (List ℕ) (List ℕ)) (sizes : Sizes) 
       (get_or-set_same l.held (held_place sizes l.spare k) x 0 (let b = place_below sizes l.spare k h.either below in let g = h.long in omega (arith, b, g)))
       (λ i apart. get_or-set_other l.held (held_place sizes l.spare k) (held_place sizes l.spare i) x 0 (λ e. apart (omega (arith, e)))) in
       subst (λ j. taken + 1 + left l' (Some all) j ≤ call_steps sizes) (sym at)
-      (written_within l l' tries s image seen all taken plan refl less (kept all plan keeps) w')
+      (written_within p l.direct l l' tries image seen all taken plan applied less keeps w')
   within_after p l h (Bring tries s image seen at written announced) found taken plan keeps w =
       let w' = subst (λ k. IsWithin l k taken plan) at w in
       let u = unless_false l.direct ((1 - tries) * most sizes + (1 + sizes.reply)) announced in
@@ -528,7 +526,7 @@ module _ (object : Sequential (List ℕ) (List ℕ) (List ℕ)) (sizes : Sizes) 
       within_end p (if p == q then counted object sizes next taken else taken) (if p == q then planned object sizes next else plan) (stand_after object sizes some_reply m h q within next) inside
       (⊎_elim
       (λ same.
-      let keeps' : KeepsPlan object sizes next plan = subst (λ b. Where object sizes b (KeepsPlan object sizes next plan)) same.1 keeps.0 in
+      let keeps' : KeepsPlan object sizes next plan = subst (λ b. Where b (KeepsPlan object sizes next plan)) same.1 keeps.0 in
       subst (λ b. IsWithin (if b then l' else m.local p) (if b then l' else m.local p).stage (if b then counted object sizes next taken else taken) (if b then planned object sizes next else plan)) (sym same.1)
       (within_after q (m.local q) (h q within) next found taken plan keeps' (subst (λ k. IsWithin (m.local k) (m.local k).stage taken plan) same.0 w)))
       (λ other. subst (λ b. IsWithin (if b then l' else m.local p) (if b then l' else m.local p).stage (if b then counted object sizes next taken else taken) (if b then planned object sizes next else plan)) (sym other.1) w)

@@ -149,8 +149,8 @@ module _ {O : Type 0} (meaning : O → Meaning) (o : O) (sizes : Sizes) (id : �
       let call : IsAttempted object sizes g p l l.direct = call_at object sizes g p l (Writing tries s image seen) f.mine stage in
       let was = attempt_at object sizes g p l (Writing tries s image seen) f.mine stage in
       let may : MayBeWritten object sizes g (2 * p + l.spare) (with_seen object image 0 all) = elim writing.6 [
-        | inl seen_alone ↦ subst (λ xs. MayBeWritten object sizes g (2 * p + l.spare) (with_seen object image 0 xs)) (sym seen_alone) was.2
-        | inr own ↦ subst (λ xs. MayBeWritten object sizes g (2 * p + l.spare) (with_seen object image 0 xs)) (sym own.1) (was.3 own.0)
+        | inl seen_alone ↦ subst (λ xs. MayBeWritten object sizes g (2 * p + l.spare) (with_seen object image 0 xs)) (sym seen_alone.1) was.2
+        | inr own ↦ subst (λ xs. MayBeWritten object sizes g (2 * p + l.spare) (with_seen object image 0 xs)) (sym own.2) (was.3 own.1)
       ] in
       let mine : ℕ = 2 * p + l.spare in
       let b = f.sound.board in

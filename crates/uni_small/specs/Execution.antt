@@ -55,9 +55,9 @@ module _ (object : Sequential (List ℕ) (List ℕ) (List ℕ)) (sizes : Sizes) 
         → length copy ≡ buffer_words sizes → AreWhole sizes seen → length seen ≡ sizes.processes → l.direct ≡ false → Next p l
     CheckOwn : (s : ℕ) (copy : List ℕ) (seen : List (Option (List ℕ))) → l.stage ≡ Reading 0 s copy seen
         → length copy ≡ buffer_words sizes → AreWhole sizes seen → length seen ≡ sizes.processes → l.direct ≡ true → Next p l
-    -- a word of the spare buffer that differs from what is to be there, with all that was seen applied, or with a call of its own too, is stored;
-    -- once none does, S is exchanged for one that names this buffer
-    Write : (tries s : ℕ) (image : Image) (seen all : List (Option (List ℕ))) (k : ℕ) → l.stage ≡ Writing tries s image seen → AreApplied p seen all
+    -- a word of the spare buffer that differs from what is to be there, with all that was seen applied, and in a direct attempt a call of its own
+    -- too, is stored; once none does, S is exchanged for one that names this buffer
+    Write : (tries s : ℕ) (image : Image) (seen all : List (Option (List ℕ))) (k : ℕ) → l.stage ≡ Writing tries s image seen → AreApplied l.direct p seen all
         → k < buffer_words sizes → slice_index l.held (held_place sizes l.spare k) ≢ slice_index (spell (with_seen object image 0 all)) k → Next p l
     Bring : (tries s : ℕ) (image : Image) (seen : List (Option (List ℕ))) → l.stage ≡ Writing tries s image seen
         → IsWritten object sizes l image seen → l.direct ≡ false → Next p l

@@ -14,10 +14,15 @@ abbrev pub IsPending : Stage → Type 0
 IsPending (Idle stored) = ⊥
 IsPending stage = Unit {0}
 
--- an attempt that has begun to write applies this, and one that hasn't may choose it
+-- a direct attempt that has begun to write applies this, and one that hasn't may choose it
 abbrev pub IsPlanned : (plan : Option (List (Option (List ℕ)))) → (all : List (Option (List ℕ))) → Type 0
 IsPlanned None all = Unit {0}
 IsPlanned (Some was) all = all ≡ was
+
+-- this holds, where the test does
+abbrev pub Where : Bool → Type 0 → Type 0
+Where true holds = holds
+Where false holds = Unit {0}
 
 module _ (object : Sequential (List ℕ) (List ℕ) (List ℕ)) (sizes : Sizes) where
   -- Where a process has taken so many word steps for its latest call, so many with one more. A call's first step begins a direct attempt,
@@ -30,22 +35,17 @@ module _ (object : Sequential (List ℕ) (List ℕ) (List ℕ)) (sizes : Sizes) 
   counted (Begin at few) taken = 1
   counted next taken = taken + 1
 
-  -- what the attempt of a process applies, by the words that it has stored since it began to write
+  -- what the direct attempt of a process applies, by the words that it has stored since it began to write
   abbrev pub planned : {p : ℕ} {l : Local} → Next object sizes p l → Option (List (Option (List ℕ)))
   planned (Write tries s image seen all k at applied inside differs) = Some all
   planned next = None
 
-  -- a stored word is one of what the attempt applies
+  -- a word that a direct attempt stores is one of what it applies
   abbrev pub KeepsPlan : {p : ℕ} {l : Local} → Next object sizes p l → (plan : Option (List (Option (List ℕ)))) → Type 0
-  KeepsPlan (Write tries s image seen all k at applied inside differs) plan = IsPlanned plan all
+  KeepsPlan {l = l} (Write tries s image seen all k at applied inside differs) plan = Where l.direct (IsPlanned plan all)
   KeepsPlan next plan = Unit {0}
 
-  -- this holds, where the test does
-  abbrev pub Where : Bool → Type 0 → Type 0
-  Where true holds = holds
-  Where false holds = Unit {0}
-
-  -- each attempt of process p stores the words of one image: it doesn't change its mind on which call it applies
+  -- each direct attempt of process p is one at one call: it doesn't change its mind on the invocation while it writes
   abbrev pub KeepsPlans : (p : ℕ) (plan : Option (List (Option (List ℕ)))) {m : Moment} → Execution object sizes m → Type 0
   KeepsPlans p plan Ends = Unit {0}
   KeepsPlans p plan (Step q inside next rest) =
@@ -56,8 +56,8 @@ module _ (object : Sequential (List ℕ) (List ℕ) (List ℕ)) (sizes : Sizes) 
   steps_of_call p taken Ends = taken
   steps_of_call p taken (Step q inside next rest) = steps_of_call p (if p == q then counted next taken else taken) rest
 
-  -- no call of an execution from the opening takes more steps than this, whatever the other processes do, where its process keeps to what it
-  -- applies
+  -- no call of an execution from the opening takes more steps than this, whatever the other processes do, where no direct attempt of
+  -- its process changes its call
   abbrev pub KeepsBound : Execution object sizes (opened_moment object sizes) → Type 0
   KeepsBound e = (p : ℕ) → p < sizes.processes → KeepsPlans p None e → steps_of_call p 0 e ≤ call_steps sizes
 

@@ -60,22 +60,23 @@ abbrev pub HasCopy : {O : Type 0} → Sizes → (tries s : ℕ) → (applied : L
 HasCopy sizes tries s applied me =
     (rest : List ℕ) × (stage_of me ≡ Reading tries s (applied ++ rest) []) × (length (applied ++ rest) ≡ buffer_words sizes)
 
--- what is applied by an attempt of process p that has seen so much: that, or with a call of its own
-abbrev pub AreApplied : (p : ℕ) (seen all : List (Option (List ℕ))) → Type 0
-AreApplied p seen all = (all ≡ seen) ⊎ ((inv : List ℕ) × (all ≡ slice_set seen p (Some inv)))
+-- what is applied by an attempt of process p that has seen so much: that, and where it is direct a call of its own too
+abbrev pub AreApplied : (direct : Bool) (p : ℕ) (seen all : List (Option (List ℕ))) → Type 0
+AreApplied direct p seen all =
+    ((direct ≡ false) × (all ≡ seen)) ⊎ ((direct ≡ true) × (inv : List ℕ) × (all ≡ slice_set seen p (Some inv)))
 
 -- it writes its image, of which these are the words from word `from` on
 abbrev pub HasRow : {O : Type 0} → Sequential (List ℕ) (List ℕ) (List ℕ) → (from : ℕ) → (row : List ℕ) → Me Seen (View O) → Type 0
 HasRow object from row me =
     (tries : ℕ) × (s : ℕ) × (image : Image) × (seen : List (Option (List ℕ))) × (all : List (Option (List ℕ)))
-    × (stage_of me ≡ Writing tries s image seen) × AreApplied me.0.known.first seen all
+    × (stage_of me ≡ Writing tries s image seen) × AreApplied (local_of me).direct me.0.known.first seen all
     × ((i : ℕ) → i < length row → slice_index row i ≡ slice_index (spell (with_seen object image 0 all)) (from + i))
 
 -- it writes its image, of which word k is x
 abbrev pub IsWriting : {O : Type 0} → Sequential (List ℕ) (List ℕ) (List ℕ) → (k x : ℕ) → Me Seen (View O) → Type 0
 IsWriting object k x me =
     (tries : ℕ) × (s : ℕ) × (image : Image) × (seen : List (Option (List ℕ))) × (all : List (Option (List ℕ)))
-    × (stage_of me ≡ Writing tries s image seen) × AreApplied me.0.known.first seen all
+    × (stage_of me ≡ Writing tries s image seen) × AreApplied (local_of me).direct me.0.known.first seen all
     × (x ≡ slice_index (spell (with_seen object image 0 all)) k)
 
 -- the spare buffer has the words of an image with what was seen applied

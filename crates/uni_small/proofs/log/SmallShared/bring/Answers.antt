@@ -22,7 +22,7 @@ write-requires-clause-stage g c =
       seen,
       seen,
       c.requires.stage,
-      inl refl,
+      inl (c.requires.announced, refl),
       (λ i below. ap (λ (m : Image). slice_index (spell m) i) same ∙ ap (slice_index (spell (with_seen object image 0 seen))) (let e : i ≡ 0 + i = omega arith in e)),
     )
 

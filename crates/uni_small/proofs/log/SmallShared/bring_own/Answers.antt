@@ -25,7 +25,7 @@ write-requires-clause-stage g c =
       seen,
       slice_set seen c.args.seat.now.me.0.known.first (Some c.args.invocation.now),
       c.requires.stage,
-      inr (c.args.invocation.now, refl),
+      inr (c.requires.direct, c.args.invocation.now, refl),
       (λ i below. ap (λ (m : Image). slice_index (spell m) i) same ∙ ap (slice_index (spell (with_seen object image 0 (slice_set seen c.args.seat.now.me.0.known.first (Some c.args.invocation.now))))) (let e : i ≡ 0 + i = omega arith in e)),
     )
 

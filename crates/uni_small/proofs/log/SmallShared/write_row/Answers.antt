@@ -1,4 +1,4 @@
-use Rattle.uni_small.proofs.Vocabulary.{Buffers, List, Me, View, WritesWithin, local_of, ap, arith, buffer_words, get_or_default_zero, held_place, length, refl, slice_index, slice_index_or, slice_set, subst, sym, take, with_row, ℕ, ◌*◌, ◌+◌, ◌<◌, ◌∙◌, ◌≡◌}
+use Rattle.uni_small.proofs.Vocabulary.{Seen, Buffers, List, Me, View, WritesWithin, local_of, ap, arith, buffer_words, get_or_default_zero, held_place, length, refl, slice_index, slice_index_or, slice_set, subst, sym, take, with_row, ℕ, ◌*◌, ◌+◌, ◌<◌, ◌∙◌, ◌≡◌}
 use Rattle.std.proofs.Common.{take_all}
 use Rattle.atomic_table.specs.declared.shared.Seat.{Seat}
 use Rattle.uni_small.proofs.Going.{writes_applied, writes_stage, add_assoc, writes_nothing, writes_one, writes_none}
@@ -22,7 +22,7 @@ write_word-requires-clause-differs g c = λ e.
     let o = c.requires.own.long in omega arith) in
     let found : slice_index held at ≡ c.index.result.now
     = sym (c.index.ensures ∙ ap (λ k. slice_index_or held k c.index.result.now) here ∙ get_or_default_zero held at c.index.result.now inside) in
-    let own : (local_of c.loop-i.seat.me).held ≡ held = ap (λ (m : Me ℕ (View _)). (local_of m).held) was.2.2 in
+    let own : (local_of c.loop-i.seat.me).held ≡ held = ap (λ (m : Me Seen (View _)). (local_of m).held) was.2.2 in
     c.if-index-row.true (sym found ∙ ap (λ (h : List ℕ). slice_index h at) (sym own) ∙ e)
 
 pub loop-i-init : goal.loop-i-init
