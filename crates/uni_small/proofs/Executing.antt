@@ -177,10 +177,10 @@ module _ {O : Type 0} (meaning : O → Meaning) (o : O) (sizes : Sizes) where
         moved widths m acts h p inside (access_of object sizes p (m.local p) (Follow at)) (λ y. y) nothing (λ found me'. HasFollowed st me found me')
         (follows_on meaning o sizes p few st me refl at) refl
         (λ me' said. ((said at).0, subst (λ k. IsCopyingOne sizes k) (sym at) tt)) (λ g words sound. refl)
-    step_holds m acts h p inside (Begin at room) =
+    step_holds m acts h p inside (Begin at untried room) =
         let st = step 0 0 0 0 none in let me = me_at m.local p in
-        moved widths m acts h p inside (access_of object sizes p (m.local p) (Begin at room)) (λ y. y) nothing (λ found me'. HasBegun st me found me')
-        (begins_own meaning o sizes p few st me refl at room) refl
+        moved widths m acts h p inside (access_of object sizes p (m.local p) (Begin at untried room)) (λ y. y) nothing (λ found me'. HasBegun st me found me')
+        (begins_own meaning o sizes p few st me refl at untried room) refl
         (λ me' said. ((said at).0, (said at).1.0)) (λ g words sound. refl)
     step_holds m acts h p inside (Start tries at below) =
         let st = step 0 0 0 0 none in let me = me_at m.local p in

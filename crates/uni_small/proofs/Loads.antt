@@ -448,8 +448,8 @@ module _ {O : Type 0} (meaning : O → Meaning) (o : O) (sizes : Sizes) (id : �
             (by_in {local = local} {words = words} g copy seen x f wide long full call was is same (slice_index copy p == length l.own + 1) refl)
 
   -- a direct attempt begins
-  pub begins_own : stage_of me ≡ Idle [] → length l.own < most_calls → Moves meaning o sizes id me 0 (λ x. x) nothing (λ found me'. HasBegun st me found me')
-  begins_own stage room = load_law meaning o sizes id me 0 (λ found me'. HasBegun st me found me') single (begin_steps meaning o sizes st me stage room) (λ g local words f.
+  pub begins_own : stage_of me ≡ Idle [] → IsAnnounced me → length l.own < most_calls → Moves meaning o sizes id me 0 (λ x. x) nothing (λ found me'. HasBegun st me found me')
+  begins_own stage untried room = load_law meaning o sizes id me 0 (λ found me'. HasBegun st me found me') single (begin_steps meaning o sizes st me stage untried room) (λ g local words f.
       let s = slice_index words 0 in
       let is : s ≡ current_word g.version g.current = f.words_are.current in
       let here : buffer_in s ≡ g.current = ap buffer_in is ∙ buffer_of g.version g.current (let c = f.sound.board.current in omega arith) in

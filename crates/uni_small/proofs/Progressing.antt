@@ -195,7 +195,7 @@ module _ (object : Sequential (List ℕ) (List ℕ) (List ℕ)) (sizes : Sizes) 
   stands_after p l h (Store stored x at room) found = record { standing = tt; mode = tt; long = h.long; either = h.either }
   stands_after p l h (Announce inv at whole few) found = record { standing = tt; mode = refl; long = h.long; either = h.either }
   stands_after p l h (Follow at) found = record { standing = h.standing; mode = h.mode; long = h.long; either = h.either }
-  stands_after p l h (Begin at few) found =
+  stands_after p l h (Begin at untried few) found =
       record { standing = inl (refl, begun_most sizes (buffer_in found / 2 == p) (drop (buffer_in found % 2 * buffer_words sizes) l.held)); mode = inr (refl, refl, few); long = h.long; either = h.either }
   stands_after p l h (Start tries at few) found =
       let mode = subst (λ k. IsInMode k l.direct (length l.own)) at h.mode in
@@ -449,7 +449,7 @@ module _ (object : Sequential (List ℕ) (List ℕ) (List ℕ)) (sizes : Sizes) 
   within_after p l h (Announce (y ∷ inv) at whole few) found taken plan keeps w =
       let w' = subst (λ k. IsWithin l k taken plan) at w in let t : (2 - 0) * most sizes ≡ most sizes + most sizes = omega arith in omega (arith, w', t, whole)
   within_after p l h (Follow at) found taken plan keeps w = subst (λ k. taken + left l plan k ≤ call_steps sizes → taken + left (knows l (version_in found)) None k ≤ call_steps sizes) (sym at) (λ x. x) w
-  within_after p l h (Begin at few) found taken plan keeps w =
+  within_after p l h (Begin at untried few) found taken plan keeps w =
       let m = most_is sizes in let a = to_look-all sizes in
       let b = begun_most sizes (buffer_in found / 2 == p) (drop (buffer_in found % 2 * buffer_words sizes) l.held) in omega (arith, m, a, b)
   within_after p l h (Start tries at few) found taken plan keeps w =

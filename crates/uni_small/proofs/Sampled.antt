@@ -68,7 +68,7 @@ none_whole = whole_push sizes [] None (whole_none sizes) (λ inv e. absurd (cc))
 -- a call that is attempted directly
 direct_call : Execution sample_counter sizes (opened_moment sample_counter sizes)
 direct_call =
-    Step 0 one (Begin refl (omega arith)) (
+    Step 0 one (Begin refl refl (omega arith)) (
     Step 0 one (Look 0 0 (0 ∷ 0 ∷ 0 ∷ []) [] refl refl (whole_none sizes) one) (
     Step 0 one (CheckOwn 0 (0 ∷ 0 ∷ 0 ∷ []) (None ∷ []) refl refl none_whole refl refl) (
     Step 0 one (Write 0 0 (read_image sizes (0 ∷ 0 ∷ 0 ∷ [])) (None ∷ []) (Some (5 ∷ []) ∷ []) 0 refl (inr (refl, 5 ∷ [], refl)) none_below no_one) (

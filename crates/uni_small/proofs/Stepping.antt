@@ -47,9 +47,9 @@ module _ {O : Type 0} (meaning : O → Meaning) (o : O) (sizes : Sizes) (st : St
     refl,
   )
 
-  pub begin_steps : stage_of me ≡ Idle [] → length l.own < most_calls → Steps meaning o sizes me 0 (λ x. x) nothing (λ found me'. HasBegun st me found me')
-  begin_steps stage few = λ g local words f me' said. (
-    Begin stage few,
+  pub begin_steps : stage_of me ≡ Idle [] → IsAnnounced me → length l.own < most_calls → Steps meaning o sizes me 0 (λ x. x) nothing (λ found me'. HasBegun st me found me')
+  begin_steps stage untried few = λ g local words f me' said. (
+    Begin stage untried few,
     refl,
     refl,
     ap (λ (z : Sizes). begins_directly l (slice_index words 0) (begun z p l.held (slice_index words 0))) (sym f.processes) ∙ left_at me me' _ (said stage).0,

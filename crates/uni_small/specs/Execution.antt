@@ -41,8 +41,8 @@ module _ (object : Sequential (List ℕ) (List ℕ) (List ℕ)) (sizes : Sizes) 
     Store : (stored : List ℕ) (x : ℕ) → l.stage ≡ Idle stored → length stored < sizes.invocation → Next p l
     Announce : (inv : List ℕ) → l.stage ≡ Idle inv → length inv ≡ sizes.invocation → length l.own < most_calls → Next p l
     Follow : l.stage ≡ Idle [] → Next p l
-    -- S is loaded, with which a direct attempt begins, at a call that isn't announced
-    Begin : l.stage ≡ Idle [] → length l.own < most_calls → Next p l
+    -- S is loaded, with which the direct attempt at a call begins, which isn't announced
+    Begin : l.stage ≡ Idle [] → l.direct ≡ false → length l.own < most_calls → Next p l
     -- an attempt: S is loaded; the words of the current buffer are; then each announcement is, after a new one the words of its invocation;
     -- and S again
     Start : (tries : ℕ) → l.stage ≡ Ready tries → tries < 2 → Next p l
@@ -82,7 +82,7 @@ module _ (object : Sequential (List ℕ) (List ℕ) (List ℕ)) (sizes : Sizes) 
     acts = λ found. Invoke p (length l.own) inv ∷ [];
   }
   access_of p l (Follow at) = load_of 0 (λ s. knows l (version_in s))
-  access_of p l (Begin at few) = load_of 0 (λ s. begins_directly l s (begun sizes p l.held s))
+  access_of p l (Begin at untried few) = load_of 0 (λ s. begins_directly l s (begun sizes p l.held s))
   access_of p l (Start tries at few) = load_of 0 (λ s. goes l (Reading tries s (begun sizes p l.held s) []))
   access_of p l (Copy tries s copy at more) =
       load_of (buffer_word sizes (buffer_in s) (length copy)) (λ found. goes l (Reading tries s (copy ++ found ∷ []) []))

@@ -15,7 +15,7 @@ AreSizesOf meaning sizes = AreFew sizes × AreWidths meaning sizes × (length me
 
 module _ (object : Sequential (List ℕ) (List ℕ) (List ℕ)) (sizes : Sizes) where
   -- The atomic object takes the acts of an execution from the opening as they stand: so no call takes effect twice, each that has returned
-  -- has taken effect at a step between the one that announced it and its last one, and its reply is the object's at its place. And
+  -- has taken effect at a step from the one that invokes it to its last one, and its reply is the object's at its place. And
   -- what is observed, the invocations and the replies alone, is linearizable in that order in the words of Herlihy and Wing: with the
   -- order of real time.
   pub record IsLinearized (e : Execution object sizes (opened_moment object sizes)) : Type 0 where

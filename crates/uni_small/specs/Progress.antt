@@ -32,7 +32,7 @@ module _ (object : Sequential (List ℕ) (List ℕ) (List ℕ)) (sizes : Sizes) 
   counted {l = l} (Store [] x at room) taken = if l.direct then taken + 1 else 1
   counted {l = l} (Announce [] at whole few) taken = if l.direct then taken + 1 else 1
   counted (Follow at) taken = taken
-  counted (Begin at few) taken = 1
+  counted (Begin at untried few) taken = 1
   counted next taken = taken + 1
 
   -- what the direct attempt of a process applies, by the words that it has stored since it began to write

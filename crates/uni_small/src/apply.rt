@@ -6,7 +6,7 @@ ghost use Rattle.uni_small.specs.Invariant.{most_calls};
 ghost use Rattle.uni_small.specs.Plays.{stage_of};
 ghost use Rattle.uni_small.specs.View.Stage.{Last};
 ghost use Rattle.uni_small.specs.Board.{buffer_in, version_in};
-ghost use Rattle.uni_small.specs.Standing.{CallEnds, GoesBy, IsOf, ReplyEnds, announced_steps, call_steps, local_of};
+ghost use Rattle.uni_small.specs.Standing.{CallEnds, GoesBy, IsAnnounced, IsOf, ReplyEnds, announced_steps, call_steps, local_of};
 ghost use Rattle.uni_small.specs.Belongs.{AreBuffers, IsSeatOf, HasRoom, calls_made, calls_of, own_calls, process_of};
 ghost use Rattle.uni_small.specs.Belongs.{invocation_width_of, reply_width_of, sizes_of, taken_calls, version_of};
 ghost use Rattle.uni_small.specs.Belongs.{word_steps_of};
@@ -114,6 +114,7 @@ impl<O: SmallObject> SmallShared<O> {
             × (length reply.old ≡ self.now.setup.sizes.reply) }
         requires of { IsOf self.now.setup.object self.now.setup.sizes p seat.old.me }
         requires stage { stage_of seat.old.me ≡ Idle [] }
+        requires untried { IsAnnounced seat.old.me }
         requires number { (number ≡ length (local_of seat.old.me).own + 1) × (number ≤ most_calls) }
         requires own { AreBuffers self.now.setup.sizes (local_of seat.old.me) own.old }
         requires room { HasRoom self.now.setup.sizes room.old }

@@ -532,6 +532,7 @@ impl<O: SmallObject> SmallShared<O> {
         requires wide { length invocation.now ≡ self.now.setup.sizes.invocation }
         requires of { IsOf self.now.setup.object self.now.setup.sizes p seat.old.me }
         requires stage { stage_of seat.old.me ≡ Idle [] }
+        requires untried { IsAnnounced seat.old.me }
         requires calls { length (local_of seat.old.me).own + 1 ≤ most_calls }
         requires own { AreBuffers self.now.setup.sizes (local_of seat.old.me) own.old }
         requires room { HasRoom self.now.setup.sizes room.old }

@@ -94,7 +94,8 @@ pub fn loads_append_nothing<O: SmallObject>()
         sizes.processes ≤ 64 → me.0.known.count ≡ 1 → tries < 2 → stage_of me ≡ Ready tries
         → Moves O.meaning o sizes id me 0 (λ x. x) nothing (λ found me'. HasStarted st me found me') }
     ensures begin { (o : O) (sizes : Sizes) (id : ℕ) (st : Step Seen) (me : Me Seen (View O)) →
-        sizes.processes ≤ 64 → me.0.known.count ≡ 1 → stage_of me ≡ Idle [] → length (local_of me).own < most_calls
+        sizes.processes ≤ 64 → me.0.known.count ≡ 1 → stage_of me ≡ Idle [] → IsAnnounced me
+        → length (local_of me).own < most_calls
         → Moves O.meaning o sizes id me 0 (λ x. x) nothing (λ found me'. HasBegun st me found me') }
     ensures check_own { (o : O) (sizes : Sizes) (id s : ℕ) (st : Step Seen) (me : Me Seen (View O)) →
         sizes.processes ≤ 64 → me.0.known.count ≡ 1 → IsLooking sizes 0 s sizes.processes me → IsDirect me
@@ -139,8 +140,8 @@ pub fn returned_has_come<O: SmallObject>()
 {}
 
 /// Every execution from the opening, in which the processes take their word steps in any order, is linearizable
-/// in real time: each call takes effect at one of the steps between its announcement and its last one. And
-/// strongly: where an execution goes on, only further calls come behind those that took effect.
+/// in real time: each call takes effect at one of the steps between the one that invokes it, which is its
+/// announcement or the exchange of its direct attempt, and its last one. And strongly: where an execution goes on, only further calls come behind those that took effect.
 pub fn every_execution_is_linearizable<O: SmallObject>()
     ensures linearized { (o : O) (sizes : Sizes) → AreSizesOf (O.meaning o) sizes
         → (e : Execution (O.meaning o).object sizes (opened_moment (O.meaning o).object sizes))
@@ -151,8 +152,9 @@ pub fn every_execution_is_linearizable<O: SmallObject>()
         → KeepsOrder (O.meaning o).object sizes e more }
 {}
 
-/// The construction is wait-free in every execution: a process with a call pending can always take a step, and
-/// no call takes more than `4 * W + (6 + 2 * I + 4 * R) * n + I + R + 8` steps of its own process.
+/// The construction is wait-free in every execution: a process in an attempt, or with a call pending, can always
+/// take a step, and no call takes more than `6 * W + (9 + 3 * I + 6 * R) * n + I + R + 11` steps of its own process,
+/// where no direct attempt of that process changes its invocation while it writes.
 pub fn every_call_is_wait_free<O: SmallObject>()
     ensures blocks { (o : O) (sizes : Sizes) → AreSizesOf (O.meaning o) sizes
         → (e : Execution (O.meaning o).object sizes (opened_moment (O.meaning o).object sizes))

@@ -1,5 +1,5 @@
 //! A process's place at an object.
-ghost use Rattle.std.specs.Prelude.{[], ◌≡◌, ◌≤◌, length};
+ghost use Rattle.std.specs.Prelude.{[], false, ◌≡◌, ◌≤◌, length};
 ghost use Rattle.uni_small.specs.View.Stage.{Idle};
 ghost use Rattle.uni_small.specs.Invariant.{most_calls};
 
@@ -40,5 +40,6 @@ pub struct SmallSeat<O> {
     pub(crate) room: Room,
     pub ghost stands: { (seat.me.0.known.first ≡ p) × (seat.me.0.known.count ≡ 1) × (seat.me.1 ≡ []) },
     pub ghost idle: { seat.me.0.known.local.stage ≡ Idle [] },
+    pub ghost untried: { seat.me.0.known.local.direct ≡ false },
     pub ghost counted: { (length seat.me.0.known.local.own ≡ made) × (made ≤ most_calls) },
 }

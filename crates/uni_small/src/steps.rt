@@ -74,6 +74,7 @@ impl<O: SmallObject> SmallShared<O> {
         requires inside { p < self.now.setup.sizes.processes }
         requires of { IsOf self.now.setup.object self.now.setup.sizes p seat.old.me }
         requires stage { stage_of seat.old.me ≡ Idle [] }
+        requires untried { IsAnnounced seat.old.me }
         requires room { length (local_of seat.old.me).own + 1 ≤ most_calls }
         ensures same { (seat.new.table_id ≡ seat.old.table_id) × (seat.new.id ≡ seat.old.id) }
         ensures left { IsLeft seat.old.me (begins_directly (local_of seat.old.me) result

@@ -18,5 +18,5 @@ load-requires g c =
       (let q0 = shared.sized in omega arith),
       by_key meaning shared.table.shared.key shared.setup shared.same slots id me i 0 refl (λ x. x) (λ x me'. HasBegun st me x me')
           nothing
-          (begins_own meaning o sizes id shared.few.1 st me c.requires.of.alone c.requires.stage (let r = c.requires.room in omega arith)),
+          (begins_own meaning o sizes id shared.few.1 st me c.requires.of.alone c.requires.stage c.requires.untried (let r = c.requires.room in omega arith)),
     )
