@@ -1,5 +1,5 @@
 -- Executions of one process on a counter of one word, with one call from its first step to its last: announced, and attempted directly.
-use Rattle.uni_small.proofs.Vocabulary.{AreWhole, None, inl, inr, Invoke, Linearize, Respond, Sizes, Some, [], arith, refl, suc, zero, ℕ, ◌<◌, ◌∷◌, ◌≡◌, read_image, slice_index, held_place}
+use Rattle.uni_small.proofs.Vocabulary.{AreWhole, None, most_calls, inl, inr, Invoke, Linearize, Respond, Sizes, Some, [], arith, refl, suc, zero, ℕ, ◌<◌, ◌∷◌, ◌≡◌, read_image, slice_index, held_place}
 use Rattle.uni_small.specs.Image.{counter_sizes, sample_counter}
 use Rattle.uni_small.specs.Execution.{Execution, history, last_moment, opened_moment}
 use Rattle.uni_small.specs.Execution.Next.{Store, Announce, Begin, Start, Look, Ask, Check, CheckOwn, Write, Bring, BringOwn, Reply}
@@ -21,6 +21,9 @@ written (suc (suc (suc i))) below = absurd (omega arith)
 
 one : 0 < 1
 one = omega arith
+
+room : 0 < most_calls
+room = omega arith
 
 none_below : 0 < 3
 none_below = omega arith
@@ -68,12 +71,12 @@ none_whole = whole_push sizes [] None (whole_none sizes) (λ inv e. absurd (cc))
 -- a call that is attempted directly
 direct_call : Execution sample_counter sizes (opened_moment sample_counter sizes)
 direct_call =
-    Step 0 one (Begin refl refl (omega arith)) (
+    Step 0 one (Begin refl refl room) (
     Step 0 one (Look 0 0 (0 ∷ 0 ∷ 0 ∷ []) [] refl refl (whole_none sizes) one) (
     Step 0 one (CheckOwn 0 (0 ∷ 0 ∷ 0 ∷ []) (None ∷ []) refl refl none_whole refl refl) (
     Step 0 one (Write 0 0 (read_image sizes (0 ∷ 0 ∷ 0 ∷ [])) (None ∷ []) (Some (5 ∷ []) ∷ []) 0 refl (inr (refl, 5 ∷ [], refl)) none_below no_one) (
     Step 0 one (Write 0 0 (read_image sizes (0 ∷ 0 ∷ 0 ∷ [])) (None ∷ []) (Some (5 ∷ []) ∷ []) 2 refl (inr (refl, 5 ∷ [], refl)) two_below no_five) (
-    Step 0 one (BringOwn 0 (read_image sizes (0 ∷ 0 ∷ 0 ∷ [])) (None ∷ []) (5 ∷ []) refl written refl refl (omega arith)) (
+    Step 0 one (BringOwn 0 (read_image sizes (0 ∷ 0 ∷ 0 ∷ [])) (None ∷ []) (5 ∷ []) refl written refl refl room) (
     Step 0 one (Reply 129 [] refl refl) Ends))))))
 
 direct_history : history sample_counter sizes direct_call
