@@ -781,10 +781,10 @@ module _ {O : Type 0} (meaning : O → Meaning) (o : O) (sizes : Sizes) (id : �
         → Moves meaning o sizes id me 0 (λ found. either (eqb found s) st.second found) (takes_effect_own l p inv s own_seen) (λ found me'. HasBroughtOwn st me found me')
     brings_in_own its said_is inv_is state g local seat_of is at =
         let h = brings_in_left state g local seat_of is at in (h.0, (h.1.0, h.1.1, told_to (slice_index state.words 0) (h.0, me.1) h.1.2, h.1.3, h.1.4)) where
-      told_to : (found : ℕ) (me' : Me Seen (View O)) → LeftOwn found me' → HasBroughtOwn st me found me'
-      told_to found me' left s' image' seen' its' stage' said' =
-          let e : Writing 0 s own_image own_seen ≡ Writing 0 s' image' seen' = sym own_stage ∙ stage' in
-          let c : s ≡ s' = cc in
-          let t : its ≡ its' = some-injective its its' (sym said_is ∙ said') in
-          let words : inv ≡ its'.invocation.items = sym inv_is ∙ ap (λ (x : Seen). x.invocation.items) t in
-          left ∙ (λ k. (with_local me.0 (brought_own l (c k) st.second (words k) found), me.1))
+          told_to : (found : ℕ) (me' : Me Seen (View O)) → LeftOwn found me' → HasBroughtOwn st me found me'
+          told_to found me' left s' image' seen' its' stage' said' =
+              let e : Writing 0 s own_image own_seen ≡ Writing 0 s' image' seen' = sym own_stage ∙ stage' in
+              let c : s ≡ s' = cc in
+              let t : its ≡ its' = some-injective its its' (sym said_is ∙ said') in
+              let words : inv ≡ its'.invocation.items = sym inv_is ∙ ap (λ (x : Seen). x.invocation.items) t in
+              left ∙ (λ k. (with_local me.0 (brought_own l (c k) st.second (words k) found), me.1))

@@ -118,11 +118,11 @@ module _ {O : Type 0} (meaning : O → Meaning) (o : O) (sizes : Sizes) (id : �
       let room : i < b = (let t = length-take-le b (drop (which * b) l.held) (let d = length-drop (which * b) l.held in let h = mine.held.long in omega_cases which either d h) in omega arith) in
       get_or-take b (drop (which * b) l.held) i 0 room ∙ get_or-drop (which * b) l.held i 0 ∙ sym (mine.held.words which i either room)
       ∙ ap (λ c. g.buffer c i) (sym here) ∙ board.exact i room where
-    omega_cases : (which : ℕ) → which ≤ 1 → length (drop (which * buffer_words sizes) l.held) ≡ length l.held - which * buffer_words sizes → length l.held ≡ 2 * buffer_words sizes
-        → buffer_words sizes ≤ length (drop (which * buffer_words sizes) l.held)
-    omega_cases zero either d h = omega arith
-    omega_cases (suc zero) either d h = omega arith
-    omega_cases (suc (suc k)) either d h = absurd (omega arith)
+        omega_cases : (which : ℕ) → which ≤ 1 → length (drop (which * buffer_words sizes) l.held) ≡ length l.held - which * buffer_words sizes → length l.held ≡ 2 * buffer_words sizes
+            → buffer_words sizes ≤ length (drop (which * buffer_words sizes) l.held)
+        omega_cases zero either d h = omega arith
+        omega_cases (suc zero) either d h = omega arith
+        omega_cases (suc (suc k)) either d h = absurd (omega arith)
 
   copied_own : (g : Board) (s : ℕ) → IsAt object sizes g p l → IsBoard object sizes g → buffer_in s ≡ g.current → (b : Bool) → (buffer_in s / 2 == p) ≡ b
       → IsCopied g (if b then words_held sizes l.held (buffer_in s % 2) else [])

@@ -62,7 +62,11 @@ fn buffers<O: SmallObject>(alloc: Global, object: &O, sizes: &Sizes) -> Result<B
 
 impl<O: SmallObject> SmallShared<O> {
     /// Cuts the seat of all processes into one for each.
-    fn seats(&self, alloc: Global, all: Seat<Seen, View<O>>) -> Result<Vec<SmallSeat<O>>, AllocError>
+    fn seats(
+        &self,
+        alloc: Global,
+        all: Seat<Seen, View<O>>,
+    ) -> Result<Vec<SmallSeat<O>>, AllocError>
         requires table { all.table_id ≡ self.now.table.shared.table_id }
         requires wide { length (O.meaning self.now.setup.object).object.initial ≡ self.now.setup.sizes.state }
         requires all { all.me ≡ (first_view O.meaning self.now.setup.object self.now.setup.sizes, []) }

@@ -14,8 +14,8 @@ ghost use Rattle.uni_small.specs.Belongs.{HasInvocation};
 use crate::log::SmallShared;
 use crate::object::SmallObject;
 use crate::rule::{
-    Announces, Asks, Begins, Brings, BringsOwn, Checks, ChecksOwn, Copies, Follows, Loads, Looks, Replies, Starts, Stores, Turns,
-    Writes,
+    Announces, Asks, Begins, Brings, BringsOwn, Checks, ChecksOwn, Copies, Follows, Loads, Looks,
+    Replies, Starts, Stores, Turns, Writes,
 };
 use crate::seat::Seen;
 use crate::view::View;

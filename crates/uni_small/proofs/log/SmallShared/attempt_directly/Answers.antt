@@ -47,8 +47,7 @@ check_own-again-requires-clause-stage g c =
     let seen = all_seen room in
     let first = c.survey.ensures.goes in
     let copy = begun sizes c.args.p (local_of me).held s in
-    let rows = room_rows sizes room c.survey.ensures.room in
-    (
+    let rows = room_rows sizes room c.survey.ensures.room in (
       spell (image_in sizes room),
       (
         seen,
