@@ -1,5 +1,5 @@
 -- How an attempt goes on after its check, and how a call ends.
-use Rattle.uni_small.proofs.Vocabulary.{AreBuffers, Bool, Buffers, CallEnds, EndsWithin, Goes, GoesBy, HasRows, Idle, Image, IsAnnounced, IsDirect, IsEnd, IsGood, IsLeft, IsOf, Last, List, Local, Me, Meaning, None, Option, Reading, Ready, ReplyEnds, Returned, Seen, Sizes, Some, Stage, TriesWithin, View, WritesWithin, Writing, [], announced_steps, announces, ap, arith, attempt_steps, begins_directly, brings, brings_own, brought, brought_own, buffer_in, buffer_words, call_steps, checked, checked_own, end_of, false, goes, inl, inr, length, local_of, number_cases, read_image, refl, returns, slice_index, spell, stage_of, subst, sym, tried_directly, true, version_in, went, with_local, ℕ, ◌*◌, ◌++◌, ◌+◌, ◌-◌, ◌<◌, ◌∙◌, ◌∷◌, ◌≡◌, ◌≢◌, ◌≤◌}
+use Rattle.uni_small.proofs.Vocabulary.{AreBuffers, Buffers, CallEnds, EndsWithin, Goes, GoesBy, HasRows, Idle, Image, IsAnnounced, IsDirect, IsEnd, IsGood, IsLeft, IsOf, Last, List, Local, Me, Meaning, None, Option, Reading, Ready, ReplyEnds, Returned, Seen, Sizes, Some, Stage, TriesWithin, View, WritesWithin, Writing, [], announced_steps, announces, ap, arith, attempt_steps, begins_directly, brings, brings_own, brought, brought_own, buffer_in, buffer_words, call_steps, checked, checked_own, end_of, false, goes, inl, inr, length, local_of, number_cases, read_image, refl, returns, slice_index, spell, stage_of, subst, sym, tried_directly, true, version_in, went, with_local, ℕ, ◌*◌, ◌++◌, ◌+◌, ◌-◌, ◌<◌, ◌∙◌, ◌∷◌, ◌≡◌, ◌≢◌, ◌≤◌}
 use Rattle.std.proofs.Math.Nat.{add-mul, mul_assoc, mul_comm}
 use Rattle.uni_small.proofs.Going.{add_assoc, stage_after, own_after, spare_after, held_after, goes_on}
 use Rattle.uni_small.proofs.Images.{read-spell, spell-applied}

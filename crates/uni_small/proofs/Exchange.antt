@@ -1,5 +1,5 @@
 -- The exchange that makes a spare buffer current.
-use Rattle.uni_small.proofs.Vocabulary.{AcceptsAll-append, AreIn, AreWhole, AreWords, Board, Bool, Contains-append_cases, HasBrought, HasBroughtOwn, HasRows, IsLeft, HasSeen, HasTaken, HasWrittenAll, HasWrittenOwn, Idle, Image, Invoke, Invoked, IsAnnounced, IsAt, IsAttemptAt, IsAttempted, IsBoard, IsCallAt, IsClosed, IsDirect, IsOpen, IsOrdered, IsPending, IsSound, IsSteady, Last, Linearize, List, Local, MayBeWritten, Me, Meaning, Moves, None, Option, Reading, Ready, Returned, Seen, Sequential, Sizes, Some, Stage, StandsIn, Step, View, Writing, [], acts_by, announces, ap, append-nil, append_assoc, arith, at_start, brings, brings_own, brought, brought_own, buffer_in, buffer_words, calls_seen, current_word, due_at, either, eqb, exchanged, false, first_image, goes, if◌then◌else◌, image_from, in_of, inl, inr, length, length-append, length-set, lt_cases, map, map-append, most_calls, nat_lt, number_cases, refl, reply_of, reply_place, response_at, response_at-append, set-get_or, set_at, set_at-cases, set_at_elsewhere, set_at_same, slice_get, slice_get-append_left, slice_get-append_right, slice_get_within, slice_index, slice_set, some, some-injective, spell, state_after, subst, suc, sym, take, take-length, takes_effect, takes_effect_own, true, version_in, with_local, with_seen, zero, ℕ, ◌*◌, ◌++◌, ◌+◌, ◌<◌, ◌==◌, ◌∙◌, ◌∷◌, ◌≡◌, ◌≢◌, ◌≤◌, ◌⊎◌}
+use Rattle.uni_small.proofs.Vocabulary.{AcceptsAll-append, AreIn, AreWhole, AreWords, Board, Bool, Contains-append_cases, HasBrought, HasBroughtOwn, HasRows, IsLeft, HasSeen, HasTaken, HasWrittenAll, HasWrittenOwn, Idle, Image, Invoke, Invoked, IsAnnounced, IsAt, IsAttemptAt, IsAttempted, IsBoard, IsCallAt, IsClosed, IsDirect, IsOpen, IsOrdered, IsSound, IsSteady, Last, Linearize, List, Local, MayBeWritten, Me, Meaning, Moves, None, Option, Reading, Ready, Returned, Seen, Sequential, Sizes, Some, Stage, StandsIn, Step, View, Writing, [], acts_by, announces, ap, append-nil, append_assoc, arith, at_start, brings, brings_own, brought, brought_own, buffer_in, buffer_words, calls_seen, current_word, due_at, either, eqb, exchanged, false, first_image, goes, if◌then◌else◌, image_from, in_of, inl, inr, length, length-append, length-set, lt_cases, map, map-append, most_calls, nat_lt, number_cases, refl, reply_of, reply_place, response_at, response_at-append, set-get_or, set_at, set_at-cases, set_at_elsewhere, set_at_same, slice_get, slice_get-append_left, slice_get-append_right, slice_get_within, slice_index, slice_set, some, some-injective, spell, state_after, subst, suc, sym, take, take-length, takes_effect, takes_effect_own, true, version_in, with_local, with_seen, zero, ℕ, ◌*◌, ◌++◌, ◌+◌, ◌<◌, ◌==◌, ◌∙◌, ◌∷◌, ◌≡◌, ◌≢◌, ◌≤◌, ◌⊎◌}
 use Rattle.uni_small.proofs.Frame.{Found, Given, step_law, sound_with, sound_same}
 use Rattle.uni_small.proofs.Stepping.{bring_own_steps, bring_steps}
 use Rattle.uni_small.proofs.Lists.{due-here, due-set, due_cases, get-set, get-append, get-contains}

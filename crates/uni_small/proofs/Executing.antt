@@ -1,5 +1,5 @@
 -- Each step of an execution is one of the table's steps, and so keeps a board whose history is that of the execution.
-use Rattle.uni_small.proofs.Vocabulary.{Act, AreWidths, AreWords, Board, IsShown, IsSound, Image, IsSteady, Last, Linearize, List, Local, Me, Meaning, Moves, Option, Reading, Ready, Sequential, Sizes, Some, Stage, State, Tells, View, Writing, [], ap, append-nil, append_assoc, brought, brought_own, checked_own, Seen, Idle, Invoke, IsLeft, inl, inr, slice_set, takes_effect_own, buffer_in, calls_seen, current_word, eqb, false, get_elem?, if◌then◌else◌, length, map, nothing, refl, set_at, set_at-cases, slice_index, slice_set, some, some-injective, some-ne-none, step, subst, suc, sym, takes_effect, true, version_in, with_local, zero, ℕ, either, ◌*◌, ◌++◌, ◌+◌, ◌<◌, ◌==◌, ◌∙◌, ◌∷◌, ◌≡◌, ◌≤◌}
+use Rattle.uni_small.proofs.Vocabulary.{Act, AreWidths, AreWords, Board, IsShown, IsSound, Image, IsSteady, Last, Linearize, List, Local, Me, Meaning, Moves, Option, Reading, Ready, Sequential, Sizes, Some, Stage, State, Tells, View, Writing, [], ap, append-nil, append_assoc, brought, brought_own, Seen, Idle, Invoke, IsLeft, slice_set, takes_effect_own, buffer_in, calls_seen, current_word, eqb, false, get_elem?, if◌then◌else◌, length, map, nothing, refl, set_at, set_at-cases, slice_index, slice_set, some, some-injective, some-ne-none, step, subst, suc, sym, takes_effect, true, version_in, with_local, zero, ℕ, either, ◌*◌, ◌++◌, ◌+◌, ◌<◌, ◌==◌, ◌∙◌, ◌∷◌, ◌≡◌, ◌≤◌}
 use Rattle.uni_small.proofs.Vocabulary.{HasAnnounced, HasAsked, HasBegun, HasBrought, HasChecked, HasCheckedOwn, HasCopied, HasFollowed, HasLoaded, HasLooked, HasReplied, HasStarted, HasStored, HasTurned, HasWritten, arith, buffer_word, begins, ends, number_cases, IsAttemptAt, none, read_image, spell, with_seen, ⊎_elim}
 use Rattle.uni_small.specs.Execution.{Access, Execution, Moment, Next, access_of, acts_at, after_access, last_moment, history}
 use Rattle.uni_small.specs.Execution.Next.{Store, Announce, Follow, Begin, Start, Copy, Look, Ask, Check, CheckOwn, Write, Bring, BringOwn, Turn, Load, Reply}

@@ -1,5 +1,5 @@
 -- The word steps that load, but the last one of a call.
-use Rattle.uni_small.proofs.Vocabulary.{AreHeld, AreIn, AreWhole, Board, Bool, HasAsked, HasBegun, HasChecked, HasCheckedOwn, HasCopied, HasFollowed, HasLooked, HasSeen, HasStarted, HasTurned, Idle, IfFresh, Image, Invoked, IsAnnounced, IsAsking, IsAt, IsAttemptAt, IsAttempted, IsBeginning, IsBoard, IsCallAt, IsClosed, IsCopying, IsDirect, IsGood, IsLooking, IsNamed, IsOpen, IsPending, IsShown, IsSound, IsSteady, Last, List, Local, MayBeWritten, Me, Meaning, Moves, None, Option, Reading, Ready, Returned, Seen, Sequential, Sizes, Some, Stage, State, Step, View, Writing, [], announce_word, ap, argument_word, arith, begins_directly, begun, buffer_in, buffer_word, buffer_words, checked, checked_own, cond, current_word, drop, due_at, false, get_or-drop, get_or-set_other, get_or-take, goes, if◌then◌else◌, in_of, inl, inr, knows, length, length-append, length-drop, length-take-le, looked, lt_cases, map, most_calls, nat_le, nothing, number_cases, read_image, refl, reply_of, same_from_push, slice_get, slice_get-append_left, slice_get_within, slice_index, slice_set, spell, stage_of, subst, suc, sum, sym, true, version_in, with_local, with_seen, words_held, zero, ℕ, ◌%◌, ◌*◌, ◌++◌, ◌+◌, ◌-◌, ◌/◌, ◌<◌, ◌==◌, ◌∙◌, ◌∷◌, ◌≡◌, ◌≢◌, ◌≤◌}
+use Rattle.uni_small.proofs.Vocabulary.{AreIn, AreWhole, Board, Bool, HasAsked, HasBegun, HasChecked, HasCheckedOwn, HasCopied, HasFollowed, HasLooked, HasSeen, HasStarted, HasTurned, Idle, IfFresh, Image, Invoked, IsAnnounced, IsAsking, IsAt, IsAttemptAt, IsAttempted, IsBeginning, IsBoard, IsCallAt, IsClosed, IsCopying, IsDirect, IsGood, IsLooking, IsNamed, IsOpen, IsPending, IsShown, IsSound, IsSteady, Last, List, Local, MayBeWritten, Me, Meaning, Moves, None, Option, Reading, Ready, Returned, Seen, Sequential, Sizes, Some, Stage, State, Step, View, Writing, [], announce_word, ap, argument_word, arith, begins_directly, begun, buffer_in, buffer_word, buffer_words, checked, checked_own, cond, current_word, drop, due_at, false, get_or-drop, get_or-take, goes, if◌then◌else◌, in_of, inl, inr, knows, length, length-append, length-drop, length-take-le, looked, lt_cases, map, most_calls, nat_le, nothing, number_cases, read_image, refl, reply_of, same_from_push, slice_get, slice_get-append_left, slice_get_within, slice_index, slice_set, spell, stage_of, subst, suc, sum, sym, true, version_in, with_local, with_seen, words_held, zero, ℕ, ◌%◌, ◌*◌, ◌++◌, ◌+◌, ◌-◌, ◌/◌, ◌<◌, ◌==◌, ◌∙◌, ◌∷◌, ◌≡◌, ◌≢◌, ◌≤◌}
 use Rattle.uni_small.specs.Invariant.{IsCopied}
 use Rattle.std.proofs.lemmas.Bool.Decides.{nat_tests}
 use Rattle.uni_small.proofs.Frame.{Found, load_law}

@@ -1,5 +1,5 @@
 -- A step of one process by which S, the image and the marks stay leaves the others where they are.
-use Rattle.uni_small.proofs.Vocabulary.{Act, Atomic, Board, Bool, HasSeen, HasTaken, Idle, Invoked, IsAt, IsAttemptAt, IsAttempted, IsCallAt, IsClosed, IsOpen, IsOrdered, IsPending, Last, List, Local, Option, Reading, Ready, Returned, Sequential, Sizes, Stage, Writing, acts_by, ap, arith, false, in_of, inl, inr, length, map, response_at, slice_get, subst, sym, take, true, ℕ, ◌*◌, ◌+◌, ◌<◌, ◌∙◌, ◌≡◌, ◌≤◌}
+use Rattle.uni_small.proofs.Vocabulary.{Act, Atomic, Board, Bool, HasSeen, HasTaken, Idle, Invoked, IsAt, IsAttemptAt, IsAttempted, IsCallAt, IsClosed, IsOpen, IsOrdered, IsPending, Last, List, Local, Option, Reading, Ready, Returned, Sequential, Sizes, Stage, Writing, acts_by, ap, arith, false, length, map, response_at, slice_get, subst, sym, take, true, ℕ, ◌*◌, ◌+◌, ◌<◌, ◌∙◌, ◌≡◌, ◌≤◌}
 
 module _ (object : Sequential (List ℕ) (List ℕ) (List ℕ)) (sizes : Sizes) (g : Board) (told' announced' : ℕ → ℕ) (argument' : ℕ → List ℕ) (since' : ℕ → ℕ) (buffer' : ℕ → ℕ → ℕ) (atomic' : Atomic (List ℕ) (List ℕ)) (acts' : List (Act (List ℕ) (List ℕ))) where
   -- the board afterwards

@@ -1,5 +1,5 @@
 -- The load of the reply, by which a call returns.
-use Rattle.uni_small.proofs.Vocabulary.{AcceptsAll-append, Act, AreWords, Atomic, Board, HasLoaded, HasReplied, HasTaken, Invoke, Invoked, IsBeginning, IsLoading, IsOpen, IsPending, Last, List, Local, Me, Meaning, Moves, None, Respond, Returned, Seen, Sequential, Sizes, Some, StandsIn, Step, View, [], ap, append_assoc, arith, at_start, buffer_in, buffer_word, ending, ends, goes, in_of, inl, inr, length, length-append, lt_cases, map, nothing, plain, refl, reply_of, reply_place, response_at, returns, sequential_acts, set-get_or, set_at, set_at-cases, set_at_elsewhere, set_at_same, slice_index, some, stage_of, subst, sym, version_in, with_local, ℕ, ◌*◌, ◌++◌, ◌+◌, ◌<◌, ◌∙◌, ◌∷◌, ◌≡◌, ◌≤◌}
+use Rattle.uni_small.proofs.Vocabulary.{AcceptsAll-append, Act, AreWords, Atomic, Board, HasLoaded, HasReplied, HasTaken, Invoke, Invoked, IsBeginning, IsLoading, IsOpen, IsPending, Last, List, Local, Me, Meaning, Moves, None, Respond, Returned, Seen, Sequential, Sizes, Some, StandsIn, Step, View, [], ap, append_assoc, arith, at_start, buffer_in, buffer_word, ending, ends, goes, in_of, inl, inr, length, length-append, lt_cases, map, nothing, plain, refl, reply_of, reply_place, response_at, returns, sequential_acts, set-get_or, set_at, set_at-cases, set_at_elsewhere, set_at_same, slice_index, stage_of, subst, sym, version_in, with_local, ℕ, ◌*◌, ◌++◌, ◌+◌, ◌<◌, ◌∙◌, ◌∷◌, ◌≡◌, ◌≤◌}
 use Rattle.uni_small.proofs.Frame.{Found, load_law, sound_with, step_law}
 use Rattle.uni_small.proofs.Stepping.{load_steps, reply_steps}
 use Rattle.uni_small.proofs.Rows.{begins_more, begins_whole, later}

@@ -1,10 +1,9 @@
 -- The word steps that store.
-use Rattle.uni_small.proofs.Vocabulary.{AcceptsAll-append, Act, AreHeld, Atomic, Board, Bool, HasAnnounced, HasStored, HasWritten, Idle, Invoke, IsAttemptAt, IsAttempted, IsBeginning, IsCallAt, IsClosed, IsOpen, IsStoring, IsWriting, List, Local, MayBeWritten, Me, Meaning, Moves, Option, Seen, Sequential, Sizes, Some, Step, View, Writing, [], announce_word, announces, ap, append-nil, argument_word, arith, at_start, begins, buffer_word, buffer_words, due_at, false, get_or-set_other, get_or-set_same, goes, held_place, in_of, inl, inr, length, length-set, most_calls, nothing, number_cases, refl, reply_place, set_at, set_at-cases, set_at_elsewhere, set_at_same, slice_index, slice_set, spell, stage_of, subst, sym, true, with_local, with_seen, wrote, ℕ, ◌*◌, ◌++◌, ◌+◌, ◌<◌, ◌∙◌, ◌∷◌, ◌≡◌, ◌≢◌, ◌≤◌}
+use Rattle.uni_small.proofs.Vocabulary.{AreHeld, Board, Bool, HasAnnounced, HasStored, HasWritten, Idle, IsAttemptAt, IsAttempted, IsBeginning, IsCallAt, IsClosed, IsStoring, IsWriting, List, Local, MayBeWritten, Me, Meaning, Moves, Seen, Sequential, Sizes, Step, View, Writing, [], announce_word, announces, ap, append-nil, argument_word, arith, begins, buffer_word, buffer_words, false, get_or-set_other, get_or-set_same, goes, held_place, in_of, inl, inr, length, length-set, most_calls, nothing, number_cases, refl, reply_place, set_at, set_at-cases, set_at_elsewhere, set_at_same, slice_index, slice_set, spell, stage_of, subst, sym, true, with_local, with_seen, wrote, ℕ, ◌*◌, ◌++◌, ◌+◌, ◌<◌, ◌∙◌, ◌∷◌, ◌≡◌, ◌≢◌, ◌≤◌}
 use Rattle.uni_small.proofs.Frame.{step_law, sound_with}
 use Rattle.uni_small.proofs.Stepping.{announce_steps, store_steps, write_steps}
 use Rattle.uni_small.proofs.Images.{spell-reply}
 use Rattle.uni_small.proofs.Loads.{call_at, attempt_at}
-use Rattle.uni_small.proofs.Acts.{invoked_other, invoked_own}
 use Rattle.uni_small.proofs.Others.{quiet, at_stays}
 use Rattle.uni_small.proofs.Beginning.{begun_board, begun_sound}
 use Rattle.uni_small.proofs.Rows.{begins_set, begins_whole}

@@ -1,6 +1,6 @@
 -- Executions: processes that take word steps in any order, as plain data.
 use Rattle.std.specs.Prelude.{◌≡◌, ◌≢◌, ℕ, ◌+◌, ◌*◌, ◌<◌, ◌≤◌, ◌==◌, List, [], ◌∷◌, ◌++◌, Option, Some, if◌then◌else◌}
-use Rattle.std.specs.Prelude.{Bool, false, true, length, map, replicate, slice_index, slice_set}
+use Rattle.std.specs.Prelude.{false, true, length, map, replicate, slice_index, slice_set}
 use Rattle.seq_object.specs.Sequential.{Sequential}
 use Rattle.uni_model.specs.AtomicObject.{Act, Invoked, set_at}
 use Rattle.uni_model.specs.AtomicObject.Act.{Invoke, Linearize, Respond}

@@ -1,5 +1,4 @@
 -- The rule of the table, by what the table is told.
-use Rattle.std.specs.Prelude.{ℕ}
 use Rattle.atomic_table.specs.Table.{State}
 use Rattle.uni_small.specs.Image.{Meaning}
 use Rattle.uni_small.specs.Shown.{ShowsBoard}

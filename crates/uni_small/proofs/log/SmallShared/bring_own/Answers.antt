@@ -1,4 +1,4 @@
-use Rattle.uni_small.proofs.Vocabulary.{AreBuffers, Buffers, Image, List, Me, None, Returned, Seen, Some, TriesWithin, View, all_seen, ap, arith, buffer_words, held_place, image_in, image_of_rows, inl, inr, length, local_of, map, refl, seen_in, slice_index, slice_index_or, slice_set, spell, subst, sym, with_items_is, with_seen, ℕ, ◌*◌, ◌+◌, ◌-◌, ◌/◌, ◌∙◌, ◌≡◌, ◌≤◌}
+use Rattle.uni_small.proofs.Vocabulary.{AreBuffers, Buffers, Image, List, Me, None, Returned, Seen, Some, TriesWithin, View, all_seen, ap, arith, buffer_words, held_place, image_in, image_of_rows, inr, length, local_of, map, refl, seen_in, slice_index, slice_index_or, slice_set, spell, subst, sym, with_items_is, with_seen, ℕ, ◌*◌, ◌+◌, ◌-◌, ◌/◌, ◌∙◌, ◌≡◌, ◌≤◌}
 use Rattle.uni_small.proofs.Going.{writes_own, writes_direct, writes_stage, writes_of, writes_buffers}
 use Rattle.uni_small.proofs.Ending.{bring_own_fails, bring_own_hits, buffers_tried}
 use Rattle.uni_small.proofs.log.SmallShared.bring_own.Goals as goal

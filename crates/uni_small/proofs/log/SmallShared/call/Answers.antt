@@ -1,4 +1,4 @@
-use Rattle.uni_small.proofs.Vocabulary.{None, Option, Some, TriesWithin, attempt_steps, subst, ℕ}
+use Rattle.uni_small.proofs.Vocabulary.{Option, TriesWithin, attempt_steps, subst, ℕ}
 use Rattle.uni_small.proofs.Ending.{directly_ends, announced_ends}
 use Rattle.uni_small.proofs.log.SmallShared.call.Goals as goal
 

@@ -1,4 +1,4 @@
-use Rattle.uni_small.proofs.Vocabulary.{HasCheckedOwn, IsGood, Some, arith, checked_own, goes, length, none, nothing, read_image, refl, step, subst, with_local, ℕ, ◌+◌, ◌∙◌, ◌≡◌}
+use Rattle.uni_small.proofs.Vocabulary.{HasCheckedOwn, IsGood, Some, arith, checked_own, goes, none, nothing, read_image, refl, step, subst, with_local, ℕ, ◌∙◌, ◌≡◌}
 use Rattle.uni_small.proofs.Allowed.{by_key}
 use Rattle.uni_small.proofs.Loads.{checks_own}
 use Rattle.uni_small.proofs.log.SmallShared.check_own.Goals as goal

@@ -1,4 +1,4 @@
-use Rattle.uni_small.proofs.Vocabulary.{Reading, [], ap, arith, image_in, spell, sym, ℕ, ◌∙◌, ◌≤◌}
+use Rattle.uni_small.proofs.Vocabulary.{Reading, [], ap, arith, image_in, spell, sym, ◌∙◌}
 use Rattle.uni_small.proofs.Going.{begun_own, goes_zero}
 use Rattle.uni_small.proofs.log.SmallShared.copy.Goals as goal
 

@@ -1,4 +1,4 @@
-use Rattle.uni_small.proofs.Vocabulary.{AreBuffers, AreFirstSeats, Me, Rule, Seen, Splits, View, ap, arith, first_alone, others, refl, rules, subst, sym, ℕ, ◌+◌, ◌-◌, ◌∙◌, ◌≡◌}
+use Rattle.uni_small.proofs.Vocabulary.{AreBuffers, AreFirstSeats, Me, Rule, Seen, Splits, View, ap, arith, first_alone, others, refl, rules, subst, sym, ◌+◌, ◌-◌, ◌∙◌, ◌≡◌}
 use Rattle.uni_small.proofs.Seating.{all_own, one_more}
 use Rattle.uni_small.proofs.Splitting.{splits}
 use Rattle.uni_small.proofs.log.SmallShared.seats.Goals as goal

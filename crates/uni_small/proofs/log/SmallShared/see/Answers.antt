@@ -1,4 +1,4 @@
-use Rattle.uni_small.proofs.Vocabulary.{Goes, GoesBy, List, None, Option, Reading, Seen, Some, [], ap, arith, eqb, false, inl, inr, length, looked, lt_cases, nat_lt, not, number_cases, refl, seen_in, slice_index, subst, sym, true, with_items_is, ℕ, ◌++◌, ◌+◌, ◌<◌, ◌∙◌, ◌∷◌, ◌≡◌, ◌≢◌, ◌≤◌}
+use Rattle.uni_small.proofs.Vocabulary.{Goes, GoesBy, List, None, Option, Reading, Seen, Some, [], ap, arith, false, inl, inr, length, looked, lt_cases, nat_lt, refl, seen_in, slice_index, subst, sym, true, with_items_is, ℕ, ◌++◌, ◌+◌, ◌<◌, ◌∙◌, ◌∷◌, ◌≡◌, ◌≤◌}
 use Rattle.std.specs.Vec.{with_items}
 use Rattle.uni_small.proofs.Rooms.{seen_due, seen_none}
 use Rattle.uni_small.proofs.Going.{looked_same, looked_other, stage_after, of_after, goes_more}

@@ -1,4 +1,4 @@
-use Rattle.uni_small.proofs.Vocabulary.{List, ap, arith, buffer_words, drop, drop-drop, joined, length, rows, sym, take, take-add, words_held, ℕ, ◌*◌, ◌++◌, ◌+◌, ◌∙◌, ◌≡◌}
+use Rattle.uni_small.proofs.Vocabulary.{List, ap, arith, buffer_words, drop, drop-drop, length, sym, take, take-add, ℕ, ◌*◌, ◌++◌, ◌+◌, ◌∙◌, ◌≡◌}
 use Rattle.uni_small.proofs.Rows.{joined-rows}
 use Rattle.uni_small.proofs.log.SmallShared.take_copy.Goals as goal
 
