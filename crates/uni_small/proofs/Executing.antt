@@ -161,10 +161,10 @@ module _ {O : Type 0} (meaning : O → Meaning) (o : O) (sizes : Sizes) where
 
     pub step_holds : (m : Moment) (acts : List (Act (List ℕ) (List ℕ))) → Holds m acts → (p : ℕ) → p < sizes.processes → (next : Next object sizes p (m.local p))
         → Holds (after_access object sizes m p (access_of object sizes p (m.local p) next)) (acts ++ acts_at object sizes m (access_of object sizes p (m.local p) next))
-    step_holds m acts h p inside (Store stored x at room) =
+    step_holds m acts h p inside (Store stored x at within room) =
         let st = step 0 0 0 0 none in let me = me_at m.local p in
-        moved widths m acts h p inside (access_of object sizes p (m.local p) (Store stored x at room)) (λ y. x) nothing (λ found me'. HasStored st me x me')
-        (stores meaning o sizes p st me refl (length stored) x (stored, at, refl) room) refl
+        moved widths m acts h p inside (access_of object sizes p (m.local p) (Store stored x at within room)) (λ y. x) nothing (λ found me'. HasStored st me x me')
+        (stores meaning o sizes p st me refl (length stored) x (stored, at, refl) within room) refl
         (λ me' said. (said stored at, tt)) (λ g words sound. refl)
     step_holds m acts h p inside (Announce inv at whole few) =
         let st = step 0 0 0 0 none in let me = me_at m.local p in

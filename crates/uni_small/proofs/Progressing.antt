@@ -33,6 +33,7 @@ IsScan sizes seen =
 abbrev IsStanding : Sizes → Stage → Type 0
 IsStanding sizes (Reading tries s copy seen) =
     ((seen ≡ []) × (length copy ≤ buffer_words sizes)) ⊎ ((length copy ≡ buffer_words sizes) × IsScan sizes seen)
+IsStanding sizes (Idle stored) = length stored ≤ sizes.invocation
 IsStanding sizes (Last s loaded) = length loaded < sizes.reply
 IsStanding sizes stage = Unit {0}
 
@@ -41,7 +42,8 @@ abbrev IsAttempting : (direct : Bool) (tries calls : ℕ) → Type 0
 IsAttempting direct tries calls = (direct ≡ false) ⊎ ((direct ≡ true) × (tries ≡ 0) × (calls < most_calls))
 
 abbrev IsInMode : Stage → (direct : Bool) (calls : ℕ) → Type 0
-IsInMode (Idle stored) direct calls = Unit {0}
+IsInMode (Idle []) direct calls = (direct ≡ false) ⊎ (calls < most_calls)
+IsInMode (Idle (y ∷ stored)) direct calls = calls < most_calls
 IsInMode (Ready tries) direct calls = direct ≡ false
 IsInMode (Reading tries s copy seen) direct calls = IsAttempting direct tries calls
 IsInMode (Writing tries s image seen) direct calls = IsAttempting direct tries calls
@@ -184,15 +186,17 @@ module _ (object : Sequential (List ℕ) (List ℕ) (List ℕ)) (sizes : Sizes) 
 
   checked_own_stands : (b : Bool) (s : ℕ) (image : Image) (seen : List (Option (List ℕ))) → IsStanding sizes (if b then Writing 0 s image seen else Idle [])
   checked_own_stands true s image seen = tt
-  checked_own_stands false s image seen = tt
+  checked_own_stands false s image seen = omega arith
 
   checked_own_mode : (b : Bool) (s : ℕ) (image : Image) (seen : List (Option (List ℕ))) (direct : Bool) (calls : ℕ) → IsAttempting direct 0 calls
       → IsInMode (if b then Writing 0 s image seen else Idle []) direct calls
   checked_own_mode true s image seen direct calls h = h
-  checked_own_mode false s image seen direct calls h = tt
+  checked_own_mode false s image seen direct calls h = ⊎_elim (λ announced. inl announced) (λ own. inr own.2) h
 
   stands_after : (p : ℕ) (l : Local) → Stands l → (next : Next object sizes p l) (found : ℕ) → Stands ((access_of object sizes p l next).leaves found)
-  stands_after p l h (Store stored x at room) found = record { standing = tt; mode = tt; long = h.long; either = h.either }
+  stands_after p l h (Store [] x at inside room) found = record { standing = omega (arith, inside); mode = room; long = h.long; either = h.either }
+  stands_after p l h (Store (y ∷ stored) x at inside room) found =
+      record { standing = (let e = length-push stored x in omega (arith, e, inside)); mode = room; long = h.long; either = h.either }
   stands_after p l h (Announce inv at whole few) found = record { standing = tt; mode = refl; long = h.long; either = h.either }
   stands_after p l h (Follow at) found = record { standing = h.standing; mode = h.mode; long = h.long; either = h.either }
   stands_after p l h (Begin at untried few) found =
@@ -234,12 +238,12 @@ module _ (object : Sequential (List ℕ) (List ℕ) (List ℕ)) (sizes : Sizes) 
       (number_cases found s)
   stands_after p l h (BringOwn s image seen inv at written direct whole few) found = ⊎_elim
       (λ same. rw same.1 (record { standing = some_reply; mode = tt; long = h.long; either = omega arith }))
-      (λ other. rw other.1 (record { standing = tt; mode = tt; long = h.long; either = h.either }))
+      (λ other. rw other.1 (record { standing = omega arith; mode = inr few; long = h.long; either = h.either }))
       (number_cases found s)
   stands_after p l h (Turn tries at two announced) found = record { standing = some_reply; mode = tt; long = h.long; either = h.either }
   stands_after p l h (Load s loaded at more) found =
       record { standing = (let e = length-push loaded found in omega (arith, e, more)); mode = tt; long = h.long; either = h.either }
-  stands_after p l h (Reply s loaded at last) found = record { standing = tt; mode = tt; long = h.long; either = h.either }
+  stands_after p l h (Reply s loaded at last) found = record { standing = omega arith; mode = inl refl; long = h.long; either = h.either }
 
   abbrev pub AllStand : Moment → Type 0
   AllStand m = (p : ℕ) → p < sizes.processes → Stands (m.local p)
@@ -258,9 +262,19 @@ module _ (object : Sequential (List ℕ) (List ℕ) (List ℕ)) (sizes : Sizes) 
   stand_at_end h Ends = h
   stand_at_end h (Steps {m = m} p inside next rest) = stand_at_end (stand_after m h p inside next) rest
 
-  -- a process with a call pending can take a step
-  next_of : (1 ≤ sizes.processes) → (p : ℕ) (l : Local) (stage : Stage) → l.stage ≡ stage → IsStanding sizes stage → IsInMode stage l.direct (length l.own) → IsPending stage → Next object sizes p l
-  next_of some p l (Idle stored) at standing mode pending = absurd pending
+  store_or_announce : (p : ℕ) (l : Local) (stored : List ℕ) → l.stage ≡ Idle stored → length stored ≤ sizes.invocation → length l.own < most_calls → Next object sizes p l
+  store_or_announce p l stored at standing room = ⊎_elim
+      (λ more. Store stored 0 at more.0 room)
+      (λ all. Announce stored at (let a = all.0 in omega (arith, a, standing)) room)
+      (lt_cases (length stored) sizes.invocation)
+
+  -- a process in the midst of a call can take a step
+  next_of : (1 ≤ sizes.processes) → (p : ℕ) (l : Local) (stage : Stage) → l.stage ≡ stage → IsStanding sizes stage → IsInMode stage l.direct (length l.own) → IsPending stage l.direct → Next object sizes p l
+  next_of some p l (Idle []) at standing mode pending = ⊎_elim
+      (λ none. absurd (let e : true ≡ false = sym pending ∙ none in cc))
+      (λ room. store_or_announce p l [] at standing room)
+      mode
+  next_of some p l (Idle (y ∷ stored)) at standing mode pending = store_or_announce p l (y ∷ stored) at standing mode
   next_of some p l (Ready tries) at standing mode pending = ⊎_elim (λ few. Start tries at few.0) (λ two. Turn tries at two.0 mode) (lt_cases tries 2)
   next_of some p l (Reading tries s copy seen) at standing mode pending = ⊎_elim
       (λ copying. ⊎_elim
@@ -440,10 +454,10 @@ module _ (object : Sequential (List ℕ) (List ℕ) (List ℕ)) (sizes : Sizes) 
   within_after : (p : ℕ) (l : Local) → Stands object sizes some_reply l → (next : Next object sizes p l) (found taken : ℕ) (plan : Option (List (Option (List ℕ))))
       → KeepsPlan object sizes next plan → IsWithin l l.stage taken plan
       → IsWithin ((access_of object sizes p l next).leaves found) ((access_of object sizes p l next).leaves found).stage (counted object sizes next taken) (planned object sizes next)
-  within_after p l h (Store [] x at room) found taken plan keeps w =
-      let w' = subst (λ k. IsWithin l k taken plan) at w in stored_within l.direct 0 (omega (arith, room)) taken w'
-  within_after p l h (Store (y ∷ stored) x at room) found taken plan keeps w =
-      let w' = subst (λ k. IsWithin l k taken plan) at w in let e = length-push stored x in omega (arith, w', e, room)
+  within_after p l h (Store [] x at inside room) found taken plan keeps w =
+      let w' = subst (λ k. IsWithin l k taken plan) at w in stored_within l.direct 0 (omega (arith, inside)) taken w'
+  within_after p l h (Store (y ∷ stored) x at inside room) found taken plan keeps w =
+      let w' = subst (λ k. IsWithin l k taken plan) at w in let e = length-push stored x in omega (arith, w', e, inside)
   within_after p l h (Announce [] at whole few) found taken plan keeps w =
       let w' = subst (λ k. IsWithin l k taken plan) at w in announced_within l.direct taken w'
   within_after p l h (Announce (y ∷ inv) at whole few) found taken plan keeps w =
@@ -535,7 +549,7 @@ module _ (object : Sequential (List ℕ) (List ℕ) (List ℕ)) (sizes : Sizes) 
 
 module _ (object : Sequential (List ℕ) (List ℕ) (List ℕ)) (sizes : Sizes) (few : 1 ≤ sizes.processes) (some_reply : 1 ≤ sizes.reply) (wide : length object.initial ≡ sizes.state) where
   opening_stands : AllStand object sizes some_reply (opened_moment object sizes)
-  opening_stands = λ p inside. record { standing = tt; mode = tt; long = Opening.held_length object sizes few wide; either = omega arith }
+  opening_stands = λ p inside. record { standing = omega arith; mode = inl refl; long = Opening.held_length object sizes few wide; either = omega arith }
 
   pub never_blocks : (e : Execution object sizes (opened_moment object sizes)) → NeverBlocks object sizes e
   never_blocks e = λ p inside pending.

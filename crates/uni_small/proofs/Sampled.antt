@@ -39,7 +39,7 @@ no_five e = omega (arith, e)
 
 one_call : Execution sample_counter sizes (opened_moment sample_counter sizes)
 one_call =
-    Step 0 one (Store [] 5 refl one) (
+    Step 0 one (Store [] 5 refl one room) (
     Step 0 one (Announce (5 ∷ []) refl refl (omega arith)) (
     Step 0 one (Start 0 refl (omega arith)) (
     Step 0 one (Look 0 0 (0 ∷ 0 ∷ 0 ∷ []) [] refl refl (whole_none sizes) one) (

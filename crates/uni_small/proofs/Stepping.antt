@@ -18,10 +18,10 @@ module _ {O : Type 0} (meaning : O → Meaning) (o : O) (sizes : Sizes) (st : St
   abbrev l : Local
   l = me.0.known.local
 
-  pub store_steps : (k x : ℕ) → IsStoring k me → k < sizes.invocation
+  pub store_steps : (k x : ℕ) → IsStoring k me → k < sizes.invocation → length l.own < most_calls
       → Steps meaning o sizes me (argument_word sizes p k) (λ y. x) nothing (λ found me'. HasStored st me x me')
-  store_steps k x storing below = λ g local words f me' said. (
-    Store storing.0 x storing.1 (let e = storing.2 in omega (arith, e, below)),
+  store_steps k x storing below room = λ g local words f me' said. (
+    Store storing.0 x storing.1 (let e = storing.2 in omega (arith, e, below)) room,
     ap (argument_word sizes p) storing.2,
     refl,
     left_at me me' _ (said storing.0 storing.1),

@@ -44,8 +44,8 @@ module _ {O : Type 0} (meaning : O → Meaning) (o : O) (sizes : Sizes) (id : �
   l = me.0.known.local
 
   -- a word of the invocation of the next call is stored
-  pub stores : (k x : ℕ) → IsStoring k me → k < sizes.invocation → Moves meaning o sizes id me (argument_word sizes p k) (λ y. x) nothing (λ found me'. HasStored st me x me')
-  stores k x storing room = step_law meaning o sizes id me (argument_word sizes p k) (λ y. x) nothing (λ found me'. HasStored st me x me') single (store_steps meaning o sizes st me k x storing room) (λ g local words f.
+  pub stores : (k x : ℕ) → IsStoring k me → k < sizes.invocation → length l.own < most_calls → Moves meaning o sizes id me (argument_word sizes p k) (λ y. x) nothing (λ found me'. HasStored st me x me')
+  stores k x storing room calls = step_law meaning o sizes id me (argument_word sizes p k) (λ y. x) nothing (λ found me'. HasStored st me x me') single (store_steps meaning o sizes st me k x storing room calls) (λ g local words f.
       let stored = storing.0 in
       let stage : l.stage ≡ Idle stored = storing.1 in
       let long : length stored ≡ k = storing.2 in

@@ -38,7 +38,8 @@ module _ (object : Sequential (List ℕ) (List ℕ) (List ℕ)) (sizes : Sizes) 
   pub data Next (p : ℕ) (l : Local) : Type 0 where
     -- between calls: a word of the next invocation is stored; the call is announced, whose invocation is stored; it is asked which version has
     -- come
-    Store : (stored : List ℕ) (x : ℕ) → l.stage ≡ Idle stored → length stored < sizes.invocation → Next p l
+    Store : (stored : List ℕ) (x : ℕ) → l.stage ≡ Idle stored → length stored < sizes.invocation → length l.own < most_calls
+        → Next p l
     Announce : (inv : List ℕ) → l.stage ≡ Idle inv → length inv ≡ sizes.invocation → length l.own < most_calls → Next p l
     Follow : l.stage ≡ Idle [] → Next p l
     -- S is loaded, with which the direct attempt at a call begins, which isn't announced
@@ -74,7 +75,7 @@ module _ (object : Sequential (List ℕ) (List ℕ) (List ℕ)) (sizes : Sizes) 
   -- that the attempt saw take effect, in the order of their processes; that of a direct attempt invokes its own call first, which takes effect
   -- with them. The load of the last word of a reply responds. No other step makes an act.
   abbrev pub access_of : (p : ℕ) (l : Local) → Next p l → Access
-  access_of p l (Store stored x at room) = store_of (argument_word sizes p (length stored)) x (goes l (Idle (stored ++ x ∷ [])))
+  access_of p l (Store stored x at inside room) = store_of (argument_word sizes p (length stored)) x (goes l (Idle (stored ++ x ∷ [])))
   access_of p l (Announce inv at whole few) = record {
     word = announce_word p;
     becomes = λ found. length l.own + 1;

@@ -9,10 +9,11 @@ use Rattle.uni_small.specs.Execution.Next.{Store, Announce, Follow, Begin, Write
 use Rattle.uni_small.specs.Execution.Execution.{Ends, Step}
 use Rattle.uni_small.specs.declared.sizes.Sizes.{Sizes}
 
--- a call is attempted, directly or not, and has not returned
-abbrev pub IsPending : Stage → Type 0
-IsPending (Idle stored) = ⊥
-IsPending stage = Unit {0}
+-- a process is in the midst of a call: it is in an attempt, directly or not, or a direct one has failed, or it has stored words of the
+-- invocation; and the call has not returned
+abbrev pub IsPending : Stage → (direct : Bool) → Type 0
+IsPending (Idle []) direct = direct ≡ true
+IsPending stage direct = Unit {0}
 
 -- a direct attempt that has begun to write applies this, and one that hasn't may choose it
 abbrev pub IsPlanned : (plan : Option (List (Option (List ℕ)))) → (all : List (Option (List ℕ))) → Type 0
@@ -29,7 +30,7 @@ module _ (object : Sequential (List ℕ) (List ℕ) (List ℕ)) (sizes : Sizes) 
   -- or, where none was made, stores the first word of its invocation, or announces the call where it has no words. To ask which version has
   -- come is no step of a call.
   abbrev pub counted : {p : ℕ} {l : Local} → Next object sizes p l → (taken : ℕ) → ℕ
-  counted {l = l} (Store [] x at room) taken = if l.direct then taken + 1 else 1
+  counted {l = l} (Store [] x at inside room) taken = if l.direct then taken + 1 else 1
   counted {l = l} (Announce [] at whole few) taken = if l.direct then taken + 1 else 1
   counted (Follow at) taken = taken
   counted (Begin at untried few) taken = 1
@@ -61,7 +62,7 @@ module _ (object : Sequential (List ℕ) (List ℕ) (List ℕ)) (sizes : Sizes) 
   abbrev pub KeepsBound : Execution object sizes (opened_moment object sizes) → Type 0
   KeepsBound e = (p : ℕ) → p < sizes.processes → KeepsPlans p None e → steps_of_call p 0 e ≤ call_steps sizes
 
-  -- wherever an execution from the opening has come to, a process with a call pending can take a step
+  -- wherever an execution from the opening has come to, a process in the midst of a call can take a step
   abbrev pub NeverBlocks : Execution object sizes (opened_moment object sizes) → Type 0
-  NeverBlocks e = (p : ℕ) → p < sizes.processes → IsPending ((last_moment object sizes e).local p).stage
+  NeverBlocks e = (p : ℕ) → p < sizes.processes → IsPending ((last_moment object sizes e).local p).stage ((last_moment object sizes e).local p).direct
       → Next object sizes p ((last_moment object sizes e).local p)

@@ -32,6 +32,7 @@ impl<O: SmallObject> SmallShared<O> {
             × (length invocation.now ≡ self.now.setup.sizes.invocation) }
         requires of { IsOf self.now.setup.object self.now.setup.sizes p seat.old.me }
         requires stage { stage_of seat.old.me ≡ Idle [] }
+        requires calls { length (local_of seat.old.me).own + 1 ≤ most_calls }
         ensures same { (seat.new.table_id ≡ seat.old.table_id) × (seat.new.id ≡ seat.old.id) }
         ensures goes { GoesBy seat.old.me (length invocation.now) (Idle invocation.now) seat.new.me }
     {

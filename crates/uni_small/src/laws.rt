@@ -76,7 +76,7 @@ pub fn reply_responds<O: SmallObject>()
 /// The other stores append nothing.
 pub fn stores_append_nothing<O: SmallObject>()
     ensures argument { (o : O) (sizes : Sizes) (id k x : ℕ) (st : Step Seen) (me : Me Seen (View O)) →
-        me.0.known.count ≡ 1 → IsStoring k me → k < sizes.invocation
+        me.0.known.count ≡ 1 → IsStoring k me → k < sizes.invocation → length (local_of me).own < most_calls
         → Moves O.meaning o sizes id me (argument_word sizes me.0.known.first k) (λ y. x)
         nothing (λ found me'. HasStored st me x me') }
     ensures buffer { (o : O) (sizes : Sizes) (id k x : ℕ) (st : Step Seen) (me : Me Seen (View O)) →
@@ -152,7 +152,7 @@ pub fn every_execution_is_linearizable<O: SmallObject>()
         → KeepsOrder (O.meaning o).object sizes e more }
 {}
 
-/// The construction is wait-free in every execution: a process in an attempt, or with a call pending, can always
+/// The construction is wait-free in every execution: a process in the midst of a call can always
 /// take a step, and no call takes more than `6 * W + (9 + 3 * I + 6 * R) * n + I + R + 11` steps of its own process,
 /// where no direct attempt of that process changes its invocation while it writes.
 pub fn every_call_is_wait_free<O: SmallObject>()

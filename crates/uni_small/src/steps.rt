@@ -28,6 +28,7 @@ impl<O: SmallObject> SmallShared<O> {
         requires inside { (p < self.now.setup.sizes.processes) × (k < self.now.setup.sizes.invocation) }
         requires of { IsOf self.now.setup.object self.now.setup.sizes p seat.old.me }
         requires stage { IsStoring k seat.old.me }
+        requires room { length (local_of seat.old.me).own + 1 ≤ most_calls }
         ensures same { (seat.new.table_id ≡ seat.old.table_id) × (seat.new.id ≡ seat.old.id) }
         ensures left { (stored : List ℕ) → stage_of seat.old.me ≡ Idle stored
             → Goes seat.old.me (Idle (stored ++ x ∷ [])) seat.new.me }

@@ -1,5 +1,5 @@
-use Rattle.uni_small.proofs.Vocabulary.{GoesBy, Idle, [], ap, arith, length, length-take-le, refl, slice_index, subst, sym, take, take-length, take_more, ◌++◌, ◌+◌, ◌∙◌, ◌∷◌, ◌≡◌}
-use Rattle.uni_small.proofs.Going.{goes_zero, stage_after, of_after, goes_on}
+use Rattle.uni_small.proofs.Vocabulary.{GoesBy, Idle, List, Returned, [], ap, arith, length, length-take-le, refl, slice_index, subst, sym, take, take-length, take_more, ◌++◌, ◌+◌, ◌∙◌, ◌∷◌, ◌≡◌}
+use Rattle.uni_small.proofs.Going.{goes_zero, own_after, stage_after, of_after, goes_on}
 use Rattle.uni_small.proofs.log.SmallShared.store_argument.Goals as goal
 
 pub loop-k-init : goal.loop-k-init
@@ -17,6 +17,11 @@ store_word-requires-clause-stage g c = (
   stage_after c.args.seat.now.me c.loop-k.seat.me c.loop-k.k (Idle (take c.loop-k.k c.args.invocation.now)) c.loop-k.invariant.2,
   length-take-le c.loop-k.k c.args.invocation.now (omega arith),
 )
+
+pub store_word-requires-clause-room : goal.store_word-requires-clause-room
+store_word-requires-clause-room g c =
+    let same = ap (λ (xs : List Returned). length xs) (own_after c.args.seat.now.me c.loop-k.seat.me c.loop-k.k (Idle (take c.loop-k.k c.args.invocation.now)) c.loop-k.invariant.2) in
+    let few = c.requires.calls in omega arith
 
 pub loop-k-preserved : goal.loop-k-preserved
 loop-k-preserved g c =

@@ -19,5 +19,5 @@ store-requires g c =
       (let q0 = c.argument_word.ensures in let q1 = argument_in_table sizes c.args.p c.args.k c.requires.inside.0 c.requires.inside.1 in let q2 = shared.sized in omega arith),
       by_key meaning shared.table.shared.key shared.setup shared.same slots id me i (argument_word sizes me.0.known.first c.args.k) (c.argument_word.ensures ∙ ap (λ q. argument_word sizes q c.args.k) (sym c.requires.of.first)) (λ x. c.args.x) (λ x me'. HasStored st me c.args.x me')
           nothing
-          (stores meaning o sizes id st me c.requires.of.alone c.args.k c.args.x c.requires.stage c.requires.inside.1),
+          (stores meaning o sizes id st me c.requires.of.alone c.args.k c.args.x c.requires.stage c.requires.inside.1 (let r = c.requires.room in omega arith)),
     )
