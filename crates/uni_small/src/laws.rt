@@ -141,7 +141,8 @@ pub fn returned_has_come<O: SmallObject>()
 
 /// Every execution from the opening, in which the processes take their word steps in any order, is linearizable
 /// in real time: each call takes effect at one of the steps between the one that invokes it, which is its
-/// announcement or the exchange of its direct attempt, and its last one. And strongly: where an execution goes on, only further calls come behind those that took effect.
+/// announcement or the exchange of its direct attempt, and its last one. And strongly: where an execution goes on,
+/// only further calls come behind those that took effect.
 pub fn every_execution_is_linearizable<O: SmallObject>()
     ensures linearized { (o : O) (sizes : Sizes) → AreSizesOf (O.meaning o) sizes
         → (e : Execution (O.meaning o).object sizes (opened_moment (O.meaning o).object sizes))
@@ -152,9 +153,9 @@ pub fn every_execution_is_linearizable<O: SmallObject>()
         → KeepsOrder (O.meaning o).object sizes e more }
 {}
 
-/// The construction is wait-free in every execution: a process in the midst of a call can always
-/// take a step, and no call takes more than `6 * W + (9 + 3 * I + 6 * R) * n + I + R + 11` steps of its own process,
-/// where no direct attempt of that process changes its invocation while it writes.
+/// The construction is wait-free in every execution: a process in the midst of a call can always take a step, and
+/// no call takes more than `6 * W + (9 + 3 * I + 6 * R) * n + I + R + 11` steps of its own process, where no direct
+/// attempt of that process changes its invocation while it writes.
 pub fn every_call_is_wait_free<O: SmallObject>()
     ensures blocks { (o : O) (sizes : Sizes) → AreSizesOf (O.meaning o) sizes
         → (e : Execution (O.meaning o).object sizes (opened_moment (O.meaning o).object sizes))
