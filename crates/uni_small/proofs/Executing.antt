@@ -1,12 +1,15 @@
 -- Each step of an execution is one of the table's steps, and so keeps a board whose history is that of the execution.
 use Rattle.uni_small.proofs.Vocabulary.{Act, AreWidths, AreWords, Board, IsShown, IsSound, Image, IsSteady, Last, Linearize, List, Local, Me, Meaning, Moves, Option, Reading, Ready, Sequential, Sizes, Some, Stage, State, Tells, View, Writing, [], ap, append-nil, append_assoc, brought, brought_own, Seen, Idle, Invoke, IsLeft, slice_set, takes_effect_own, buffer_in, calls_seen, current_word, eqb, false, get_elem?, if◌then◌else◌, length, map, nothing, refl, set_at, set_at-cases, slice_index, slice_set, some, some-injective, some-ne-none, step, subst, suc, sym, takes_effect, true, version_in, with_local, zero, ℕ, either, ◌*◌, ◌++◌, ◌+◌, ◌<◌, ◌==◌, ◌∙◌, ◌∷◌, ◌≡◌, ◌≤◌}
 use Rattle.uni_small.proofs.Vocabulary.{HasAnnounced, HasAsked, HasBegun, HasBrought, HasChecked, HasCheckedOwn, HasCopied, HasFollowed, HasLoaded, HasLooked, HasReplied, HasStarted, HasStored, HasTurned, HasWritten, arith, buffer_word, begins, ends, number_cases, IsAttemptAt, none, read_image, spell, with_seen, ⊎_elim}
+use Rattle.uni_small.proofs.Vocabulary.{Bool, HasRecounted, HasReread, HasRestarted, false, has_begun}
 use Rattle.uni_small.specs.Execution.{Access, Execution, Moment, Next, access_of, acts_at, after_access, last_moment, history}
 use Rattle.uni_small.specs.Execution.Next.{Store, Announce, Follow, Begin, Start, Copy, Look, Ask, Check, CheckOwn, Write, Bring, BringOwn, Turn, Load, Reply}
+use Rattle.uni_small.specs.Execution.Next.{Recount, Reread, Restart}
 use Rattle.uni_small.specs.Execution.Execution.{Ends, Step as Steps}
 use Rattle.uni_small.proofs.Stores.{announced, stores, writes}
 use Rattle.uni_small.proofs.Exchange.{brings_in, brings_in_left}
 use Rattle.uni_small.proofs.Reply.{loads, replies}
+use Rattle.uni_small.proofs.Rejoining.{recounts, rereads, restarts}
 use Rattle.uni_small.proofs.Loads.{begins_own, checks_own, starts, copies, looks, asks, checks, turns, follows_on}
 
 -- the values of a function below a number
@@ -51,6 +54,10 @@ brought_own_one sizes l s new inv found = ⊎_elim
     (λ same. rw same.1 tt)
     (λ other. rw other.1 tt)
     (number_cases found s)
+
+restarted_one : (sizes : Sizes) (b : Bool) → IsCopyingOne sizes (if b then Ready 0 else Idle [])
+restarted_one sizes true = tt
+restarted_one sizes false = tt
 
 either_if : (b : _) (x y : ℕ) → either b x y ≡ if b then x else y
 either_if true x y = refl
@@ -251,6 +258,21 @@ module _ {O : Type 0} (meaning : O → Meaning) (o : O) (sizes : Sizes) where
         moved widths m acts h p inside (access_of object sizes p (m.local p) (Reply s loaded at last)) (λ y. y) (ends (m.local p) p loaded) (λ found me'. HasReplied st me found me')
         (replies meaning o sizes p st me refl s loaded at last (replies_one m acts h p inside s loaded at)) refl
         (λ me' said. ((said s loaded at).0, tt)) (λ g words sound. refl)
+    step_holds m acts h p inside Recount =
+        let st = step 0 0 0 0 none in let me = me_at m.local p in
+        moved widths m acts h p inside (access_of object sizes p (m.local p) Recount) (λ y. y) nothing (λ found me'. HasRecounted st me found me')
+        (recounts meaning o sizes p few st me refl) refl
+        (λ me' said. (said.0, h.copying p inside)) (λ g words sound. refl)
+    step_holds m acts h p inside (Reread which k either below) =
+        let st = step 0 (buffer_word sizes (2 * p + which) k) 0 0 none in let me = me_at m.local p in
+        moved widths m acts h p inside (access_of object sizes p (m.local p) (Reread which k either below)) (λ y. y) nothing (λ found me'. HasReread st me found me')
+        (rereads meaning o sizes p few st me refl which k either below refl) refl
+        (λ me' said. (said.0, h.copying p inside)) (λ g words sound. refl)
+    step_holds m acts h p inside Restart =
+        let st = step 0 0 0 0 none in let me = me_at m.local p in
+        moved widths m acts h p inside (access_of object sizes p (m.local p) Restart) (λ y. y) nothing (λ found me'. HasRestarted st me found me')
+        (restarts meaning o sizes p few st me refl) refl
+        (λ me' said. (said (has_begun (m.local p).stage (m.local p).direct) refl, restarted_one sizes (has_begun (m.local p).stage (m.local p).direct))) (λ g words sound. refl)
 
     -- and so does an execution
     pub history_holds : {m : Moment} (acts : List (Act (List ℕ) (List ℕ))) → Holds m acts → (e : Execution object sizes m) → Holds (last_moment object sizes e) (acts ++ history object sizes e)

@@ -6,6 +6,7 @@ pub mod Rooms
 pub mod Acts
 pub mod Images
 pub mod Loads
+pub mod Rejoining
 pub mod Words
 pub mod Others
 pub mod Beginning

@@ -1,8 +1,10 @@
 -- In every execution a process with a call pending can take a step, and each step of a call makes a number smaller.
 use Rattle.uni_small.proofs.Vocabulary.{AreApplied, AreWhole, buffer_in, ◌/◌, ◌%◌, Bool, Idle, Image, Last, List, Local, None, Option, Reading, Ready, Sequential, Sizes, Some, Stage, Writing, [], ap, arith, announced_steps, attempt_steps, buffer_words, call_steps, checked, checked_own, drop, false, most_calls, nat_le, replicate, length-replicate, slice_set, take, goes, held_place, knows, if◌then◌else◌, inl, inr, length, length-append, length-set, looked, number_cases, read_image, refl, get_or-set_other, get_or-set_same, set_at-cases, slice_get, slice_get-append_left, slice_get_within, slice_index, spell, subst, suc, suc-mul, sym, true, version_in, with_seen, wrote, zero, ℕ, ⊎_elim, ◌*◌, ◌++◌, ◌+◌, ◌-◌, ◌<◌, ◌==◌, ◌∙◌, ◌∷◌, ◌≡◌, ◌≢◌, ◌≤◌, ◌⊎◌, lt_cases}
 use Rattle.std.proofs.Math.Nat.{mul_comm}
+use Rattle.uni_small.proofs.Vocabulary.{has_begun}
 use Rattle.uni_small.specs.Execution.{Execution, Moment, Next, access_of, after_access, last_moment, opened_moment}
 use Rattle.uni_small.specs.Execution.Next.{Store, Announce, Follow, Begin, Start, Copy, Look, Ask, Check, CheckOwn, Write, Bring, BringOwn, Turn, Load, Reply}
+use Rattle.uni_small.specs.Execution.Next.{Recount, Reread, Restart}
 use Rattle.uni_small.specs.Execution.Execution.{Ends, Step as Steps}
 use Rattle.uni_small.specs.Progress.{IsPending, IsPlanned, KeepsBound, KeepsPlan, KeepsPlans, NeverBlocks, Where, counted, planned, steps_of_call}
 use Rattle.uni_small.proofs.Ending.{steps_are}
@@ -193,12 +195,32 @@ module _ (object : Sequential (List ℕ) (List ℕ) (List ℕ)) (sizes : Sizes) 
   checked_own_mode true s image seen direct calls h = h
   checked_own_mode false s image seen direct calls h = ⊎_elim (λ announced. inl announced) (λ own. inr own.2) h
 
+  restarted_stands : (b : Bool) → IsStanding sizes (if b then Ready 0 else Idle [])
+  restarted_stands true = tt
+  restarted_stands false = omega arith
+
+  restarted_mode : (b : Bool) (calls : ℕ) → IsInMode (if b then Ready 0 else Idle []) false calls
+  restarted_mode true calls = refl
+  restarted_mode false calls = inl refl
+
+  one_or_none : (b : Bool) → (if b then 0 else 1) ≤ 1
+  one_or_none true = omega arith
+  one_or_none false = omega arith
+
   stands_after : (p : ℕ) (l : Local) → Stands l → (next : Next object sizes p l) (found : ℕ) → Stands ((access_of object sizes p l next).leaves found)
   stands_after p l h (Store [] x at inside room) found = record { standing = omega (arith, inside); mode = room; long = h.long; either = h.either }
   stands_after p l h (Store (y ∷ stored) x at inside room) found =
       record { standing = (let e = length-push stored x in omega (arith, e, inside)); mode = room; long = h.long; either = h.either }
   stands_after p l h (Announce inv at whole few) found = record { standing = tt; mode = refl; long = h.long; either = h.either }
   stands_after p l h (Follow at) found = record { standing = h.standing; mode = h.mode; long = h.long; either = h.either }
+  stands_after p l h Recount found = record { standing = h.standing; mode = h.mode; long = h.long; either = h.either }
+  stands_after p l h (Reread which k either below) found = record { standing = h.standing; mode = h.mode; long = h.long; either = h.either }
+  stands_after p l h Restart found = record {
+    standing = restarted_stands (has_begun l.stage l.direct);
+    mode = restarted_mode (has_begun l.stage l.direct) (length l.own);
+    long = h.long;
+    either = one_or_none (buffer_in found == 2 * p + 1);
+  }
   stands_after p l h (Begin at untried few) found =
       record { standing = inl (refl, begun_most sizes (buffer_in found / 2 == p) (drop (buffer_in found % 2 * buffer_words sizes) l.held)); mode = inr (refl, refl, few); long = h.long; either = h.either }
   stands_after p l h (Start tries at few) found =
@@ -463,6 +485,9 @@ module _ (object : Sequential (List ℕ) (List ℕ) (List ℕ)) (sizes : Sizes) 
   within_after p l h (Announce (y ∷ inv) at whole few) found taken plan keeps w =
       let w' = subst (λ k. IsWithin l k taken plan) at w in let t : (2 - 0) * most sizes ≡ most sizes + most sizes = omega arith in omega (arith, w', t, whole)
   within_after p l h (Follow at) found taken plan keeps w = subst (λ k. taken + left l plan k ≤ call_steps sizes → taken + left (knows l (version_in found)) None k ≤ call_steps sizes) (sym at) (λ x. x) w
+  within_after p l h Recount found taken plan keeps w = absurd keeps
+  within_after p l h (Reread which k either below) found taken plan keeps w = absurd keeps
+  within_after p l h Restart found taken plan keeps w = absurd keeps
   within_after p l h (Begin at untried few) found taken plan keeps w =
       let m = most_is sizes in let a = to_look-all sizes in
       let b = begun_most sizes (buffer_in found / 2 == p) (drop (buffer_in found % 2 * buffer_words sizes) l.held) in omega (arith, m, a, b)

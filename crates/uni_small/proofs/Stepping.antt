@@ -1,6 +1,8 @@
 -- Each word step of a seat is a step of an execution.
 use Rattle.uni_small.proofs.Vocabulary.{HasAnnounced, HasAsked, HasBegun, HasBrought, HasChecked, HasCheckedOwn, HasCopied, HasFollowed, HasLoaded, HasLooked, HasReplied, HasStarted, HasStored, HasTurned, HasWritten, HasWrittenAll, HasWrittenOwn, Idle, Image, Invoke, IsAnnounced, IsDirect, IsAsking, IsAttemptAt, IsCopying, IsLoading, IsLeft, IsLooking, IsStoring, IsWriting, Last, Linearize, List, Local, Me, Meaning, Reading, Ready, Sizes, Some, Step, View, [], ap, arith, announce_word, argument_word, begins, brought, brought_own, buffer_in, buffer_word, buffer_words, calls_seen, checked, checked_own, current_word, either, ends, eqb, false, goes, held_place, if◌then◌else◌, length, map, most_calls, nothing, begins_directly, begun, Seen, takes_effect_own, slice_set, ◌∷◌, number_cases, refl, reply_place, slice_index, stage_of, subst, sym, takes_effect, true, version_in, wrote, ℕ, ⊎_elim, ◌*◌, ◌+◌, ◌<◌, ◌==◌, ◌∙◌, ◌≡◌, ◌≢◌, ◌≤◌}
+use Rattle.uni_small.proofs.Vocabulary.{HasRecounted, HasReread, HasRestarted, has_begun}
 use Rattle.uni_small.specs.Execution.Next.{Store, Announce, Follow, Begin, Start, Copy, Look, Ask, Check, CheckOwn, Write, Bring, BringOwn, Turn, Load, Reply}
+use Rattle.uni_small.specs.Execution.Next.{Recount, Reread, Restart}
 use Rattle.uni_small.proofs.Frame.{Steps}
 
 either_is : (b : _) (x y : ℕ) → (if b then x else y) ≡ either b x y
@@ -182,3 +184,13 @@ module _ {O : Type 0} (meaning : O → Meaning) (o : O) (sizes : Sizes) (st : St
 
   pub follow_steps : stage_of me ≡ Idle [] → Steps meaning o sizes me 0 (λ x. x) nothing (λ found me'. HasFollowed st me found me')
   follow_steps stage = λ g local words f me' said. (Follow stage, refl, refl, left_at me me' _ (said stage).0, refl)
+
+  pub recount_steps : Steps meaning o sizes me (announce_word p) (λ x. x) nothing (λ found me'. HasRecounted st me found me')
+  recount_steps = λ g local words f me' said. (Recount, refl, refl, left_at me me' _ said.0, refl)
+
+  pub reread_steps : (which k : ℕ) → which ≤ 1 → k < buffer_words sizes
+      → Steps meaning o sizes me (buffer_word sizes (2 * p + which) k) (λ x. x) nothing (λ found me'. HasReread st me found me')
+  reread_steps which k either below = λ g local words f me' said. (Reread which k either below, refl, refl, left_at me me' _ said.0, refl)
+
+  pub restart_steps : Steps meaning o sizes me 0 (λ x. x) nothing (λ found me'. HasRestarted st me found me')
+  restart_steps = λ g local words f me' said. (Restart, refl, refl, left_at me me' _ (said (has_begun l.stage l.direct) refl), refl)

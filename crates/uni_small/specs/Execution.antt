@@ -10,6 +10,7 @@ use Rattle.uni_small.specs.View.Stage.{Idle, Ready, Reading, Writing, Last}
 use Rattle.uni_small.specs.Board.{announce_word, argument_word, buffer_in, buffer_word, current_word, version_in, words_before}
 use Rattle.uni_small.specs.Invariant.{most_calls}
 use Rattle.uni_small.specs.Plays.{begun, brought, brought_own, checked, checked_own, looked}
+use Rattle.uni_small.specs.Plays.{has_begun, restarted, rests}
 use Rattle.uni_small.specs.Standing.{AreApplied, IsWritten}
 use Rattle.uni_small.specs.declared.sizes.Sizes.{Sizes}
 
@@ -70,6 +71,11 @@ module _ (object : Sequential (List ℕ) (List ℕ) (List ℕ)) (sizes : Sizes) 
     -- the words of the reply are loaded, and with the last one the call returns
     Load : (s : ℕ) (loaded : List ℕ) → l.stage ≡ Last s loaded → length loaded + 1 < sizes.reply → Next p l
     Reply : (s : ℕ) (loaded : List ℕ) → l.stage ≡ Last s loaded → length loaded + 1 ≡ sizes.reply → Next p l
+    -- wherever it stands, its seat may be taken over: its announcement is loaded; a word of its buffers is; and S is, by which its call begins
+    -- again, or, where none has begun, its next call is awaited
+    Recount : Next p l
+    Reread : (which k : ℕ) → which ≤ 1 → k < buffer_words sizes → Next p l
+    Restart : Next p l
 
   -- What such a step of process p does. An announcement invokes a call. An exchange of S that finds what its attempt began with makes the calls
   -- that the attempt saw take effect, in the order of their processes; that of a direct attempt invokes its own call first, which takes effect
@@ -124,6 +130,9 @@ module _ (object : Sequential (List ℕ) (List ℕ) (List ℕ)) (sizes : Sizes) 
     leaves = λ found. returns l s (loaded ++ found ∷ []);
     acts = λ found. Respond p (length l.own) (loaded ++ found ∷ []) ∷ [];
   }
+  access_of p l Recount = load_of (announce_word p) (λ found. rests l)
+  access_of p l (Reread which k either below) = load_of (buffer_word sizes (2 * p + which) k) (λ found. rests l)
+  access_of p l Restart = load_of 0 (λ s. restarted l p s (has_begun l.stage l.direct))
 
   -- the moment after process p has taken an access: one word and its own place have changed
   abbrev pub after_access : Moment → (p : ℕ) → Access → Moment

@@ -1,5 +1,5 @@
 -- What a step tells the seat that takes it, and how a seat is split.
-use Rattle.std.specs.Prelude.{◌≡◌, ℕ, ◌+◌, ◌-◌, ◌*◌, ◌/◌, ◌%◌, ◌<◌, ◌≤◌, ◌==◌, List, [], ◌∷◌, ◌++◌, Option, None, Some, if◌then◌else◌, nat_le, refl}
+use Rattle.std.specs.Prelude.{Bool, false, true, ◌≡◌, ℕ, ◌+◌, ◌-◌, ◌*◌, ◌/◌, ◌%◌, ◌<◌, ◌≤◌, ◌==◌, List, [], ◌∷◌, ◌++◌, Option, None, Some, if◌then◌else◌, nat_le, refl}
 use Rattle.std.specs.Prelude.{drop, length, slice_index, take}
 use mathlib.Core.Option.{some}
 use Rattle.atomic_table.specs.Table.{Me, Step}
@@ -172,6 +172,54 @@ HasReplied step me found me' =
 abbrev pub HasFollowed : {O : Type 0} → Step Seen → Me Seen (View O) → (s : ℕ) → Me Seen (View O) → Type 0
 HasFollowed step me s me' =
     stage_of me ≡ Idle [] → let l = me.0.known.local in IsLeft me (knows l (version_in s)) me' × (l.after ≤ version_in s)
+
+-- a process that has taken a step more, and else is where it was
+abbrev pub rests : Local → Local
+rests l = record l { steps = l.steps + 1 }
+
+-- whether the call of a process has begun: it was announced, or has taken effect; a direct attempt that hasn't ended has begun none
+abbrev pub has_begun : Stage → (direct : Bool) → Bool
+has_begun (Idle stored) direct = false
+has_begun (Ready tries) direct = if direct then false else true
+has_begun (Reading tries s copy seen) direct = if direct then false else true
+has_begun (Writing tries s image seen) direct = if direct then false else true
+has_begun (Last s loaded) direct = true
+
+-- how many calls a process has begun, of which so many have returned
+abbrev pub begun_by : (begun : Bool) → (own : ℕ) → ℕ
+begun_by true own = own + 1
+begun_by false own = own
+
+-- Whatever a process is at, it may load its announcement, which is at most the number of calls that it has begun: a call by a direct
+-- attempt isn't announced.
+abbrev pub HasRecounted : {O : Type 0} → Step Seen → Me Seen (View O) → (found : ℕ) → Me Seen (View O) → Type 0
+HasRecounted step me found me' =
+    let l = me.0.known.local in
+    IsLeft me (rests l) me' × (found ≤ begun_by (has_begun l.stage l.direct) (length l.own)) × (length l.held ≡ 2 * buffer_words me.0.known.sizes)
+    × (begun_by (has_begun l.stage l.direct) (length l.own) ≤ most_calls)
+
+-- and what its buffers hold
+abbrev pub HasReread : {O : Type 0} → Step Seen → Me Seen (View O) → (found : ℕ) → Me Seen (View O) → Type 0
+HasReread step me found me' =
+    let v = me.0.known in
+    IsLeft me (rests v.local) me'
+    × ((which k : ℕ) → which ≤ 1 → k < buffer_words v.sizes → step.word ≡ buffer_word v.sizes (2 * v.first + which) k
+    → found ≡ slice_index v.local.held (held_place v.sizes which k))
+
+-- which buffer of process p may be its spare one, where S is s: one that isn't current
+abbrev pub spare_at : (p s : ℕ) → ℕ
+spare_at p s = if buffer_in s == 2 * p + 1 then 0 else 1
+
+-- Wherever a process stands, it may begin again: its call from the announcement, or, where none has begun, before its next call, at which no
+-- direct attempt was made.
+abbrev pub restarted : Local → (p s : ℕ) → (begun : Bool) → Local
+restarted l p s begun =
+    record l { stage = if begun then Ready 0 else Idle []; direct = false; spare = spare_at p s; steps = l.steps + 1 }
+
+abbrev pub HasRestarted : {O : Type 0} → Step Seen → Me Seen (View O) → (s : ℕ) → Me Seen (View O) → Type 0
+HasRestarted step me s me' =
+    let l = me.0.known.local in
+    (begun : Bool) → has_begun l.stage l.direct ≡ begun → IsLeft me (restarted l me.0.known.first s begun) me'
 
 -- One that fails twice: at the exchange of its first attempt S is another one, and then at the check of its second one. An attempt whose
 -- exchange finds what it began with is at its end, and so is one whose copy has the call.

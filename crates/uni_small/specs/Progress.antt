@@ -6,6 +6,7 @@ use Rattle.uni_small.specs.View.Stage.{Idle}
 use Rattle.uni_small.specs.Standing.{call_steps}
 use Rattle.uni_small.specs.Execution.{Execution, Moment, Next, last_moment, opened_moment}
 use Rattle.uni_small.specs.Execution.Next.{Store, Announce, Follow, Begin, Write}
+use Rattle.uni_small.specs.Execution.Next.{Recount, Reread, Restart}
 use Rattle.uni_small.specs.Execution.Execution.{Ends, Step}
 use Rattle.uni_small.specs.declared.sizes.Sizes.{Sizes}
 
@@ -41,12 +42,16 @@ module _ (object : Sequential (List ℕ) (List ℕ) (List ℕ)) (sizes : Sizes) 
   planned (Write tries s image seen all k at applied inside differs) = Some all
   planned next = None
 
-  -- a word that a direct attempt stores is one of what it applies
+  -- a word that a direct attempt stores is one of what it applies, and the seat isn't taken over
   abbrev pub KeepsPlan : {p : ℕ} {l : Local} → Next object sizes p l → (plan : Option (List (Option (List ℕ)))) → Type 0
   KeepsPlan {l = l} (Write tries s image seen all k at applied inside differs) plan = Where l.direct (IsPlanned plan all)
+  KeepsPlan Recount plan = ⊥
+  KeepsPlan (Reread which k either below) plan = ⊥
+  KeepsPlan Restart plan = ⊥
   KeepsPlan next plan = Unit {0}
 
-  -- each direct attempt of process p is one at one call: it doesn't change its mind on the invocation while it writes
+  -- each direct attempt of process p is one at one call: it doesn't change its mind on the invocation while it writes; and its seat isn't taken
+  -- over
   abbrev pub KeepsPlans : (p : ℕ) (plan : Option (List (Option (List ℕ)))) {m : Moment} → Execution object sizes m → Type 0
   KeepsPlans p plan Ends = Unit {0}
   KeepsPlans p plan (Step q inside next rest) =
@@ -58,7 +63,7 @@ module _ (object : Sequential (List ℕ) (List ℕ) (List ℕ)) (sizes : Sizes) 
   steps_of_call p taken (Step q inside next rest) = steps_of_call p (if p == q then counted next taken else taken) rest
 
   -- no call of an execution from the opening takes more steps than this, whatever the other processes do, where no direct attempt of
-  -- its process changes its call
+  -- its process changes its call and its seat isn't taken over
   abbrev pub KeepsBound : Execution object sizes (opened_moment object sizes) → Type 0
   KeepsBound e = (p : ℕ) → p < sizes.processes → KeepsPlans p None e → steps_of_call p 0 e ≤ call_steps sizes
 

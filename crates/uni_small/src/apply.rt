@@ -42,7 +42,13 @@ impl<O: SmallObject> SmallShared<O> {
     }
 
     /// Loads the reply: the call returns, and is in the version that s names.
-    fn load_reply(&self, seat: &mut Seat<Seen, View<O>>, p: u64, s: u64, reply: &mut [u64]) -> u64
+    pub(crate) fn load_reply(
+        &self,
+        seat: &mut Seat<Seen, View<O>>,
+        p: u64,
+        s: u64,
+        reply: &mut [u64],
+    ) -> u64
         requires table { seat.old.table_id ≡ self.now.table.shared.table_id }
         requires inside { (p < self.now.setup.sizes.processes) × (length reply.old ≡ self.now.setup.sizes.reply) }
         requires of { IsOf self.now.setup.object self.now.setup.sizes p seat.old.me }

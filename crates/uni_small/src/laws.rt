@@ -13,6 +13,7 @@ ghost use Rattle.uni_small.specs.Laws.{Moves, begins, ends, nothing, takes_effec
 ghost use Rattle.uni_small.specs.Plays.{HasAnnounced, HasAsked, HasBrought, HasChecked, HasCopied, HasLoaded};
 ghost use Rattle.uni_small.specs.Plays.{HasBegun, HasBroughtOwn, HasCheckedOwn, HasFollowed, HasLooked, HasReplied, HasStarted, HasStored};
 ghost use Rattle.uni_small.specs.Plays.{HasTurned, HasWritten, stage_of};
+ghost use Rattle.uni_small.specs.Plays.{HasRecounted, HasReread, HasRestarted};
 ghost use Rattle.uni_small.specs.Shown.{IsShown};
 ghost use Rattle.uni_small.specs.Standing.{IsAsking, IsCopying, IsLoading, IsLooking, IsStoring, IsWriting, IsWritten};
 ghost use Rattle.uni_small.specs.Standing.{IsAnnounced, IsDirect, local_of};
@@ -128,6 +129,18 @@ pub fn loads_append_nothing<O: SmallObject>()
         → Moves O.meaning o sizes id me
         (buffer_word sizes (buffer_in s) (reply_place sizes me.0.known.first k)) (λ x. x)
         nothing (λ found me'. HasLoaded st me found me') }
+    ensures recount { (o : O) (sizes : Sizes) (id : ℕ) (st : Step Seen) (me : Me Seen (View O)) →
+        sizes.processes ≤ 64 → me.0.known.count ≡ 1
+        → Moves O.meaning o sizes id me (announce_word me.0.known.first) (λ x. x)
+        nothing (λ found me'. HasRecounted st me found me') }
+    ensures reread { (o : O) (sizes : Sizes) (id which k : ℕ) (st : Step Seen) (me : Me Seen (View O)) →
+        sizes.processes ≤ 64 → me.0.known.count ≡ 1 → which ≤ 1 → k < buffer_words sizes
+        → st.word ≡ buffer_word sizes (2 * me.0.known.first + which) k
+        → Moves O.meaning o sizes id me (buffer_word sizes (2 * me.0.known.first + which) k) (λ x. x)
+        nothing (λ found me'. HasReread st me found me') }
+    ensures restart { (o : O) (sizes : Sizes) (id : ℕ) (st : Step Seen) (me : Me Seen (View O)) →
+        sizes.processes ≤ 64 → me.0.known.count ≡ 1
+        → Moves O.meaning o sizes id me 0 (λ x. x) nothing (λ found me'. HasRestarted st me found me') }
 {}
 
 /// The version of a call that has returned has come: who follows it is answered `true`.
@@ -155,7 +168,7 @@ pub fn every_execution_is_linearizable<O: SmallObject>()
 
 /// The construction is wait-free in every execution: a process in the midst of a call can always take a step, and
 /// no call takes more than `6 * W + (9 + 3 * I + 6 * R) * n + I + R + 11` steps of its own process, where no direct
-/// attempt of that process changes its invocation while it writes.
+/// attempt of that process changes its invocation while it writes, and its seat isn't taken over.
 pub fn every_call_is_wait_free<O: SmallObject>()
     ensures blocks { (o : O) (sizes : Sizes) → AreSizesOf (O.meaning o) sizes
         → (e : Execution (O.meaning o).object sizes (opened_moment (O.meaning o).object sizes))

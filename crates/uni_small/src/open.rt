@@ -34,7 +34,7 @@ fn seen_room(alloc: Global, sizes: &Sizes) -> Result<Vec<Seen>, AllocError>
 }
 
 /// Room for a process's copy of a buffer, and for what it sees.
-fn room(alloc: Global, sizes: &Sizes) -> Result<Room, AllocError>
+pub(crate) fn room(alloc: Global, sizes: &Sizes) -> Result<Room, AllocError>
     requires { AreFew sizes.now }
     ensures { IfOk result (λ room. HasRoom sizes.now room) }
 {

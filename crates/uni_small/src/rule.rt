@@ -145,6 +145,33 @@ impl<O> Play<Seen, View<O>> for Follows {
     ghost then = { HasFollowed };
 }
 
+/// The load of the process's own announcement, whatever it is at.
+pub struct Recounts;
+
+impl<O> Play<Seen, View<O>> for Recounts {
+    ghost use Rattle.uni_small.specs.Plays.{HasRecounted};
+
+    ghost then = { HasRecounted };
+}
+
+/// The load of a word of the process's own buffers, whatever it is at.
+pub struct Rereads;
+
+impl<O> Play<Seen, View<O>> for Rereads {
+    ghost use Rattle.uni_small.specs.Plays.{HasReread};
+
+    ghost then = { HasReread };
+}
+
+/// The load of S by which a process begins again, wherever it stood.
+pub struct Restarts;
+
+impl<O> Play<Seen, View<O>> for Restarts {
+    ghost use Rattle.uni_small.specs.Plays.{HasRestarted};
+
+    ghost then = { HasRestarted };
+}
+
 /// The load of S after which an attempt goes on or has failed.
 pub struct Checks;
 

@@ -1,5 +1,5 @@
 //! The word steps, each one function.
-ghost use Rattle.std.specs.Prelude.{◌≡◌, ◌≢◌, ℕ, ◌+◌, ◌*◌, ◌<◌, ◌≤◌, ◌==◌, List, [], ◌∷◌, ◌++◌, Option, Some, None};
+ghost use Rattle.std.specs.Prelude.{true, false, ◌≡◌, ◌≢◌, ℕ, ◌+◌, ◌*◌, ◌<◌, ◌≤◌, ◌==◌, List, [], ◌∷◌, ◌++◌, Option, Some, None};
 ghost use Rattle.std.specs.Prelude.{if◌then◌else◌, length, slice_index};
 ghost use Rattle.uni_small.specs.Image.{HasRows, buffer_words, held_place, spell, with_seen, read_image};
 ghost use Rattle.uni_small.specs.View.{announces, begins_directly, brings, goes, knows, returns, wrote};
@@ -7,6 +7,7 @@ ghost use Rattle.uni_small.specs.View.Stage.{Idle, Last, Reading, Ready, Writing
 ghost use Rattle.uni_small.specs.Board.{buffer_in, current_word, version_in};
 ghost use Rattle.uni_small.specs.Invariant.{most_calls};
 ghost use Rattle.uni_small.specs.Plays.{Goes, IsLeft, stage_of, IsNamed, begun, looked, checked, checked_own, IsGood, brought, brought_own};
+ghost use Rattle.uni_small.specs.Plays.{begun_by, has_begun, restarted, rests};
 ghost use Rattle.uni_small.specs.Standing.{HasWrittenAll, HasWrittenOwn, IsAnnounced, IsDirect, IsAsking, IsCopying, IsLoading, IsLooking, IsOf};
 ghost use Rattle.uni_small.specs.Standing.{IsStoring, IsWriting, local_of};
 ghost use Rattle.uni_small.specs.Belongs.{HasInvocation};
@@ -15,7 +16,7 @@ use crate::log::SmallShared;
 use crate::object::SmallObject;
 use crate::rule::{
     Announces, Asks, Begins, Brings, BringsOwn, Checks, ChecksOwn, Copies, Follows, Loads, Looks,
-    Replies, Starts, Stores, Turns, Writes,
+    Recounts, Replies, Rereads, Restarts, Starts, Stores, Turns, Writes,
 };
 use crate::seat::Seen;
 use crate::view::View;
@@ -327,5 +328,67 @@ impl<O: SmallObject> SmallShared<O> {
         ensures later { (local_of seat.old.me).after ≤ result }
     {
         self.table.shared.load::<Follows>(seat, 0) / 128
+    }
+
+    /// Loads the announcement of process p, whatever it is at.
+    pub(crate) fn recount(&self, seat: &mut Seat<Seen, View<O>>, p: u64) -> u64
+        requires table { seat.old.table_id ≡ self.now.table.shared.table_id }
+        requires inside { p < self.now.setup.sizes.processes }
+        requires of { IsOf self.now.setup.object self.now.setup.sizes p seat.old.me }
+        ensures same { (seat.new.table_id ≡ seat.old.table_id) × (seat.new.id ≡ seat.old.id) }
+        ensures left { IsLeft seat.old.me (rests (local_of seat.old.me)) seat.new.me }
+        ensures told { result ≤ begun_by (has_begun (stage_of seat.old.me) (local_of seat.old.me).direct)
+            (length (local_of seat.old.me).own) }
+        ensures long { length (local_of seat.old.me).held ≡ 2 * buffer_words self.now.setup.sizes }
+        ensures most { begun_by (has_begun (stage_of seat.old.me) (local_of seat.old.me).direct)
+            (length (local_of seat.old.me).own) ≤ most_calls }
+    {
+        self.table
+            .shared
+            .load::<Recounts>(seat, self.announce_word(p))
+    }
+
+    /// Loads word i of a buffer of process p, of the first or the second one, whatever it is at.
+    pub(crate) fn reread(
+        &self,
+        seat: &mut Seat<Seen, View<O>>,
+        p: u64,
+        which: u64,
+        i: u64,
+    ) -> u64
+        requires table { seat.old.table_id ≡ self.now.table.shared.table_id }
+        requires inside { (p < self.now.setup.sizes.processes) × (which ≤ 1) × (i < buffer_words self.now.setup.sizes) }
+        requires of { IsOf self.now.setup.object self.now.setup.sizes p seat.old.me }
+        ensures same { (seat.new.table_id ≡ seat.old.table_id) × (seat.new.id ≡ seat.old.id) }
+        ensures left { IsLeft seat.old.me (rests (local_of seat.old.me)) seat.new.me }
+        ensures told { result ≡ slice_index (local_of seat.old.me).held (held_place self.now.setup.sizes which i) }
+    {
+        self.table
+            .shared
+            .load::<Rereads>(seat, self.buffer_word(2 * p + which, i))
+    }
+
+    /// Loads S: the call of process p, which has begun, begins again from its announcement, wherever it stood.
+    pub(crate) fn restart(&self, seat: &mut Seat<Seen, View<O>>, p: u64) -> u64
+        requires table { seat.old.table_id ≡ self.now.table.shared.table_id }
+        requires inside { p < self.now.setup.sizes.processes }
+        requires of { IsOf self.now.setup.object self.now.setup.sizes p seat.old.me }
+        requires begun { has_begun (stage_of seat.old.me) (local_of seat.old.me).direct ≡ true }
+        ensures same { (seat.new.table_id ≡ seat.old.table_id) × (seat.new.id ≡ seat.old.id) }
+        ensures left { IsLeft seat.old.me (restarted (local_of seat.old.me) p result true) seat.new.me }
+    {
+        self.table.shared.load::<Restarts>(seat, 0)
+    }
+
+    /// Loads S: process p, of which no call has begun, stands before its next call, also where it was in a direct attempt.
+    pub(crate) fn abandon(&self, seat: &mut Seat<Seen, View<O>>, p: u64) -> u64
+        requires table { seat.old.table_id ≡ self.now.table.shared.table_id }
+        requires inside { p < self.now.setup.sizes.processes }
+        requires of { IsOf self.now.setup.object self.now.setup.sizes p seat.old.me }
+        requires none { has_begun (stage_of seat.old.me) (local_of seat.old.me).direct ≡ false }
+        ensures same { (seat.new.table_id ≡ seat.old.table_id) × (seat.new.id ≡ seat.old.id) }
+        ensures left { IsLeft seat.old.me (restarted (local_of seat.old.me) p result false) seat.new.me }
+    {
+        self.table.shared.load::<Restarts>(seat, 0)
     }
 }

@@ -1,3 +1,4 @@
+use Rattle.uni_small.proofs.Rejoining.{recounts, rereads, restarts}
 use Rattle.uni_small.proofs.Loads.{begins_own, checks_own, starts, copies, looks, asks, checks, turns, follows_on}
 use Rattle.uni_small.proofs.Reply.{loads}
 use Rattle.uni_small.proofs.laws.loads_append_nothing.Goals as goal
@@ -31,3 +32,13 @@ returns-clause-begin g c o sizes id st me few single stage untried room = begins
 
 pub returns-clause-check_own : goal.returns-clause-check_own
 returns-clause-check_own g c o sizes id s st me few single looking direct = checks_own g.O.SmallObject.meaning o sizes id few st me single s looking direct (g.met.O.SmallObject.steady o)
+
+pub returns-clause-recount : goal.returns-clause-recount
+returns-clause-recount g c o sizes id st me few single = recounts g.O.SmallObject.meaning o sizes id few st me single
+
+pub returns-clause-reread : goal.returns-clause-reread
+returns-clause-reread g c o sizes id which k st me few single either below at =
+    rereads g.O.SmallObject.meaning o sizes id few st me single which k either below at
+
+pub returns-clause-restart : goal.returns-clause-restart
+returns-clause-restart g c o sizes id st me few single = restarts g.O.SmallObject.meaning o sizes id few st me single

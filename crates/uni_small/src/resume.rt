@@ -1,0 +1,112 @@
+//! The end of a call whose thread stopped at some step of it.
+ghost use Rattle.std.specs.Prelude.{true, false, ◌≡◌, ◌+◌, ◌*◌, ◌<◌, ◌≤◌, ◌++◌, ◌∷◌, [], length};
+ghost use Rattle.uni_small.specs.Image.{buffer_words};
+ghost use Rattle.uni_small.specs.Belongs.{AreBuffers, HasRoom};
+ghost use Rattle.uni_small.specs.Invariant.{most_calls};
+ghost use Rattle.uni_small.specs.Plays.{IsLeft, has_begun, stage_of};
+ghost use Rattle.uni_small.specs.Standing.{IsOf, attempt_steps, local_of};
+ghost use Rattle.uni_small.specs.View.Stage.{Idle};
+
+use crate::log::SmallShared;
+use crate::object::SmallObject;
+use crate::seat::{Buffers, Room, Seen};
+use crate::view::View;
+use atomic_table::Seat;
+
+impl<O: SmallObject> SmallShared<O> {
+    /// Loads what the two buffers of process p hold, whatever it is at.
+    fn reread_all(&self, seat: &mut Seat<Seen, View<O>>, p: u64, held: &mut [u64])
+        requires table { seat.old.table_id ≡ self.now.table.shared.table_id }
+        requires inside { p < self.now.setup.sizes.processes }
+        requires of { IsOf self.now.setup.object self.now.setup.sizes p seat.old.me }
+        requires long { length held.old ≡ 2 * buffer_words self.now.setup.sizes }
+        requires known { length (local_of seat.old.me).held ≡ 2 * buffer_words self.now.setup.sizes }
+        ensures same { (seat.new.table_id ≡ seat.old.table_id) × (seat.new.id ≡ seat.old.id) }
+        ensures left { IsLeft seat.old.me (record (local_of seat.old.me)
+            { steps = (local_of seat.old.me).steps + 2 * buffer_words self.now.setup.sizes }) seat.new.me }
+        ensures held { held.new ≡ (local_of seat.old.me).held }
+    {
+        let words = self.buffer_words();
+        for i in 0..words {
+            held[i as usize] = self.reread(seat, p, 0, i);
+        }
+        for k in 0..words {
+            held[(words + k) as usize] = self.reread(seat, p, 1, k);
+        }
+    }
+
+    /// Ends the call of process p that has begun, wherever it stood, by what the words of the table tell: what the
+    /// process kept for itself isn't read. The answer is a version in which the call is.
+    pub(crate) fn resume(
+        &self,
+        seat: &mut Seat<Seen, View<O>>,
+        p: u64,
+        number: u64,
+        own: &mut Buffers,
+        room: &mut Room,
+        reply: &mut [u64],
+    ) -> u64
+        requires table { seat.old.table_id ≡ self.now.table.shared.table_id }
+        requires inside { p < self.now.setup.sizes.processes }
+        requires of { IsOf self.now.setup.object self.now.setup.sizes p seat.old.me }
+        requires begun { has_begun (stage_of seat.old.me) (local_of seat.old.me).direct ≡ true }
+        requires number { (number ≡ length (local_of seat.old.me).own + 1) × (number ≤ most_calls) }
+        requires wide { length reply.old ≡ self.now.setup.sizes.reply }
+        requires known { length (local_of seat.old.me).held ≡ 2 * buffer_words self.now.setup.sizes }
+        requires long { length own.old.held.items ≡ 2 * buffer_words self.now.setup.sizes }
+        requires room { HasRoom self.now.setup.sizes room.old }
+        ensures same { (seat.new.table_id ≡ seat.old.table_id) × (seat.new.id ≡ seat.old.id) }
+        ensures of { IsOf self.now.setup.object self.now.setup.sizes p seat.new.me }
+        ensures slots { seat.new.me.1 ≡ seat.old.me.1 }
+        ensures taken { seat.new.me.0.known.taken ≡ seat.old.me.0.known.taken }
+        ensures few_steps { (local_of seat.new.me).steps ≤ (local_of seat.old.me).steps
+            + (2 * buffer_words self.now.setup.sizes + 2 * attempt_steps self.now.setup.sizes + self.now.setup.sizes.reply + 2) }
+        ensures idle { stage_of seat.new.me ≡ Idle [] }
+        ensures untried { (local_of seat.new.me).direct ≡ false }
+        ensures ends { (local_of seat.new.me).own ≡ (local_of seat.old.me).own ++ record {
+          inv = (local_of seat.old.me).inv;
+          reply = reply.new;
+          after = (local_of seat.old.me).after;
+          version = result;
+        } ∷ [] }
+        ensures own { AreBuffers self.now.setup.sizes (local_of seat.new.me) own.new }
+        ensures room { HasRoom self.now.setup.sizes room.new }
+    {
+        self.reread_all(seat, p, &mut own.held);
+        let s = self.restart(seat, p);
+        own.spare = if s % 128 == 2 * p + 1 { 0 } else { 1 };
+        if let Some(s) = self.attempt(seat, p, number, 0, own, room) {
+            return self.load_reply(seat, p, s, reply);
+        }
+        if let Some(s) = self.attempt(seat, p, number, 1, own, room) {
+            return self.load_reply(seat, p, s, reply);
+        }
+        let s = self.turn(seat, p, 2);
+        self.load_reply(seat, p, s, reply)
+    }
+
+    /// Puts process p, of which no call has begun, before its next call, wherever it stood: between calls, or in a
+    /// direct attempt, which is given up. What the process kept for itself isn't read.
+    pub(crate) fn rejoin(&self, seat: &mut Seat<Seen, View<O>>, p: u64, own: &mut Buffers)
+        requires table { seat.old.table_id ≡ self.now.table.shared.table_id }
+        requires inside { p < self.now.setup.sizes.processes }
+        requires of { IsOf self.now.setup.object self.now.setup.sizes p seat.old.me }
+        requires none { has_begun (stage_of seat.old.me) (local_of seat.old.me).direct ≡ false }
+        requires known { length (local_of seat.old.me).held ≡ 2 * buffer_words self.now.setup.sizes }
+        requires long { length own.old.held.items ≡ 2 * buffer_words self.now.setup.sizes }
+        ensures same { (seat.new.table_id ≡ seat.old.table_id) × (seat.new.id ≡ seat.old.id) }
+        ensures of { IsOf self.now.setup.object self.now.setup.sizes p seat.new.me }
+        ensures slots { seat.new.me.1 ≡ seat.old.me.1 }
+        ensures taken { seat.new.me.0.known.taken ≡ seat.old.me.0.known.taken }
+        ensures few_steps { (local_of seat.new.me).steps ≤ (local_of seat.old.me).steps
+            + (2 * buffer_words self.now.setup.sizes + 1) }
+        ensures idle { stage_of seat.new.me ≡ Idle [] }
+        ensures untried { (local_of seat.new.me).direct ≡ false }
+        ensures calls { (local_of seat.new.me).own ≡ (local_of seat.old.me).own }
+        ensures own { AreBuffers self.now.setup.sizes (local_of seat.new.me) own.new }
+    {
+        self.reread_all(seat, p, &mut own.held);
+        let s = self.abandon(seat, p);
+        own.spare = if s % 128 == 2 * p + 1 { 0 } else { 1 };
+    }
+}
