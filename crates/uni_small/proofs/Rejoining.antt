@@ -50,38 +50,37 @@ module _ {O : Type 0} (meaning : O → Meaning) (o : O) (sizes : Sizes) (id : �
 
   pub recounts : Moves meaning o sizes id me (announce_word p) (λ x. x) nothing (λ found me'. HasRecounted st me found me')
   recounts = load_law meaning o sizes id me (announce_word p) (λ found me'. HasRecounted st me found me') single (recount_steps meaning o sizes st me) (λ g local words f.
-    let a = f.words_are.announced p f.inside in
-    let t = f.sound.board.told_most p f.inside in
-    let b = f.sound.board.room p f.inside in
-    let c = count_at g l.stage l.direct f.mine.call in
-    (
-      rests l,
-      at_same g f.mine,
-      (
-        refl,
-        omega (arith, a, t, c),
-        f.mine.held.long ∙ ap (λ (z : Sizes). 2 * buffer_words z) (sym f.processes),
-        omega (arith, b, c),
-      ),
-    ))
+      let a = f.words_are.announced p f.inside in
+      let t = f.sound.board.told_most p f.inside in
+      let b = f.sound.board.room p f.inside in
+      let c = count_at g l.stage l.direct f.mine.call in (
+        rests l,
+        at_same g f.mine,
+        (
+          refl,
+          omega (arith, a, t, c),
+          f.mine.held.long ∙ ap (λ (z : Sizes). 2 * buffer_words z) (sym f.processes),
+          omega (arith, b, c),
+        ),
+      ))
 
   -- what a word of its buffers is
   pub rereads : (which' k' : ℕ) → which' ≤ 1 → k' < buffer_words sizes → st.word ≡ buffer_word sizes (2 * p + which') k'
       → Moves meaning o sizes id me (buffer_word sizes (2 * p + which') k') (λ x. x) nothing (λ found me'. HasReread st me found me')
   rereads which' k' either' below' at = load_law meaning o sizes id me (buffer_word sizes (2 * p + which') k') (λ found me'. HasReread st me found me') single
-    (reread_steps meaning o sizes st me which' k' either' below') (λ g local words f. (
-    rests l,
-    at_same g f.mine,
-    (
-      refl,
-      λ which k either below there.
-          let wide : k < buffer_words sizes = subst (λ (z : Sizes). k < buffer_words z) f.processes below in
-          let place : buffer_word sizes (2 * p + which') k' ≡ buffer_word sizes (2 * p + which) k = sym at ∙ there ∙ ap (λ (z : Sizes). buffer_word z (2 * p + which) k) f.processes in
-          let inside : 2 * p + which < 2 * sizes.processes = (let n = f.inside in omega arith) in
-          ap (slice_index words) place ∙ f.words_are.buffer (2 * p + which) k inside wide ∙ f.mine.held.words which k either wide
-          ∙ ap (λ (z : Sizes). slice_index l.held (held_place z which k)) (sym f.processes),
-    ),
-  ))
+      (reread_steps meaning o sizes st me which' k' either' below') (λ g local words f. (
+        rests l,
+        at_same g f.mine,
+        (
+          refl,
+          λ which k either below there.
+              let wide : k < buffer_words sizes = subst (λ (z : Sizes). k < buffer_words z) f.processes below in
+              let place : buffer_word sizes (2 * p + which') k' ≡ buffer_word sizes (2 * p + which) k = sym at ∙ there ∙ ap (λ (z : Sizes). buffer_word z (2 * p + which) k) f.processes in
+              let inside : 2 * p + which < 2 * sizes.processes = (let n = f.inside in omega arith) in
+              ap (slice_index words) place ∙ f.words_are.buffer (2 * p + which) k inside wide ∙ f.mine.held.words which k either wide
+              ∙ ap (λ (z : Sizes). slice_index l.held (held_place z which k)) (sym f.processes),
+        ),
+      ))
 
   -- its call, which begins again, or the next one
   call_again : (g : Board) (s : ℕ) (stage : Stage) (direct : Bool) → IsCallAt object sizes g p (record l { direct = direct }) stage
@@ -104,8 +103,7 @@ module _ {O : Type 0} (meaning : O → Meaning) (o : O) (sizes : Sizes) (id : �
       let s = slice_index words 0 in
       let begun : Bool = has_begun l.stage l.direct in
       let is : s ≡ current_word g.version g.current = f.words_are.current in
-      let here : buffer_in s ≡ g.current = ap buffer_in is ∙ buffer_of g.version g.current (let c = f.sound.board.current in omega arith) in
-      (
+      let here : buffer_in s ≡ g.current = ap buffer_in is ∙ buffer_of g.version g.current (let c = f.sound.board.current in omega arith) in (
         restarted l p s begun,
         record {
           spare = spare_small (buffer_in s == 2 * p + 1);

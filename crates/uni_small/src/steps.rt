@@ -349,13 +349,7 @@ impl<O: SmallObject> SmallShared<O> {
     }
 
     /// Loads word i of a buffer of process p, of the first or the second one, whatever it is at.
-    pub(crate) fn reread(
-        &self,
-        seat: &mut Seat<Seen, View<O>>,
-        p: u64,
-        which: u64,
-        i: u64,
-    ) -> u64
+    pub(crate) fn reread(&self, seat: &mut Seat<Seen, View<O>>, p: u64, which: u64, i: u64) -> u64
         requires table { seat.old.table_id ≡ self.now.table.shared.table_id }
         requires inside { (p < self.now.setup.sizes.processes) × (which ≤ 1) × (i < buffer_words self.now.setup.sizes) }
         requires of { IsOf self.now.setup.object self.now.setup.sizes p seat.old.me }

@@ -15,7 +15,7 @@ load-requires g c =
     let me = c.args.seat.now.me in
     let i = c.buffer_word.result in
     let is : i ≡ buffer_word sizes (2 * me.0.known.first + c.args.which) c.args.i =
-        c.buffer_word.ensures ∙ ap (λ q. buffer_word sizes (2 * q + c.args.which) c.args.i) (sym c.requires.of.first) in
+    c.buffer_word.ensures ∙ ap (λ q. buffer_word sizes (2 * q + c.args.which) c.args.i) (sym c.requires.of.first) in
     let st = step slots i 0 0 none in (
       c.requires.table,
       (let q = c.buffer_word.ensures in let r = buffer_inside sizes (2 * c.args.p + c.args.which) c.args.i (let a = c.requires.inside in omega arith) c.requires.inside.2 in let t = shared.sized in omega arith),
