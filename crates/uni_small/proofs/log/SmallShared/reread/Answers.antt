@@ -1,4 +1,4 @@
-use Rattle.uni_small.proofs.Vocabulary.{HasReread, ap, arith, buffer_word, none, nothing, step, sym, ℕ, ◌*◌, ◌+◌, ◌∙◌, ◌≡◌}
+use Rattle.uni_small.proofs.Vocabulary.{HasReread, ap, arith, buffer_word, none, nothing, step, sym, ◌*◌, ◌+◌, ◌∙◌, ◌≡◌}
 use Rattle.uni_small.proofs.Allowed.{by_key}
 use Rattle.uni_small.proofs.Rejoining.{rereads}
 use Rattle.uni_small.proofs.Words.{buffer_inside}

@@ -1,4 +1,4 @@
-use Rattle.uni_small.proofs.Vocabulary.{arith, length, local_of, refl, with_local, ℕ, ◌+◌, ◌≡◌}
+use Rattle.uni_small.proofs.Vocabulary.{arith, length, local_of, refl, with_local, ◌+◌, ◌≡◌}
 use Rattle.uni_small.proofs.Lists.{same_list}
 use Rattle.uni_small.proofs.log.SmallShared.reread_all.Goals as goal
 

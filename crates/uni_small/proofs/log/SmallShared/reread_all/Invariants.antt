@@ -1,4 +1,4 @@
-use Rattle.uni_small.proofs.Vocabulary.{IsLeft, buffer_words, length, local_of, slice_index, ℕ, ◌*◌, ◌+◌, ◌<◌, ◌≡◌}
+use Rattle.uni_small.proofs.Vocabulary.{IsLeft, local_of, slice_index, ℕ, ◌+◌, ◌<◌, ◌≡◌}
 use Rattle.uni_small.proofs.log.SmallShared.reread_all.Given as goal
 
 abbrev pub invariant-loop-i : goal.invariant-loop-i
