@@ -13,7 +13,7 @@ checked_in sizes p made tries s copy seen found same own = elim (number_cases fo
   | inr h ↦ absurd (h.0 same)
 ]
 
-checked_on : (sizes : Sizes) (p made tries s : ℕ) (copy : List ℕ) (seen : List (Option (List ℕ))) (found : ℕ) → found ≡ s → slice_index copy p ≢ made → checked sizes p made tries s copy seen found ≡ Writing tries s (read_image sizes copy) seen
+checked_on : (sizes : Sizes) (p made tries s : ℕ) (copy : List ℕ) (seen : List (Option (List ℕ))) (found : ℕ) → found ≡ s → slice_index copy p ≢ made → checked sizes p made tries s copy seen found ≡ Writing tries s (read_image sizes copy) seen 0
 checked_on sizes p made tries s copy seen found same other = elim (number_cases found s) [
   | inl h ↦ elim (number_cases (slice_index copy p) made) [ inl k ↦ absurd (other k.0) | inr k ↦ rw (h.1, k.1) refl ]
   | inr h ↦ absurd (h.0 same)
@@ -42,9 +42,9 @@ module _ {O : Type 0} (meaning : Meaning) (sizes : Sizes) (p tries s words : ℕ
   pub is_in : again ≡ s → slice_index image.applied p ≡ length (local_of me).own + 1 → GoesBy me (words + 1) (Last s []) me2
   is_in same own = next (Last s []) (checked_in sizes p (length (local_of me1).own + 1) tries s (spell image) seen again same (spell-applied sizes image rows p inside ∙ own ∙ sym own_is))
 
-  pub goes_in : again ≡ s → slice_index image.applied p ≢ length (local_of me).own + 1 → GoesBy me (words + 1) (Writing tries s image seen) me2
-  goes_in same other = subst (λ i. GoesBy me (words + 1) (Writing tries s i seen) me2) (read-spell sizes image rows)
-      (next (Writing tries s (read_image sizes (spell image)) seen) (checked_on sizes p (length (local_of me1).own + 1) tries s (spell image) seen again same (λ own. other (sym (spell-applied sizes image rows p inside) ∙ own ∙ own_is))))
+  pub goes_in : again ≡ s → slice_index image.applied p ≢ length (local_of me).own + 1 → GoesBy me (words + 1) (Writing tries s image seen 0) me2
+  goes_in same other = subst (λ i. GoesBy me (words + 1) (Writing tries s i seen 0) me2) (read-spell sizes image rows)
+      (next (Writing tries s (read_image sizes (spell image)) seen 0) (checked_on sizes p (length (local_of me1).own + 1) tries s (spell image) seen again same (λ own. other (sym (spell-applied sizes image rows p inside) ∙ own ∙ own_is))))
 
   pub good : again ≡ s → IsGood meaning sizes image
   good same = subst (IsGood meaning sizes) (read-spell sizes image rows) ((told (spell image) seen at).1 same)
@@ -82,7 +82,7 @@ brought_missed l tries s new found apart = elim (number_cases found s) [ inl h �
 brought_hit : (l : Local) (tries s new found : ℕ) → found ≡ s → brought l tries s new found ≡ brings l new
 brought_hit l tries s new found same = elim (number_cases found s) [ inl h ↦ rw h.1 refl | inr h ↦ absurd (h.0 same) ]
 
-module _ {O : Type 0} (sizes : Sizes) (most tries s new found : ℕ) (own : Buffers) (me me1 me2 : Me Seen (View O)) (first : WritesWithin me most own.held.items me1) (spare_is : (local_of me).spare ≡ own.spare)
+module _ {O : Type 0} (sizes : Sizes) (most tries s new found : ℕ) (own : Buffers) (me me1 me2 : Me Seen (View O)) (first : WritesWithin me 0 most own.held.items me1) (spare_is : (local_of me).spare ≡ own.spare)
     (next : IsLeft me1 (brought (local_of me1) tries s new found) me2) where
   count : (local_of me).steps + first.0 + 1 ≡ (local_of me).steps + (first.0 + 1)
   count = add_assoc (local_of me).steps first.0 1
@@ -93,7 +93,7 @@ module _ {O : Type 0} (sizes : Sizes) (most tries s new found : ℕ) (own : Buff
     (let a = first.1 in omega arith),
     tt,
     next ∙ ap (λ l. (with_local me1.0 l, me1.1)) (brought_missed (local_of me1) tries s new found apart)
-        ∙ ap (λ (m : Me Seen (View O)). (with_local m.0 (goes (local_of m) (Ready (tries + 1))), m.1)) first.2
+        ∙ ap (λ (m : Me Seen (View O)). (with_local m.0 (goes (local_of m) (Ready (tries + 1))), m.1)) first.4
         ∙ (λ k. (with_local me.0 (record (local_of me) { stage = Ready (tries + 1); spare = spare_is k; held = own.held.items; steps = count k }), me.1)),
   )
 
@@ -103,7 +103,7 @@ module _ {O : Type 0} (sizes : Sizes) (most tries s new found : ℕ) (own : Buff
     (let a = first.1 in omega arith),
     named,
     next ∙ ap (λ l. (with_local me1.0 l, me1.1)) (brought_hit (local_of me1) tries s new found same)
-        ∙ ap (λ (m : Me Seen (View O)). (with_local m.0 (brings (local_of m) new), m.1)) first.2
+        ∙ ap (λ (m : Me Seen (View O)). (with_local m.0 (brings (local_of m) new), m.1)) first.4
         ∙ (λ k. (with_local me.0 (record (local_of me) { stage = Last new []; spare = 1 - spare_is k; held = own.held.items; steps = count k }), me.1)),
   )
 
@@ -183,7 +183,7 @@ module _ {O : Type 0} (sizes : Sizes) (inv reply : List ℕ) (version : ℕ) (me
 pub checked_own_failed : (sizes : Sizes) (s : ℕ) (copy : List ℕ) (seen : List (Option (List ℕ))) (found : ℕ) → found ≢ s → checked_own sizes s copy seen found ≡ Idle []
 checked_own_failed sizes s copy seen found apart = elim (number_cases found s) [ inl h ↦ absurd (apart h.0) | inr h ↦ rw h.1 refl ]
 
-pub checked_own_on : (sizes : Sizes) (s : ℕ) (copy : List ℕ) (seen : List (Option (List ℕ))) (found : ℕ) → found ≡ s → checked_own sizes s copy seen found ≡ Writing 0 s (read_image sizes copy) seen
+pub checked_own_on : (sizes : Sizes) (s : ℕ) (copy : List ℕ) (seen : List (Option (List ℕ))) (found : ℕ) → found ≡ s → checked_own sizes s copy seen found ≡ Writing 0 s (read_image sizes copy) seen 0
 checked_own_on sizes s copy seen found same = elim (number_cases found s) [ inl h ↦ rw h.1 refl | inr h ↦ absurd (h.0 same) ]
 
 brought_own_missed : (l : Local) (s new : ℕ) (inv : List ℕ) (found : ℕ) → found ≢ s → brought_own l s new inv found ≡ goes l (Idle [])
@@ -192,7 +192,7 @@ brought_own_missed l s new inv found apart = elim (number_cases found s) [ inl h
 brought_own_hit : (l : Local) (s new : ℕ) (inv : List ℕ) (found : ℕ) → found ≡ s → brought_own l s new inv found ≡ brings_own l new inv
 brought_own_hit l s new inv found same = elim (number_cases found s) [ inl h ↦ rw h.1 refl | inr h ↦ absurd (h.0 same) ]
 
-module _ {O : Type 0} (sizes : Sizes) (most s new found : ℕ) (inv : List ℕ) (own : Buffers) (me me1 me2 : Me Seen (View O)) (direct : (local_of me).direct ≡ true) (first : WritesWithin me most own.held.items me1)
+module _ {O : Type 0} (sizes : Sizes) (most s new found : ℕ) (inv : List ℕ) (own : Buffers) (me me1 me2 : Me Seen (View O)) (direct : (local_of me).direct ≡ true) (first : WritesWithin me 0 most own.held.items me1)
     (spare_is : (local_of me).spare ≡ own.spare) (next : IsLeft me1 (brought_own (local_of me1) s new inv found) me2) where
   own_count : (local_of me).steps + first.0 + 1 ≡ (local_of me).steps + (first.0 + 1)
   own_count = add_assoc (local_of me).steps first.0 1
@@ -203,7 +203,7 @@ module _ {O : Type 0} (sizes : Sizes) (most s new found : ℕ) (inv : List ℕ) 
     (let a = first.1 in omega arith),
     tt,
     next ∙ ap (λ l. (with_local me1.0 l, me1.1)) (brought_own_missed (local_of me1) s new inv found apart)
-        ∙ ap (λ (m : Me Seen (View O)). (with_local m.0 (goes (local_of m) (Idle [])), m.1)) first.2
+        ∙ ap (λ (m : Me Seen (View O)). (with_local m.0 (goes (local_of m) (Idle [])), m.1)) first.4
         ∙ (λ k. (with_local me.0 (record (local_of me) { stage = Idle []; direct = direct k; spare = spare_is k; held = own.held.items; steps = own_count k }), me.1)),
   )
 
@@ -213,7 +213,7 @@ module _ {O : Type 0} (sizes : Sizes) (most s new found : ℕ) (inv : List ℕ) 
     (let a = first.1 in omega arith),
     named,
     next ∙ ap (λ l. (with_local me1.0 l, me1.1)) (brought_own_hit (local_of me1) s new inv found same)
-        ∙ ap (λ (m : Me Seen (View O)). (with_local m.0 (brings_own (local_of m) new inv), m.1)) first.2
+        ∙ ap (λ (m : Me Seen (View O)). (with_local m.0 (brings_own (local_of m) new inv), m.1)) first.4
         ∙ (λ k. (with_local me.0 (record (local_of me) { stage = Last new []; direct = direct k; inv = inv; spare = 1 - spare_is k; held = own.held.items; steps = own_count k }), me.1)),
   )
 
@@ -293,9 +293,9 @@ module _ {O : Type 0} (meaning : Meaning) (sizes : Sizes) (s words : ℕ) (image
   pub own_fails : again ≢ s → GoesBy me (words + 1) (Idle []) me2
   own_fails apart = own_next (Idle []) (checked_own_failed sizes s (spell image) seen again apart)
 
-  pub own_goes_in : again ≡ s → GoesBy me (words + 1) (Writing 0 s image seen) me2
-  own_goes_in same = subst (λ i. GoesBy me (words + 1) (Writing 0 s i seen) me2) (read-spell sizes image rows)
-      (own_next (Writing 0 s (read_image sizes (spell image)) seen) (checked_own_on sizes s (spell image) seen again same))
+  pub own_goes_in : again ≡ s → GoesBy me (words + 1) (Writing 0 s image seen 0) me2
+  own_goes_in same = subst (λ i. GoesBy me (words + 1) (Writing 0 s i seen 0) me2) (read-spell sizes image rows)
+      (own_next (Writing 0 s (read_image sizes (spell image)) seen 0) (checked_own_on sizes s (spell image) seen again same))
 
   pub own_good : again ≡ s → IsGood meaning sizes image
   own_good same = subst (IsGood meaning sizes) (read-spell sizes image rows) ((told (spell image) seen own_at).1 same)

@@ -156,7 +156,7 @@ module _ (object : Sequential (List ℕ) (List ℕ) (List ℕ)) (sizes : Sizes) 
   call_stays q l (Idle stored) inside h = (closed_stays q l.own inside h.0, h.1)
   call_stays q l (Ready t) inside h = attempted_stays q l l.direct inside h
   call_stays q l (Reading t s copy seen) inside h = attempted_stays q l l.direct inside h
-  call_stays q l (Writing t s image seen) inside h = attempted_stays q l l.direct inside h
+  call_stays q l (Writing t s image seen w) inside h = attempted_stays q l l.direct inside h
   call_stays q l (Last s loaded) inside h = open_stays q l.inv l.own inside h
 
   -- the marks of another buffer stay, and those of this one don't fall
@@ -255,7 +255,7 @@ module _ (object : Sequential (List ℕ) (List ℕ) (List ℕ)) (sizes : Sizes) 
   attempt_stays q d (Idle stored) inside apart h = h
   attempt_stays q d (Ready t) inside apart h = omega arith
   attempt_stays q d (Reading t s copy seen) inside apart h = (h.0, λ fresh. absurd (too_old s (λ f. (h.1 f).0) fresh))
-  attempt_stays q d (Writing t s image seen) inside apart h = (h.0, (λ fresh. absurd (too_old s (λ f. (h.1 f).0) fresh)), written_stays q d (with_seen object image 0 seen) apart h.2, λ inv. written_stays q d (with_seen object image 0 (slice_set seen q (Some inv))) apart (h.3 inv))
+  attempt_stays q d (Writing t s image seen w) inside apart h = (h.0, (λ fresh. absurd (too_old s (λ f. (h.1 f).0) fresh)), written_stays q d (with_seen object image 0 seen) apart h.2, λ inv. written_stays q d (with_seen object image 0 (slice_set seen q (Some inv))) apart (h.3 inv))
   attempt_stays q d (Last s loaded) inside apart h = (
     h.0,
     (let m = mark_least (buffer_in s) q inside in let a = h.1 in omega arith),
@@ -339,7 +339,7 @@ module _ (object : Sequential (List ℕ) (List ℕ) (List ℕ)) (sizes : Sizes) 
     open_at r inv inside due argument l (Idle stored) h = absurd (let a = h.0.announced in let i = h.0.in_is in omega arith)
     open_at r inv inside due argument l (Ready t) h = of_attempted r inv l l.direct due argument h
     open_at r inv inside due argument l (Reading t s copy seen) h = of_attempted r inv l l.direct due argument h
-    open_at r inv inside due argument l (Writing t s image seen) h = of_attempted r inv l l.direct due argument h
+    open_at r inv inside due argument l (Writing t s image seen w) h = of_attempted r inv l l.direct due argument h
     open_at r inv inside due argument l (Last s loaded) h = of_open r inv l due argument h
 
     opened : (j : ℕ) (inv : List ℕ) → slice_get seen j ≡ Some (Some inv) → g.atomic.open_call (0 + j) ≡ Some (record { process = 0 + j; nth = slice_index g.image.applied (0 + j); inv = inv })
@@ -368,14 +368,17 @@ module _ {O : Type 0} (meaning : O → Meaning) (o : O) (sizes : Sizes) (id : �
     abbrev seen : List (Option (List ℕ))
     seen = has.1.0
 
-    stage : l.stage ≡ Writing tries s image seen
-    stage = has.1.1
+    abbrev written : ℕ
+    written = has.1.1
+
+    stage : l.stage ≡ Writing tries s image seen written
+    stage = has.1.2
 
     -- what the seat is told is by what was found
     told : (found : ℕ) (l' : Local) (test : Bool) → (found == s) ≡ test → (if test then brings l st.second else goes l (Ready (tries + 1))) ≡ l'
         → HasBrought st me found (with_local me.0 l', me.1)
-    told found l' test is same tries' s' image' seen' stage' =
-        let e : Writing tries s image seen ≡ Writing tries' s' image' seen' = sym stage ∙ stage' in
+    told found l' test is same tries' s' written' image' seen' stage' =
+        let e : Writing tries s image seen written ≡ Writing tries' s' image' seen' written' = sym stage ∙ stage' in
         let a : tries ≡ tries' = cc in let c : s ≡ s' = cc in
         let here : brought l tries s st.second found ≡ l' = rw is same in
         ap (λ (x : Local). (with_local me.0 x, me.1)) (sym here ∙ (λ k. brought l (a k) (c k) st.second found))
@@ -385,10 +388,10 @@ module _ {O : Type 0} (meaning : O → Meaning) (o : O) (sizes : Sizes) (id : �
       steadily = subst (IsSteady object) f.widths.1 steady
 
       call : IsOpen object g p l.inv l.own
-      call = subst (IsAttempted object sizes g p l) announced (call_at object sizes g p l (Writing tries s image seen) f.mine stage)
+      call = subst (IsAttempted object sizes g p l) announced (call_at object sizes g p l (Writing tries s image seen written) f.mine stage)
 
-      at_it : IsAttemptAt object sizes g p (2 * p + l.spare) (Writing tries s image seen)
-      at_it = attempt_at object sizes g p l (Writing tries s image seen) f.mine stage
+      at_it : IsAttemptAt object sizes g p (2 * p + l.spare) (Writing tries s image seen written)
+      at_it = attempt_at object sizes g p l (Writing tries s image seen written) f.mine stage
 
       -- S has changed
       miss : slice_index words 0 ≢ s → Given meaning o sizes me g local (slice_set words 0 (slice_index words 0)) (takes_effect s seen g (slice_index words 0)) (HasBrought st me (slice_index words 0))
@@ -399,7 +402,7 @@ module _ {O : Type 0} (meaning : O → Meaning) (o : O) (sizes : Sizes) (id : �
           spare = f.mine.spare;
           apart = f.mine.apart;
           held = f.mine.held;
-          call = call_at object sizes g p l (Writing tries s image seen) f.mine stage;
+          call = call_at object sizes g p l (Writing tries s image seen written) f.mine stage;
           attempt = elim (lt_cases s (128 * g.version)) [
             | inl old ↦ (let a = at_it.0 in let b = old.0 in omega arith)
             | inr new ↦ absurd (apart (f.words_are.current ∙ sym (at_it.1 new.0).0))
@@ -426,7 +429,7 @@ module _ {O : Type 0} (meaning : O → Meaning) (o : O) (sizes : Sizes) (id : �
           let b_small : 2 * p + l.spare < 128 = omega arith in
           let written : MayBeWritten object sizes g (2 * p + l.spare) (with_seen object g.image 0 seen) = subst (λ i. MayBeWritten object sizes g (2 * p + l.spare) (with_seen object i 0 seen)) now.1.0 at_it.2 in
           let exactly : (i : ℕ) → i < buffer_words sizes → g.buffer (2 * p + l.spare) i ≡ slice_index (spell (with_seen object g.image 0 seen)) i
-          = (λ i below. f.mine.held.words l.spare i f.mine.spare below ∙ has.1.2 i below ∙ ap (λ m. slice_index (spell (with_seen object m 0 seen)) i) now.1.0) in
+          = (λ i below. f.mine.held.words l.spare i f.mine.spare below ∙ has.1.3 i below ∙ ap (λ m. slice_index (spell (with_seen object m 0 seen)) i) now.1.0) in
           let g' : Board = brought_board object sizes steadily few g local f.sound seen now.1.1 now.1.4 p f.inside now.1.2 out (2 * p + l.spare) b_inside written exactly in
           let word : st.second ≡ current_word (g.version + 1) (2 * p + l.spare) = new_is ∙ ap (λ v. current_word (v + 1) (2 * p + l.spare)) version in
           let named : buffer_in st.second ≡ 2 * p + l.spare = ap buffer_in word ∙ buffer_of (g.version + 1) (2 * p + l.spare) b_small in
@@ -486,8 +489,11 @@ module _ {O : Type 0} (meaning : O → Meaning) (o : O) (sizes : Sizes) (id : �
     abbrev all : List (Option (List ℕ))
     all = slice_set own_seen p (Some inv)
 
-    own_stage : l.stage ≡ Writing 0 s own_image own_seen
-    own_stage = has.1.1
+    abbrev own_written : ℕ
+    own_written = has.1.1
+
+    own_stage : l.stage ≡ Writing 0 s own_image own_seen own_written
+    own_stage = has.1.2
 
     abbrev LeftOwn : (found : ℕ) → Me Seen (View O) → Type 0
     LeftOwn found me' = IsLeft me (brought_own l s st.second inv found) me'
@@ -503,13 +509,13 @@ module _ {O : Type 0} (meaning : O → Meaning) (o : O) (sizes : Sizes) (id : �
       steadily_own = subst (IsSteady object) f.widths.1 steady
 
       attempted : IsAttempted object sizes g p l l.direct
-      attempted = call_at object sizes g p l (Writing 0 s own_image own_seen) f.mine own_stage
+      attempted = call_at object sizes g p l (Writing 0 s own_image own_seen own_written) f.mine own_stage
 
       closed : IsClosed g p l.own
       closed = subst (IsAttempted object sizes g p l) direct attempted
 
-      at_own : IsAttemptAt object sizes g p (2 * p + l.spare) (Writing 0 s own_image own_seen)
-      at_own = attempt_at object sizes g p l (Writing 0 s own_image own_seen) f.mine own_stage
+      at_own : IsAttemptAt object sizes g p (2 * p + l.spare) (Writing 0 s own_image own_seen own_written)
+      at_own = attempt_at object sizes g p l (Writing 0 s own_image own_seen own_written) f.mine own_stage
 
       -- S has changed: no call has begun
       miss_own : slice_index words 0 ≢ s → Given meaning o sizes me g local (slice_set words 0 (slice_index words 0)) (takes_effect_own l p inv s own_seen g (slice_index words 0)) (LeftOwn (slice_index words 0))
@@ -627,7 +633,7 @@ module _ {O : Type 0} (meaning : O → Meaning) (o : O) (sizes : Sizes) (id : �
             (λ waits least. let m = f.sound.board.marked (2 * p + l.spare) p f.inside in let a = announced1 in omega (arith, least))
 
         exactly1 : (i : ℕ) → i < buffer_words sizes → g.buffer (2 * p + l.spare) i ≡ slice_index (spell (with_seen object g.image 0 all)) i
-        exactly1 i below = f.mine.held.words l.spare i f.mine.spare below ∙ has.1.2 i below ∙ ap (λ m. slice_index (spell (with_seen object m 0 all)) i) image_is
+        exactly1 i below = f.mine.held.words l.spare i f.mine.spare below ∙ has.1.3 i below ∙ ap (λ m. slice_index (spell (with_seen object m 0 all)) i) image_is
 
         -- and then all that was seen takes effect, with it
         abbrev g2 : Board
@@ -782,8 +788,8 @@ module _ {O : Type 0} (meaning : O → Meaning) (o : O) (sizes : Sizes) (id : �
     brings_in_own its said_is inv_is state g local seat_of is at =
         let h = brings_in_left state g local seat_of is at in (h.0, (h.1.0, h.1.1, told_to (slice_index state.words 0) (h.0, me.1) h.1.2, h.1.3, h.1.4)) where
           told_to : (found : ℕ) (me' : Me Seen (View O)) → LeftOwn found me' → HasBroughtOwn st me found me'
-          told_to found me' left s' image' seen' its' stage' said' =
-              let e : Writing 0 s own_image own_seen ≡ Writing 0 s' image' seen' = sym own_stage ∙ stage' in
+          told_to found me' left s' written' image' seen' its' stage' said' =
+              let e : Writing 0 s own_image own_seen own_written ≡ Writing 0 s' image' seen' written' = sym own_stage ∙ stage' in
               let c : s ≡ s' = cc in
               let t : its ≡ its' = some-injective its its' (sym said_is ∙ said') in
               let words : inv ≡ its'.invocation.items = sym inv_is ∙ ap (λ (x : Seen). x.invocation.items) t in

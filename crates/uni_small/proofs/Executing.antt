@@ -1,5 +1,5 @@
 -- Each step of an execution is one of the table's steps, and so keeps a board whose history is that of the execution.
-use Rattle.uni_small.proofs.Vocabulary.{Act, AreWidths, AreWords, Board, IsShown, IsSound, Image, IsSteady, Last, Linearize, List, Local, Me, Meaning, Moves, Option, Reading, Ready, Sequential, Sizes, Some, Stage, State, Tells, View, Writing, [], ap, append-nil, append_assoc, brought, brought_own, Seen, Idle, Invoke, IsLeft, slice_set, takes_effect_own, buffer_in, calls_seen, current_word, eqb, false, get_elem?, if◌then◌else◌, length, map, nothing, refl, set_at, set_at-cases, slice_index, slice_set, some, some-injective, some-ne-none, step, subst, suc, sym, takes_effect, true, version_in, with_local, zero, ℕ, either, ◌*◌, ◌++◌, ◌+◌, ◌<◌, ◌==◌, ◌∙◌, ◌∷◌, ◌≡◌, ◌≤◌}
+use Rattle.uni_small.proofs.Vocabulary.{Act, AreWidths, AreWords, Board, IsShown, IsSound, Image, IsSteady, Last, Linearize, List, Local, Me, Meaning, Moves, Option, Reading, Ready, Sequential, Sizes, Some, Stage, State, Tells, View, Writing, [], ap, append-nil, append_assoc, brought, brought_own, Seen, Idle, Invoke, IsLeft, slice_set, takes_effect_own, buffer_in, calls_seen, current_word, eqb, false, get_elem?, if◌then◌else◌, length, map, nothing, refl, set_at, set_at-cases, slice_index, slice_set, some, some-injective, some-ne-none, step, subst, suc, sym, takes_effect, true, version_in, with_local, zero, ℕ, either, ◌*◌, ◌++◌, ◌+◌, ◌<◌, ◌==◌, ◌∙◌, ◌∷◌, ◌≡◌, ◌≤◌, written_to}
 use Rattle.uni_small.proofs.Vocabulary.{HasAnnounced, HasAsked, HasBegun, HasBrought, HasChecked, HasCheckedOwn, HasCopied, HasFollowed, HasLoaded, HasLooked, HasReplied, HasStarted, HasStored, HasTurned, HasWritten, arith, buffer_word, begins, ends, number_cases, IsAttemptAt, none, read_image, spell, with_seen, ⊎_elim}
 use Rattle.uni_small.proofs.Vocabulary.{Bool, HasRecounted, HasReread, HasRestarted, false, has_begun}
 use Rattle.uni_small.specs.Execution.{Access, Execution, Moment, Next, access_of, acts_at, after_access, last_moment, history}
@@ -33,7 +33,7 @@ IsCopyingOne sizes (Reading tries s copy seen) = buffer_in s < 2 * sizes.process
 IsCopyingOne sizes stage = Unit {0}
 
 checked_one : (sizes : Sizes) (b c : _) (tries s : ℕ) (image : Image) (seen : List (Option (List ℕ)))
-    → IsCopyingOne sizes (if b then (if c then Last s [] else Writing tries s image seen) else Ready (tries + 1))
+    → IsCopyingOne sizes (if b then (if c then Last s [] else Writing tries s image seen 0) else Ready (tries + 1))
 checked_one sizes true true tries s image seen = tt
 checked_one sizes true false tries s image seen = tt
 checked_one sizes false c tries s image seen = tt
@@ -45,7 +45,7 @@ brought_one sizes l tries s new found = ⊎_elim
     (number_cases found s)
 
 checked_own_one : (sizes : Sizes) (b : _) (s : ℕ) (image : Image) (seen : List (Option (List ℕ)))
-    → IsCopyingOne sizes (if b then Writing 0 s image seen else Idle [])
+    → IsCopyingOne sizes (if b then Writing 0 s image seen 0 else Idle [])
 checked_own_one sizes true s image seen = tt
 checked_own_one sizes false s image seen = tt
 
@@ -133,10 +133,10 @@ module _ {O : Type 0} (meaning : O → Meaning) (o : O) (sizes : Sizes) where
       }
 
   -- where the exchange finds what the attempt began with, the image of the attempt is that of the board
-  taken_as : (m : Moment) (p : ℕ) → p < sizes.processes → (tries s : ℕ) (image : Image) (seen : List (Option (List ℕ))) → (m.local p).stage ≡ Writing tries s image seen
+  taken_as : (m : Moment) (p : ℕ) → p < sizes.processes → (tries s written : ℕ) (image : Image) (seen : List (Option (List ℕ))) → (m.local p).stage ≡ Writing tries s image seen written
       → (g : Board) → AreWords sizes g m.words → IsSound object sizes g m.local
       → takes_effect s seen g (slice_index m.words 0) ≡ (if slice_index m.words 0 == s then map (λ c. Linearize c) (calls_seen image.applied 0 seen) else [])
-  taken_as m p inside tries s image seen at g words sound = ⊎_elim
+  taken_as m p inside tries s written image seen at g words sound = ⊎_elim
       (λ same.
       let stage = subst (λ k. IsAttemptAt object sizes g p (2 * p + (m.local p).spare) k) at (sound.each p inside).attempt in
       let now = stage.1 (let a = same.0 in let b = words.current in omega (arith, a, b)) in
@@ -145,11 +145,11 @@ module _ {O : Type 0} (meaning : O → Meaning) (o : O) (sizes : Sizes) where
       (number_cases (slice_index m.words 0) s)
 
   -- and so for a direct attempt
-  taken_as_own : (m : Moment) (p : ℕ) → p < sizes.processes → (s : ℕ) (image : Image) (seen : List (Option (List ℕ))) (inv : List ℕ) → (m.local p).stage ≡ Writing 0 s image seen
+  taken_as_own : (m : Moment) (p : ℕ) → p < sizes.processes → (s written : ℕ) (image : Image) (seen : List (Option (List ℕ))) (inv : List ℕ) → (m.local p).stage ≡ Writing 0 s image seen written
       → (g : Board) → AreWords sizes g m.words → IsSound object sizes g m.local
       → takes_effect_own (m.local p) p inv s seen g (slice_index m.words 0)
       ≡ (if slice_index m.words 0 == s then Invoke p (length (m.local p).own) inv ∷ map (λ c. Linearize c) (calls_seen image.applied 0 (slice_set seen p (Some inv))) else [])
-  taken_as_own m p inside s image seen inv at g words sound = ⊎_elim
+  taken_as_own m p inside s written image seen inv at g words sound = ⊎_elim
       (λ same.
       let stage = subst (λ k. IsAttemptAt object sizes g p (2 * p + (m.local p).spare) k) at (sound.each p inside).attempt in
       let now = stage.1 (let a = same.0 in let b = words.current in omega (arith, a, b)) in
@@ -222,27 +222,27 @@ module _ {O : Type 0} (meaning : O → Meaning) (o : O) (sizes : Sizes) where
         (λ found me'. (q : O) → me.0.object ≡ Some q → HasCheckedOwn (meaning q) st me found me')
         (checks_own meaning o sizes p few st me refl s (copy, (seen, at, copied, all, whole)) direct steady) refl
         (λ me' said. ((said o refl s copy seen at).0, checked_own_one sizes (slice_index m.words 0 == s) s (read_image sizes copy) seen)) (λ g words sound. refl)
-    step_holds m acts h p inside (Write tries s image seen all k at applied below differs) =
+    step_holds m acts h p inside (Write tries s image seen all written k at come below) =
         let st = step 0 (buffer_word sizes (2 * p + (m.local p).spare) k) 0 0 none in let me = me_at m.local p in
         let x = slice_index (spell (with_seen object image 0 all)) k in
-        moved widths m acts h p inside (access_of object sizes p (m.local p) (Write tries s image seen all k at applied below differs)) (λ y. x) nothing (λ found me'. HasWritten st me x me')
-        (writes meaning o sizes p st me refl k x (tries, s, image, seen, all, at, applied, refl) below differs refl) refl
-        (λ me' said. (said k refl, subst (λ k. IsCopyingOne sizes k) (sym at) tt)) (λ g words sound. refl)
-    step_holds m acts h p inside (Bring tries s image seen at written announced) =
+        moved widths m acts h p inside (access_of object sizes p (m.local p) (Write tries s image seen all written k at come below)) (λ y. x) nothing (λ found me'. HasWritten st me x me')
+        (writes meaning o sizes p st me refl k x (tries, s, image, seen, all, written, at, come, refl) below refl) refl
+        (λ me' said. (said k refl, subst (λ z. IsCopyingOne sizes (written_to z (k + 1))) (sym at) tt)) (λ g words sound. refl)
+    step_holds m acts h p inside (Bring tries s image seen to at written announced) =
         let new = current_word (version_in s + 1) (2 * p + (m.local p).spare) in
         let st = step 0 0 0 new none in let me = me_at m.local p in
-        moved widths m acts h p inside (access_of object sizes p (m.local p) (Bring tries s image seen at written announced)) (λ found. either (eqb found s) new found) (takes_effect s seen) (λ found me'. HasBrought st me found me')
-        (brings_in meaning o sizes p few st me refl steady announced tries s (image, (seen, at, written)) refl)
+        moved widths m acts h p inside (access_of object sizes p (m.local p) (Bring tries s image seen to at written announced)) (λ found. either (eqb found s) new found) (takes_effect s seen) (λ found me'. HasBrought st me found me')
+        (brings_in meaning o sizes p few st me refl steady announced tries s (image, (seen, to, at, written)) refl)
         (either_if (eqb (slice_index m.words 0) s) new (slice_index m.words 0))
-        (λ me' said. (said tries s image seen at, brought_one sizes (m.local p) tries s new (slice_index m.words 0))) (λ g words sound. taken_as m p inside tries s image seen at g words sound)
-    step_holds m acts h p inside (BringOwn s image seen inv at written direct whole room) =
+        (λ me' said. (said tries s to image seen at, brought_one sizes (m.local p) tries s new (slice_index m.words 0))) (λ g words sound. taken_as m p inside tries s to image seen at g words sound)
+    step_holds m acts h p inside (BringOwn s image seen to inv at written direct whole room) =
         let new = current_word (version_in s + 1) (2 * p + (m.local p).spare) in
         let st = step 0 0 0 new none in let me = me_at m.local p in
-        moved widths m acts h p inside (access_of object sizes p (m.local p) (BringOwn s image seen inv at written direct whole room)) (λ found. either (eqb found s) new found) (takes_effect_own (m.local p) p inv s seen)
+        moved widths m acts h p inside (access_of object sizes p (m.local p) (BringOwn s image seen to inv at written direct whole room)) (λ found. either (eqb found s) new found) (takes_effect_own (m.local p) p inv s seen)
         (λ found me'. IsLeft me (brought_own (m.local p) s new inv found) me')
-        (brings_in_left meaning o sizes p few st me refl steady direct s (length (m.local p).own + 1) inv whole refl (omega (arith, room)) (image, (seen, at, written)) refl)
+        (brings_in_left meaning o sizes p few st me refl steady direct s (length (m.local p).own + 1) inv whole refl (omega (arith, room)) (image, (seen, to, at, written)) refl)
         (either_if (eqb (slice_index m.words 0) s) new (slice_index m.words 0))
-        (λ me' said. (said, brought_own_one sizes (m.local p) s new inv (slice_index m.words 0))) (λ g words sound. taken_as_own m p inside s image seen inv at g words sound)
+        (λ me' said. (said, brought_own_one sizes (m.local p) s new inv (slice_index m.words 0))) (λ g words sound. taken_as_own m p inside s to image seen inv at g words sound)
     step_holds m acts h p inside (Turn tries at two announced) =
         let st = step 0 0 0 0 none in let me = me_at m.local p in
         moved widths m acts h p inside (access_of object sizes p (m.local p) (Turn tries at two announced)) (λ y. y) nothing (λ found me'. HasTurned st me found me')

@@ -40,7 +40,7 @@ module _ (object : Sequential (List ℕ) (List ℕ) (List ℕ)) (sizes : Sizes) 
     by_stage (Idle stored) c = closed c.0
     by_stage (Ready t) c = attempted (local r).direct c
     by_stage (Reading t s copy seen) c = attempted (local r).direct c
-    by_stage (Writing t s image seen) c = attempted (local r).direct c
+    by_stage (Writing t s image seen w) c = attempted (local r).direct c
     by_stage (Last s loaded) c = opened c
 
   -- S names a buffer, and its version leaves room
@@ -108,7 +108,7 @@ module _ {O : Type 0} (meaning : O → Meaning) (o : O) (sizes : Sizes) (id : �
     by_stage (Idle stored) c = c
     by_stage (Ready t) c = c
     by_stage (Reading t s copy seen) c = c
-    by_stage (Writing t s image seen) c = c
+    by_stage (Writing t s image seen w) c = c
     by_stage (Last s loaded) c = c
 
   -- the words of a buffer of its own are those of the current one, where S names it
@@ -399,7 +399,7 @@ module _ {O : Type 0} (meaning : O → Meaning) (o : O) (sizes : Sizes) (id : �
       )) where
         by_in : {local : ℕ → Local} {words : List ℕ} (g : Board) (copy : List ℕ) (seen : List (Option (List ℕ))) (x : ℕ) → Found meaning o sizes me g local words → length copy ≡ buffer_words sizes → length seen ≡ sizes.processes → AreWhole sizes seen
             → IsOpen object g p l.inv l.own → IsAttemptAt object sizes g p (2 * p + l.spare) (Reading tries s copy seen) → x ≡ current_word g.version g.current → x ≡ s
-            → (b : Bool) → (slice_index copy p == length l.own + 1) ≡ b → IsAt object sizes g p (goes l (if b then Last s [] else Writing tries s (read_image sizes copy) seen))
+            → (b : Bool) → (slice_index copy p == length l.own + 1) ≡ b → IsAt object sizes g p (goes l (if b then Last s [] else Writing tries s (read_image sizes copy) seen 0))
         by_in g copy seen x f wide long full call was is same true e =
             let mine : slice_index copy p ≡ length l.own + 1 = (let h : (slice_index copy p == length l.own + 1) ≡ true = e in grind (arith, nat_tests, h)) in
             let copied = copy_is tries s g copy seen x f wide was is same in
@@ -422,7 +422,7 @@ module _ {O : Type 0} (meaning : O → Meaning) (o : O) (sizes : Sizes) (id : �
             let not_in : in_of g p < g.announced p = (let a = call.announced in let m = f.sound.board.in_most p f.inside in omega (arith, apart)) in
             let steadily = subst (IsSteady object) f.widths.1 steady in
             let mine : IsPending g p → g.announced p ≤ g.mark (2 * p + l.spare) p → ⊥ = (λ waits least. let m = f.sound.board.marked (2 * p + l.spare) p f.inside in omega arith) in
-            at_next g (Writing tries s (read_image sizes copy) seen) f.mine (subst (IsAttempted object sizes g p l) (sym announced_is) call) (
+            at_next g (Writing tries s (read_image sizes copy) seen 0) f.mine (subst (IsAttempted object sizes g p l) (sym announced_is) call) (
               was.0,
               (λ fresh. (now.0, (image, long, now.1.1, (λ waits. not_in), full))),
               subst (λ i. MayBeWritten object sizes g (2 * p + l.spare) (with_seen object i 0 seen)) (sym image)
@@ -434,17 +434,17 @@ module _ {O : Type 0} (meaning : O → Meaning) (o : O) (sizes : Sizes) (id : �
         checked_at : {local : ℕ → Local} {words : List ℕ} (g : Board) (copy : List ℕ) (seen : List (Option (List ℕ))) (x : ℕ) → Found meaning o sizes me g local words → length copy ≡ buffer_words sizes → length seen ≡ sizes.processes → AreWhole sizes seen
             → IsOpen object g p l.inv l.own → IsAttemptAt object sizes g p (2 * p + l.spare) (Reading tries s copy seen) → x ≡ current_word g.version g.current
             → (b : Bool) → (x == s) ≡ b
-            → IsAt object sizes g p (goes l (if x == s then (if slice_index copy p == length l.own + 1 then Last s [] else Writing tries s (read_image sizes copy) seen) else Ready (tries + 1)))
+            → IsAt object sizes g p (goes l (if x == s then (if slice_index copy p == length l.own + 1 then Last s [] else Writing tries s (read_image sizes copy) seen 0) else Ready (tries + 1)))
         checked_at g copy seen x f wide long full call was is false e =
             let apart : x ≢ s = (λ same. let h : (x == s) ≡ false = e in grind (arith, nat_tests, h, same)) in
-            subst (λ b. IsAt object sizes g p (goes l (if b then (if slice_index copy p == length l.own + 1 then Last s [] else Writing tries s (read_image sizes copy) seen) else Ready (tries + 1)))) (sym e)
+            subst (λ b. IsAt object sizes g p (goes l (if b then (if slice_index copy p == length l.own + 1 then Last s [] else Writing tries s (read_image sizes copy) seen 0) else Ready (tries + 1)))) (sym e)
             (at_next g (Ready (tries + 1)) f.mine (subst (IsAttempted object sizes g p l) (sym announced_is) call) (elim (lt_cases s (128 * g.version)) [
               | inl old ↦ (let a = was.0 in let b = old.0 in omega arith)
               | inr new ↦ absurd (apart (is ∙ sym (was.1 new.0).0))
             ]))
         checked_at {local = local} {words = words} g copy seen x f wide long full call was is true e =
             let same : x ≡ s = (let h : (x == s) ≡ true = e in grind (arith, nat_tests, h)) in
-            subst (λ b. IsAt object sizes g p (goes l (if b then (if slice_index copy p == length l.own + 1 then Last s [] else Writing tries s (read_image sizes copy) seen) else Ready (tries + 1)))) (sym e)
+            subst (λ b. IsAt object sizes g p (goes l (if b then (if slice_index copy p == length l.own + 1 then Last s [] else Writing tries s (read_image sizes copy) seen 0) else Ready (tries + 1)))) (sym e)
             (by_in {local = local} {words = words} g copy seen x f wide long full call was is same (slice_index copy p == length l.own + 1) refl)
 
   -- a direct attempt begins
@@ -510,7 +510,7 @@ module _ {O : Type 0} (meaning : O → Meaning) (o : O) (sizes : Sizes) (id : �
       )) where
         by_own : {local : ℕ → Local} {words : List ℕ} (g : Board) (copy : List ℕ) (seen : List (Option (List ℕ))) (x : ℕ) → Found meaning o sizes me g local words → length copy ≡ buffer_words sizes → length seen ≡ sizes.processes → AreWhole sizes seen
             → IsAttempted object sizes g p l l.direct → IsAttemptAt object sizes g p (2 * p + l.spare) (Reading 0 s copy seen) → x ≡ current_word g.version g.current
-            → (b : Bool) → (x == s) ≡ b → IsAt object sizes g p (goes l (if b then Writing 0 s (read_image sizes copy) seen else Idle []))
+            → (b : Bool) → (x == s) ≡ b → IsAt object sizes g p (goes l (if b then Writing 0 s (read_image sizes copy) seen 0 else Idle []))
         by_own g copy seen x f wide long full call was is false e = at_next g (Idle []) f.mine (attempted_closed g direct call, refl) tt
         by_own g copy seen x f wide long full call was is true e =
             let same : x ≡ s = (let h : (x == s) ≡ true = e in grind (arith, nat_tests, h)) in
@@ -520,7 +520,7 @@ module _ {O : Type 0} (meaning : O → Meaning) (o : O) (sizes : Sizes) (id : �
             let closed = attempted_closed g direct call in
             let steadily = subst (IsSteady object) f.widths.1 steady in
             let mine : IsPending g p → g.announced p ≤ g.mark (2 * p + l.spare) p → ⊥ = (λ waits least. let e : None ≡ Some waits.0 = sym closed.none_open ∙ waits.1 in absurd cc) in
-            at_next g (Writing 0 s (read_image sizes copy) seen) f.mine call (
+            at_next g (Writing 0 s (read_image sizes copy) seen 0) f.mine call (
               was.0,
               (λ fresh. (now.0, (image, long, now.1.1, (λ waits. let e : None ≡ Some waits.0 = sym closed.none_open ∙ waits.1 in absurd cc), full))),
               subst (λ i. MayBeWritten object sizes g (2 * p + l.spare) (with_seen object i 0 seen)) (sym image)

@@ -24,7 +24,7 @@ module _ (object : Sequential (List ℕ) (List ℕ) (List ℕ)) (sizes : Sizes) 
     attempt_stays (Idle stored) h = h
     attempt_stays (Ready t) h = let e = spares.since in omega arith
     attempt_stays (Reading t s copy seen) h = ((let e = spares.since in let a = h.0 in omega arith), λ fresh. let now = h.1 fresh in (now.0, (now.1.0, spares.seen seen now.1.1)))
-    attempt_stays (Writing t s image seen) h = (
+    attempt_stays (Writing t s image seen w) h = (
       (let e = spares.since in let a = h.0 in omega arith),
       (λ fresh. let now = h.1 fresh in (now.0, (now.1.0, now.1.1, spares.seen seen now.1.2, (λ waits. let e = spares.announced in let m = now.1.3 (waits.0, sym spares.is_open ∙ waits.1) in omega arith), now.1.4))),
       record { rows = h.2.rows; replies = λ r inside waits least. (let m = spares.marked r inside waits least in h.2.replies r inside m.0 m.1) },
@@ -66,7 +66,7 @@ module _ (object : Sequential (List ℕ) (List ℕ) (List ℕ)) (sizes : Sizes) 
     call_stays l (Idle stored) h = (closed_stays l.own h.0, ap (take (length stored)) spares.argument ∙ h.1)
     call_stays l (Ready t) h = attempted_stays l l.direct h
     call_stays l (Reading t s copy seen) h = attempted_stays l l.direct h
-    call_stays l (Writing t s image seen) h = attempted_stays l l.direct h
+    call_stays l (Writing t s image seen w) h = attempted_stays l l.direct h
     call_stays l (Last s loaded) h = open_stays l.inv l.own h
 
   pub at_stays : (q : ℕ) (l : Local) → Spares q (2 * q + l.spare) → IsAt object sizes g q l → IsAt object sizes quiet q l

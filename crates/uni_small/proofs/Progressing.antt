@@ -1,12 +1,12 @@
 -- In every execution a process with a call pending can take a step, and each step of a call makes a number smaller.
-use Rattle.uni_small.proofs.Vocabulary.{AreApplied, AreWhole, buffer_in, ◌/◌, ◌%◌, Bool, Idle, Image, Last, List, Local, None, Option, Reading, Ready, Sequential, Sizes, Some, Stage, Writing, [], ap, arith, announced_steps, attempt_steps, buffer_words, call_steps, checked, checked_own, drop, false, most_calls, nat_le, replicate, length-replicate, slice_set, take, goes, held_place, knows, if◌then◌else◌, inl, inr, length, length-append, length-set, looked, number_cases, read_image, refl, get_or-set_other, get_or-set_same, set_at-cases, slice_get, slice_get-append_left, slice_get_within, slice_index, spell, subst, suc, suc-mul, sym, true, version_in, with_seen, wrote, zero, ℕ, ⊎_elim, ◌*◌, ◌++◌, ◌+◌, ◌-◌, ◌<◌, ◌==◌, ◌∙◌, ◌∷◌, ◌≡◌, ◌≢◌, ◌≤◌, ◌⊎◌, lt_cases}
+use Rattle.uni_small.proofs.Vocabulary.{AreApplied, AreWhole, buffer_in, ◌/◌, ◌%◌, Bool, Idle, Image, Last, List, Local, None, Option, Reading, Ready, Sequential, Sizes, Some, Stage, Writing, [], ap, arith, announced_steps, attempt_steps, buffer_words, call_steps, checked, checked_own, drop, false, most_calls, nat_le, replicate, length-replicate, slice_set, take, goes, held_place, knows, if◌then◌else◌, inl, inr, length, length-append, length-set, looked, number_cases, read_image, refl, get_or-set_other, get_or-set_same, set_at-cases, slice_get, slice_get-append_left, slice_get_within, slice_index, spell, subst, suc, suc-mul, sym, true, version_in, with_seen, wrote, zero, ℕ, ⊎_elim, ◌*◌, ◌++◌, ◌+◌, ◌-◌, ◌<◌, ◌==◌, ◌∙◌, ◌∷◌, ◌≡◌, ◌≢◌, ◌≤◌, ◌⊎◌, lt_cases, HasComeTo, IsWritten, IsWrittenTo, written_to, rests, restarted}
 use Rattle.std.proofs.Math.Nat.{mul_comm}
 use Rattle.uni_small.proofs.Vocabulary.{has_begun}
 use Rattle.uni_small.specs.Execution.{Execution, Moment, Next, access_of, after_access, last_moment, opened_moment}
 use Rattle.uni_small.specs.Execution.Next.{Store, Announce, Follow, Begin, Start, Copy, Look, Ask, Check, CheckOwn, Write, Bring, BringOwn, Turn, Load, Reply}
 use Rattle.uni_small.specs.Execution.Next.{Recount, Reread, Restart}
 use Rattle.uni_small.specs.Execution.Execution.{Ends, Step as Steps}
-use Rattle.uni_small.specs.Progress.{IsPending, IsPlanned, KeepsBound, KeepsPlan, KeepsPlans, NeverBlocks, Where, counted, planned, steps_of_call}
+use Rattle.uni_small.specs.Progress.{IsPending, KeepsBound, NeverBlocks, counted, steps_of_call}
 use Rattle.uni_small.proofs.Ending.{steps_are}
 use Rattle.uni_small.proofs.Opening as Opening
 
@@ -48,7 +48,7 @@ IsInMode (Idle []) direct calls = (direct ≡ false) ⊎ (calls < most_calls)
 IsInMode (Idle (y ∷ stored)) direct calls = calls < most_calls
 IsInMode (Ready tries) direct calls = direct ≡ false
 IsInMode (Reading tries s copy seen) direct calls = IsAttempting direct tries calls
-IsInMode (Writing tries s image seen) direct calls = IsAttempting direct tries calls
+IsInMode (Writing tries s image seen written) direct calls = IsAttempting direct tries calls
 IsInMode (Last s loaded) direct calls = Unit {0}
 
 take_most : (n : ℕ) (xs : List ℕ) → length (take n xs) ≤ n
@@ -114,86 +114,99 @@ last_open sizes tries s copy seen part more = ⊎_elim
           scanning.1,
     ))
 
--- two functions agree below a number, or differ somewhere
-find : (f g : ℕ → ℕ) (k : ℕ) → ((i : ℕ) → i < k → f i ≡ g i) ⊎ ((i : ℕ) × (i < k) × (f i ≢ g i))
-find f g zero = inl (λ i below. absurd (omega arith))
-find f g (suc k) = ⊎_elim
-    (λ all. ⊎_elim
-    (λ same. inl (λ i below. ⊎_elim (λ before. all i before.0) (λ after. let e : i ≡ k = omega (arith, after.0, below) in ap f e ∙ same.0 ∙ ap g (sym e)) (lt_cases i k)))
-    (λ other. inr (k, omega arith, other.0))
-    (number_cases (f k) (g k)))
-    (λ (some : (i : ℕ) × (i < k) × (f i ≢ g i)). inr (some.0, let b = some.1 in omega arith, some.2))
-    (find f g k)
-
-abbrev one_unless : Bool → ℕ
-one_unless true = 0
-one_unless false = 1
-
--- how often two functions differ below a number
-count : (f g : ℕ → ℕ) → ℕ → ℕ
-count f g zero = 0
-count f g (suc k) = one_unless (f k == g k) + count f g k
-
-one_most : (b : Bool) → one_unless b ≤ 1
-one_most true = omega arith
-one_most false = omega arith
-
-count_most : (f g : ℕ → ℕ) (k : ℕ) → count f g k ≤ k
-unfolding count
-count_most f g zero = omega arith
-count_most f g (suc k) = let a = one_most (f k == g k) in let b = count_most f g k in omega arith
-
-count_same : (f f' g : ℕ → ℕ) (k : ℕ) → ((i : ℕ) → i < k → f' i ≡ f i) → count f' g k ≡ count f g k
-unfolding count
-count_same f f' g zero same = refl
-count_same f f' g (suc k) same =
-    (λ j. one_unless (same k (omega arith) j == g k) + count f' g k) ∙ ap (λ n. one_unless (f k == g k) + n) (count_same f f' g k (λ i below. same i (omega arith)))
-
--- one difference less
-count_less : (f f' g : ℕ → ℕ) (k j : ℕ) → j < k → f j ≢ g j → f' j ≡ g j → ((i : ℕ) → i ≢ j → f' i ≡ f i) → count f' g k + 1 ≡ count f g k
-unfolding count
-count_less f f' g zero j below was now others = absurd (omega arith)
-count_less f f' g (suc k) j below was now others = ⊎_elim
-    (λ before.
-    let rest = count_less f f' g k j before.0 was now others in
-    let here : one_unless (f' k == g k) ≡ one_unless (f k == g k) = ap (λ x. one_unless (x == g k)) (others k (λ e. let b = before.0 in omega (arith, e, b))) in
-    omega (arith, rest, here))
-    (λ after.
-    let e : j ≡ k = omega (arith, after.0, below) in
-    let rest : count f' g k ≡ count f g k = count_same f f' g k (λ i less. others i (λ same. omega (arith, same, e, less))) in
-    let here : one_unless (f' k == g k) ≡ 0 = ⊎_elim (λ same. ap one_unless same.1) (λ other. absurd (other.0 (ap f' (sym e) ∙ now ∙ ap g e))) (number_cases (f' k) (g k)) in
-    let there : one_unless (f k == g k) ≡ 1 = ⊎_elim (λ same. absurd (was (ap f e ∙ same.0 ∙ ap g (sym e)))) (λ other. ap one_unless other.1) (number_cases (f k) (g k)) in
-    omega (arith, rest, here, there))
-    (lt_cases j k)
+-- a word of a buffer is among those that are held
+place_below : (sizes : Sizes) (which i : ℕ) → which ≤ 1 → i < buffer_words sizes → held_place sizes which i < 2 * buffer_words sizes
+place_below sizes zero i either below = let e : held_place sizes 0 i ≡ i = omega arith in omega (arith, e, below)
+place_below sizes (suc zero) i either below = let e : held_place sizes 1 i ≡ buffer_words sizes + i = omega arith in omega (arith, e, below)
+place_below sizes (suc (suc w)) i either below = absurd (omega (arith, either))
 
 module _ (object : Sequential (List ℕ) (List ℕ) (List ℕ)) (sizes : Sizes) (some_reply : 1 ≤ sizes.reply) where
+  -- what an attempt has written is right, for some call of its own where it is direct
+  abbrev IsComing : (p : ℕ) → Local → Stage → Type 0
+  IsComing p l (Writing tries s image seen written) =
+      (written ≤ buffer_words sizes) × ((all : List (Option (List ℕ))) × HasComeTo object sizes p l image seen all written written)
+  IsComing p l stage = Unit {0}
+
   -- a process stands where its stage says, and its buffers have their words
-  pub record Stands (l : Local) : Type 0 where
+  pub record Stands (p : ℕ) (l : Local) : Type 0 where
     pub standing : IsStanding sizes l.stage
+    pub coming : IsComing p l l.stage
     pub mode : IsInMode l.stage l.direct (length l.own)
     pub long : length l.held ≡ 2 * buffer_words sizes
     pub either : l.spare ≤ 1
 
   checked_stands : (b c : Bool) (tries s : ℕ) (image : Image) (seen : List (Option (List ℕ)))
-      → IsStanding sizes (if b then (if c then Last s [] else Writing tries s image seen) else Ready (tries + 1))
+      → IsStanding sizes (if b then (if c then Last s [] else Writing tries s image seen 0) else Ready (tries + 1))
   checked_stands true true tries s image seen = some_reply
   checked_stands true false tries s image seen = tt
   checked_stands false c tries s image seen = tt
 
   checked_mode : (b c : Bool) (tries s : ℕ) (image : Image) (seen : List (Option (List ℕ))) (direct : Bool) (calls : ℕ) → direct ≡ false
-      → IsInMode (if b then (if c then Last s [] else Writing tries s image seen) else Ready (tries + 1)) direct calls
+      → IsInMode (if b then (if c then Last s [] else Writing tries s image seen 0) else Ready (tries + 1)) direct calls
   checked_mode true true tries s image seen direct calls e = tt
   checked_mode true false tries s image seen direct calls e = inl e
   checked_mode false c tries s image seen direct calls e = e
 
-  checked_own_stands : (b : Bool) (s : ℕ) (image : Image) (seen : List (Option (List ℕ))) → IsStanding sizes (if b then Writing 0 s image seen else Idle [])
+  checked_own_stands : (b : Bool) (s : ℕ) (image : Image) (seen : List (Option (List ℕ))) → IsStanding sizes (if b then Writing 0 s image seen 0 else Idle [])
   checked_own_stands true s image seen = tt
   checked_own_stands false s image seen = omega arith
 
   checked_own_mode : (b : Bool) (s : ℕ) (image : Image) (seen : List (Option (List ℕ))) (direct : Bool) (calls : ℕ) → IsAttempting direct 0 calls
-      → IsInMode (if b then Writing 0 s image seen else Idle []) direct calls
+      → IsInMode (if b then Writing 0 s image seen 0 else Idle []) direct calls
   checked_own_mode true s image seen direct calls h = h
   checked_own_mode false s image seen direct calls h = ⊎_elim (λ announced. inl announced) (λ own. inr own.2) h
+
+  begins_coming : (p : ℕ) (l : Local) (image : Image) (seen all : List (Option (List ℕ))) → AreApplied sizes l.direct p seen all → HasComeTo object sizes p l image seen all 0 0
+  begins_coming p l image seen all applied = (applied, omega arith, λ i below. absurd (omega (arith, below)))
+
+  checked_coming : (p : ℕ) (l : Local) (b c : Bool) (tries s : ℕ) (image : Image) (seen : List (Option (List ℕ))) → l.direct ≡ false
+      → IsComing p l (if b then (if c then Last s [] else Writing tries s image seen 0) else Ready (tries + 1))
+  checked_coming p l true true tries s image seen announced = tt
+  checked_coming p l true false tries s image seen announced = (omega arith, (seen, begins_coming p l image seen seen (inl (announced, refl))))
+  checked_coming p l false c tries s image seen announced = tt
+
+  checked_own_coming : (p : ℕ) (l : Local) (b : Bool) (s : ℕ) (image : Image) (seen : List (Option (List ℕ))) → l.direct ≡ true → IsComing p l (if b then Writing 0 s image seen 0 else Idle [])
+  checked_own_coming p l true s image seen direct =
+      let inv : List ℕ = replicate sizes.invocation 0 in
+      let all = slice_set seen p (Some inv) in
+      (omega arith, (all, begins_coming p l image seen all (inr (direct, inv, length-replicate sizes.invocation 0, refl))))
+  checked_own_coming p l false s image seen direct = tt
+
+  -- and with one word more
+  wrote_coming : (p : ℕ) (l : Local) (tries s : ℕ) (image : Image) (seen all : List (Option (List ℕ))) (written k : ℕ) → length l.held ≡ 2 * buffer_words sizes → l.spare ≤ 1 → k < buffer_words sizes
+      → HasComeTo object sizes p l image seen all written k
+      → IsComing p (wrote l k (held_place sizes l.spare k) (slice_index (spell (with_seen object image 0 all)) k)) (Writing tries s image seen (k + 1))
+  wrote_coming p l tries s image seen all written k long either below come =
+      let wanted = spell (with_seen object image 0 all) in
+      let at = held_place sizes l.spare k in (
+        omega (arith, below),
+        (
+          all,
+          (
+            come.0,
+            omega arith,
+            λ i inside. ⊎_elim
+                (λ before. get_or-set_other l.held at (held_place sizes l.spare i) (slice_index wanted k) 0 (λ e. let b = before.0 in omega (arith, e, b)) ∙ come.2 i before.0)
+                (λ after.
+                let same : i ≡ k = omega (arith, after.0, inside) in
+                ap (λ j. slice_index (slice_set l.held at (slice_index wanted k)) (held_place sizes l.spare j)) same
+                ∙ get_or-set_same l.held at (slice_index wanted k) 0 (let b = place_below sizes l.spare k either below in omega (arith, b, long))
+                ∙ ap (slice_index wanted) (sym same))
+                (lt_cases i k),
+          ),
+        ),
+      )
+
+  rests_coming : (p : ℕ) (l : Local) (stage : Stage) → IsComing p l stage → IsComing p (rests l) stage
+  rests_coming p l (Idle stored) h = tt
+  rests_coming p l (Ready tries) h = tt
+  rests_coming p l (Reading tries s copy seen) h = tt
+  rests_coming p l (Writing tries s image seen written) h = h
+  rests_coming p l (Last s loaded) h = tt
+
+  restarted_coming : (p : ℕ) (l : Local) (b : Bool) → IsComing p l (if b then Ready 0 else Idle [])
+  restarted_coming p l true = tt
+  restarted_coming p l false = tt
 
   restarted_stands : (b : Bool) → IsStanding sizes (if b then Ready 0 else Idle [])
   restarted_stands true = tt
@@ -207,68 +220,75 @@ module _ (object : Sequential (List ℕ) (List ℕ) (List ℕ)) (sizes : Sizes) 
   one_or_none true = omega arith
   one_or_none false = omega arith
 
-  stands_after : (p : ℕ) (l : Local) → Stands l → (next : Next object sizes p l) (found : ℕ) → Stands ((access_of object sizes p l next).leaves found)
-  stands_after p l h (Store [] x at inside room) found = record { standing = omega (arith, inside); mode = room; long = h.long; either = h.either }
+  stands_after : (p : ℕ) (l : Local) → Stands p l → (next : Next object sizes p l) (found : ℕ) → Stands p ((access_of object sizes p l next).leaves found)
+  stands_after p l h (Store [] x at inside room) found = record { standing = omega (arith, inside); coming = tt; mode = room; long = h.long; either = h.either }
   stands_after p l h (Store (y ∷ stored) x at inside room) found =
-      record { standing = (let e = length-push stored x in omega (arith, e, inside)); mode = room; long = h.long; either = h.either }
-  stands_after p l h (Announce inv at whole few) found = record { standing = tt; mode = refl; long = h.long; either = h.either }
-  stands_after p l h (Follow at) found = record { standing = h.standing; mode = h.mode; long = h.long; either = h.either }
-  stands_after p l h Recount found = record { standing = h.standing; mode = h.mode; long = h.long; either = h.either }
-  stands_after p l h (Reread which k either below) found = record { standing = h.standing; mode = h.mode; long = h.long; either = h.either }
+      record { standing = (let e = length-push stored x in omega (arith, e, inside)); coming = tt; mode = room; long = h.long; either = h.either }
+  stands_after p l h (Announce inv at whole few) found = record { standing = tt; coming = tt; mode = refl; long = h.long; either = h.either }
+  stands_after p l h (Follow at) found = record { standing = h.standing; coming = subst (λ k. IsComing p (knows l (version_in found)) k) (sym at) tt; mode = h.mode; long = h.long; either = h.either }
+  stands_after p l h Recount found = record { standing = h.standing; coming = rests_coming p l l.stage h.coming; mode = h.mode; long = h.long; either = h.either }
+  stands_after p l h (Reread which k either below) found = record { standing = h.standing; coming = rests_coming p l l.stage h.coming; mode = h.mode; long = h.long; either = h.either }
   stands_after p l h Restart found = record {
     standing = restarted_stands (has_begun l.stage l.direct);
+    coming = restarted_coming p (restarted l p found (has_begun l.stage l.direct)) (has_begun l.stage l.direct);
     mode = restarted_mode (has_begun l.stage l.direct) (length l.own);
     long = h.long;
     either = one_or_none (buffer_in found == 2 * p + 1);
   }
   stands_after p l h (Begin at untried few) found =
-      record { standing = inl (refl, begun_most sizes (buffer_in found / 2 == p) (drop (buffer_in found % 2 * buffer_words sizes) l.held)); mode = inr (refl, refl, few); long = h.long; either = h.either }
+      record { standing = inl (refl, begun_most sizes (buffer_in found / 2 == p) (drop (buffer_in found % 2 * buffer_words sizes) l.held)); coming = tt; mode = inr (refl, refl, few); long = h.long; either = h.either }
   stands_after p l h (Start tries at few) found =
       let mode = subst (λ k. IsInMode k l.direct (length l.own)) at h.mode in
-      record { standing = inl (refl, begun_most sizes (buffer_in found / 2 == p) (drop (buffer_in found % 2 * buffer_words sizes) l.held)); mode = inl mode; long = h.long; either = h.either }
+      record { standing = inl (refl, begun_most sizes (buffer_in found / 2 == p) (drop (buffer_in found % 2 * buffer_words sizes) l.held)); coming = tt; mode = inl mode; long = h.long; either = h.either }
   stands_after p l h (Copy tries s copy at more) found =
       let mode = subst (λ k. IsInMode k l.direct (length l.own)) at h.mode in
-      record { standing = inl (refl, let e = length-push copy found in omega (arith, e, more)); mode = mode; long = h.long; either = h.either }
+      record { standing = inl (refl, let e = length-push copy found in omega (arith, e, more)); coming = tt; mode = mode; long = h.long; either = h.either }
   stands_after p l h (Look tries s copy seen at copied whole more) found =
       let mode = subst (λ k. IsInMode k l.direct (length l.own)) at h.mode in
-      record { mode = mode; standing = inr (copied, looked_scan sizes seen whole more (nat_le found (slice_index copy (length seen)))); long = h.long; either = h.either }
+      record { coming = tt; mode = mode; standing = inr (copied, looked_scan sizes seen whole more (nat_le found (slice_index copy (length seen)))); long = h.long; either = h.either }
   stands_after p l h (Ask tries s copy seen part at inside more) found =
       let open_is = last_open sizes tries s copy seen part more (subst (λ k. IsStanding sizes k) at h.standing) in
       let mode = subst (λ k. IsInMode k l.direct (length l.own)) at h.mode in
-      record { mode = mode; standing = inr (open_is.0, asked_scan sizes seen part found open_is.1 inside more); long = h.long; either = h.either }
+      record { coming = tt; mode = mode; standing = inr (open_is.0, asked_scan sizes seen part found open_is.1 inside more); long = h.long; either = h.either }
   stands_after p l h (Check tries s copy seen at copied whole all announced) found = record {
     mode = checked_mode (found == s) (slice_index copy p == length l.own + 1) tries s (read_image sizes copy) seen l.direct (length l.own) announced;
+    coming = checked_coming p (goes l (checked sizes p (length l.own + 1) tries s copy seen found)) (found == s) (slice_index copy p == length l.own + 1) tries s (read_image sizes copy) seen announced;
     standing = checked_stands (found == s) (slice_index copy p == length l.own + 1) tries s (read_image sizes copy) seen;
     long = h.long;
     either = h.either;
   }
   stands_after p l h (CheckOwn s copy seen at copied whole all direct) found = record {
+    coming = checked_own_coming p (goes l (checked_own sizes s copy seen found)) (found == s) s (read_image sizes copy) seen direct;
     standing = checked_own_stands (found == s) s (read_image sizes copy) seen;
     mode = checked_own_mode (found == s) s (read_image sizes copy) seen l.direct (length l.own) (subst (λ k. IsInMode k l.direct (length l.own)) at h.mode);
     long = h.long;
     either = h.either;
   }
-  stands_after p l h (Write tries s image seen all k at applied below differs) found = record {
-    standing = h.standing;
-    mode = h.mode;
-    long = length-set l.held (held_place sizes l.spare k) (slice_index (spell (with_seen object image 0 all)) k) ∙ h.long;
-    either = h.either;
-  }
-  stands_after p l h (Bring tries s image seen at written announced) found = ⊎_elim
-      (λ same. rw same.1 (record { standing = some_reply; mode = tt; long = h.long; either = omega arith }))
-      (λ other. rw other.1 (record { standing = tt; mode = announced; long = h.long; either = h.either }))
+  stands_after p l h (Write tries s image seen all written k at come below) found =
+      let x = slice_index (spell (with_seen object image 0 all)) k in
+      let l' = wrote l k (held_place sizes l.spare k) x in
+      record {
+        standing = subst (λ z. IsStanding sizes (written_to z (k + 1))) (sym at) tt;
+        coming = subst (λ z. IsComing p l' (written_to z (k + 1))) (sym at) (wrote_coming p l tries s image seen all written k h.long h.either below come);
+        mode = subst (λ z. IsInMode (written_to z (k + 1)) l.direct (length l.own)) (sym at) (subst (λ z. IsInMode z l.direct (length l.own)) at h.mode);
+        long = length-set l.held (held_place sizes l.spare k) x ∙ h.long;
+        either = h.either;
+      }
+  stands_after p l h (Bring tries s image seen to at written announced) found = ⊎_elim
+      (λ same. rw same.1 (record { standing = some_reply; coming = tt; mode = tt; long = h.long; either = omega arith }))
+      (λ other. rw other.1 (record { standing = tt; coming = tt; mode = announced; long = h.long; either = h.either }))
       (number_cases found s)
-  stands_after p l h (BringOwn s image seen inv at written direct whole few) found = ⊎_elim
-      (λ same. rw same.1 (record { standing = some_reply; mode = tt; long = h.long; either = omega arith }))
-      (λ other. rw other.1 (record { standing = omega arith; mode = inr few; long = h.long; either = h.either }))
+  stands_after p l h (BringOwn s image seen to inv at written direct whole few) found = ⊎_elim
+      (λ same. rw same.1 (record { standing = some_reply; coming = tt; mode = tt; long = h.long; either = omega arith }))
+      (λ other. rw other.1 (record { standing = omega arith; coming = tt; mode = inr few; long = h.long; either = h.either }))
       (number_cases found s)
-  stands_after p l h (Turn tries at two announced) found = record { standing = some_reply; mode = tt; long = h.long; either = h.either }
+  stands_after p l h (Turn tries at two announced) found = record { standing = some_reply; coming = tt; mode = tt; long = h.long; either = h.either }
   stands_after p l h (Load s loaded at more) found =
-      record { standing = (let e = length-push loaded found in omega (arith, e, more)); mode = tt; long = h.long; either = h.either }
-  stands_after p l h (Reply s loaded at last) found = record { standing = omega arith; mode = inl refl; long = h.long; either = h.either }
+      record { standing = (let e = length-push loaded found in omega (arith, e, more)); coming = tt; mode = tt; long = h.long; either = h.either }
+  stands_after p l h (Reply s loaded at last) found = record { standing = omega arith; coming = tt; mode = inl refl; long = h.long; either = h.either }
 
   abbrev pub AllStand : Moment → Type 0
-  AllStand m = (p : ℕ) → p < sizes.processes → Stands (m.local p)
+  AllStand m = (p : ℕ) → p < sizes.processes → Stands p (m.local p)
 
   stand_after : (m : Moment) → AllStand m → (p : ℕ) → p < sizes.processes → (next : Next object sizes p (m.local p))
       → AllStand (after_access object sizes m p (access_of object sizes p (m.local p) next))
@@ -276,9 +296,9 @@ module _ (object : Sequential (List ℕ) (List ℕ) (List ℕ)) (sizes : Sizes) 
       let a = access_of object sizes p (m.local p) next in
       let found = slice_index m.words a.word in
       ⊎_elim
-      (λ here. subst (λ l. Stands l) (sym here.1) (stands_after p (m.local p) (h p inside) next found))
-      (λ other. subst (λ l. Stands l) (sym other.1) (h q within))
-      (set_at-cases m.local p (a.leaves found) q)
+      (λ same. subst (λ b. Stands q (if b then a.leaves found else m.local q)) (sym same.1) (subst (λ k. Stands k (a.leaves found)) (sym same.0) (stands_after p (m.local p) (h p inside) next found)))
+      (λ other. subst (λ b. Stands q (if b then a.leaves found else m.local q)) (sym other.1) (h q within))
+      (number_cases q p)
 
   pub stand_at_end : {m : Moment} → AllStand m → (e : Execution object sizes m) → AllStand (last_moment object sizes e)
   stand_at_end h Ends = h
@@ -291,14 +311,14 @@ module _ (object : Sequential (List ℕ) (List ℕ) (List ℕ)) (sizes : Sizes) 
       (lt_cases (length stored) sizes.invocation)
 
   -- a process in the midst of a call can take a step
-  next_of : (1 ≤ sizes.processes) → (p : ℕ) (l : Local) (stage : Stage) → l.stage ≡ stage → IsStanding sizes stage → IsInMode stage l.direct (length l.own) → IsPending stage l.direct → Next object sizes p l
-  next_of some p l (Idle []) at standing mode pending = ⊎_elim
+  next_of : (1 ≤ sizes.processes) → (p : ℕ) (l : Local) (stage : Stage) → l.stage ≡ stage → IsStanding sizes stage → IsInMode stage l.direct (length l.own) → IsComing p l stage → IsPending stage l.direct → Next object sizes p l
+  next_of some p l (Idle []) at standing mode coming pending = ⊎_elim
       (λ none. absurd (let e : true ≡ false = sym pending ∙ none in cc))
       (λ room. store_or_announce p l [] at standing room)
       mode
-  next_of some p l (Idle (y ∷ stored)) at standing mode pending = store_or_announce p l (y ∷ stored) at standing mode
-  next_of some p l (Ready tries) at standing mode pending = ⊎_elim (λ few. Start tries at few.0) (λ two. Turn tries at two.0 mode) (lt_cases tries 2)
-  next_of some p l (Reading tries s copy seen) at standing mode pending = ⊎_elim
+  next_of some p l (Idle (y ∷ stored)) at standing mode coming pending = store_or_announce p l (y ∷ stored) at standing mode
+  next_of some p l (Ready tries) at standing mode coming pending = ⊎_elim (λ few. Start tries at few.0) (λ two. Turn tries at two.0 mode) (lt_cases tries 2)
+  next_of some p l (Reading tries s copy seen) at standing mode coming pending = ⊎_elim
       (λ copying. ⊎_elim
       (λ more. Copy tries s copy (at ∙ ap (λ x. Reading tries s copy x) copying.0) more.0)
       (λ all. Look tries s copy [] (at ∙ ap (λ x. Reading tries s copy x) copying.0) (let a = all.0 in let b = copying.1 in omega arith) (whole_none sizes) some)
@@ -314,19 +334,21 @@ module _ (object : Sequential (List ℕ) (List ℕ) (List ℕ)) (sizes : Sizes) 
       (λ last. Ask tries s copy last.0 last.1 (at ∙ ap (λ x. Reading tries s copy x) last.2) last.4 last.5)
       scanning.1)
       standing
-  next_of some p l (Writing tries s image seen) at standing mode pending = ⊎_elim
-      (λ announced. ⊎_elim
-      (λ all. Bring tries s image seen at all announced)
-      (λ differ. Write tries s image seen seen differ.0 at (inl (announced, refl)) differ.1 differ.2)
-      (find (λ i. slice_index l.held (held_place sizes l.spare i)) (λ i. slice_index (spell (with_seen object image 0 seen)) i) (buffer_words sizes)))
-      (λ own.
-      let inv : List ℕ = replicate sizes.invocation 0 in
+  next_of some p l (Writing tries s image seen written) at standing mode coming pending = ⊎_elim
+      (λ more. Write tries s image seen coming.1.0 written written at coming.1.1 more.0)
+      (λ all.
+      let come = coming.1.1 in
+      let whole : written ≡ buffer_words sizes = (let a = all.0 in let b = coming.0 in omega (arith, a, b)) in
+      let is_written : IsWritten object sizes l image coming.1.0 = subst (λ k. IsWrittenTo object sizes l image coming.1.0 k) whole come.2 in
       ⊎_elim
-      (λ all. BringOwn s image seen inv (at ∙ ap (λ k. Writing k s image seen) own.1) all own.0 (length-replicate sizes.invocation 0) own.2)
-      (λ differ. Write tries s image seen (slice_set seen p (Some inv)) differ.0 at (inr (own.0, inv, refl)) differ.1 differ.2)
-      (find (λ i. slice_index l.held (held_place sizes l.spare i)) (λ i. slice_index (spell (with_seen object image 0 (slice_set seen p (Some inv)))) i) (buffer_words sizes)))
-      mode
-  next_of some p l (Last s loaded) at standing mode pending = ⊎_elim
+      (λ announced. Bring tries s image seen written at (subst (λ x. IsWritten object sizes l image x) announced.1 is_written) announced.0)
+      (λ own. ⊎_elim
+      (λ none. absurd (let e : true ≡ false = sym own.0 ∙ none in cc))
+      (λ room. BringOwn s image seen written own.1 (at ∙ ap (λ k. Writing k s image seen written) room.1) (subst (λ x. IsWritten object sizes l image x) own.3 is_written) own.0 own.2 room.2)
+      mode)
+      come.0)
+      (lt_cases written (buffer_words sizes))
+  next_of some p l (Last s loaded) at standing mode coming pending = ⊎_elim
       (λ more. Load s loaded at more.0)
       (λ all. Reply s loaded at (let a = all.0 in omega (arith, a, standing)))
       (lt_cases (length loaded + 1) sizes.reply)
@@ -370,49 +392,26 @@ to_look-less sizes k below =
     ap (λ j. j * suc sizes.invocation) (let e : sizes.processes - k ≡ suc (sizes.processes - (k + 1)) = omega (arith, below) in e)
     ∙ suc-mul (sizes.processes - (k + 1)) (suc sizes.invocation)
 
-place_below : (sizes : Sizes) (which i : ℕ) → which ≤ 1 → i < buffer_words sizes → held_place sizes which i < 2 * buffer_words sizes
-place_below sizes zero i either below = let e : held_place sizes 0 i ≡ i = omega arith in omega (arith, e, below)
-place_below sizes (suc zero) i either below = let e : held_place sizes 1 i ≡ buffer_words sizes + i = omega arith in omega (arith, e, below)
-place_below sizes (suc (suc w)) i either below = absurd (omega (arith, either))
-
 module _ (object : Sequential (List ℕ) (List ℕ) (List ℕ)) (sizes : Sizes) (some_reply : 1 ≤ sizes.reply) where
-  -- the words of the spare buffer, and those that it is to have
-  abbrev there : Local → ℕ → ℕ
-  there l i = slice_index l.held (held_place sizes l.spare i)
-
-  abbrev wanted : Image → List (Option (List ℕ)) → ℕ → ℕ
-  wanted image seen i = slice_index (spell (with_seen object image 0 seen)) i
-
   -- after a direct attempt that failed, a call is still to be made as if there had been none
   abbrev unless_announced : (direct : Bool) (steps : ℕ) → ℕ
   unless_announced true steps = announced_steps sizes
   unless_announced false steps = steps
 
-  -- how many words an attempt still stores at most
-  abbrev to_write : (direct : Bool) → Local → Image → (seen : List (Option (List ℕ))) → (plan : Option (List (Option (List ℕ)))) → ℕ
-  to_write false l image seen plan = count (there l) (wanted image seen) (buffer_words sizes)
-  to_write true l image seen None = buffer_words sizes
-  to_write true l image seen (Some all) = count (there l) (wanted image all) (buffer_words sizes)
-
   -- how many steps of its call a process can still take at most
-  abbrev left : Local → (plan : Option (List (Option (List ℕ)))) → Stage → ℕ
-  left l plan (Idle []) = unless_announced l.direct 0
-  left l plan (Idle (y ∷ stored)) = (sizes.invocation - suc (length stored)) + 1 + (2 * most sizes + (1 + sizes.reply))
-  left l plan (Ready tries) = (2 - tries) * most sizes + (1 + sizes.reply)
-  left l plan (Reading tries s copy seen) =
-      unless_announced l.direct ((1 - tries) * most sizes + (1 + sizes.reply))
+  abbrev left : (direct : Bool) → Stage → ℕ
+  left direct (Idle []) = unless_announced direct 0
+  left direct (Idle (y ∷ stored)) = (sizes.invocation - suc (length stored)) + 1 + (2 * most sizes + (1 + sizes.reply))
+  left direct (Ready tries) = (2 - tries) * most sizes + (1 + sizes.reply)
+  left direct (Reading tries s copy seen) =
+      unless_announced direct ((1 - tries) * most sizes + (1 + sizes.reply))
       + ((buffer_words sizes - length copy) + to_look sizes (length seen) + lacking sizes seen + buffer_words sizes + 2)
-  left l plan (Writing tries s image seen) =
-      unless_announced l.direct ((1 - tries) * most sizes + (1 + sizes.reply)) + (to_write l.direct l image seen plan + 1)
-  left l plan (Last s loaded) = sizes.reply - length loaded
+  left direct (Writing tries s image seen written) =
+      unless_announced direct ((1 - tries) * most sizes + (1 + sizes.reply)) + ((buffer_words sizes - written) + 1)
+  left direct (Last s loaded) = sizes.reply - length loaded
 
-  abbrev IsWithin : Local → Stage → (taken : ℕ) → (plan : Option (List (Option (List ℕ)))) → Type 0
-  IsWithin l stage taken plan = taken + left l plan stage ≤ call_steps sizes
-
-  -- what is left after a direct attempt is no less than what is left once the call is in
-  reply_least : (direct : Bool) (steps : ℕ) → 1 + sizes.reply ≤ steps → 1 + sizes.reply ≤ unless_announced direct steps
-  reply_least true steps h = let e = steps_are sizes in omega (arith, e)
-  reply_least false steps h = h
+  abbrev IsWithin : (direct : Bool) → Stage → (taken : ℕ) → Type 0
+  IsWithin direct stage taken = taken + left direct stage ≤ call_steps sizes
 
   unless_false : (direct : Bool) (steps : ℕ) → direct ≡ false → unless_announced direct steps ≡ steps
   unless_false direct steps e = ap (λ b. unless_announced b steps) e
@@ -426,24 +425,27 @@ module _ (object : Sequential (List ℕ) (List ℕ) (List ℕ)) (sizes : Sizes) 
   same_tries : (tries : ℕ) → (2 - (tries + 1)) * most sizes ≡ (1 - tries) * most sizes
   same_tries tries = ap (λ k. k * most sizes) (let e : 2 - (tries + 1) ≡ 1 - tries = omega arith in e)
 
-  checked_within : (l : Local) (b c : Bool) (tries s : ℕ) (image : Image) (seen : List (Option (List ℕ))) (taken : ℕ) → l.direct ≡ false
+  checked_within : (direct b c : Bool) (tries s : ℕ) (image : Image) (seen : List (Option (List ℕ))) (taken : ℕ) → direct ≡ false
       → taken + 1 + ((1 - tries) * most sizes + (1 + sizes.reply) + (buffer_words sizes + 1)) ≤ call_steps sizes
-      → IsWithin l (if b then (if c then Last s [] else Writing tries s image seen) else Ready (tries + 1)) (taken + 1) None
-  checked_within l true true tries s image seen taken announced h = omega (arith, h)
-  checked_within l true false tries s image seen taken announced h =
-      let u = unless_false l.direct ((1 - tries) * most sizes + (1 + sizes.reply)) announced in
-      let t : to_write l.direct l image seen None ≡ count (there l) (wanted image seen) (buffer_words sizes) = ap (λ b. to_write b l image seen None) announced in
-      let m = count_most (there l) (wanted image seen) (buffer_words sizes) in omega (arith, h, u, t, m)
-  checked_within l false c tries s image seen taken announced h = let e = same_tries tries in omega (arith, h, e)
+      → IsWithin direct (if b then (if c then Last s [] else Writing tries s image seen 0) else Ready (tries + 1)) (taken + 1)
+  checked_within direct true true tries s image seen taken announced h = omega (arith, h)
+  checked_within direct true false tries s image seen taken announced h =
+      let u = unless_false direct ((1 - tries) * most sizes + (1 + sizes.reply)) announced in omega (arith, h, u)
+  checked_within direct false c tries s image seen taken announced h = let e = same_tries tries in omega (arith, h, e)
 
-  checked_own_within : (l : Local) (b : Bool) (s : ℕ) (image : Image) (seen : List (Option (List ℕ))) (taken : ℕ) → l.direct ≡ true
+  checked_own_within : (direct b : Bool) (s : ℕ) (image : Image) (seen : List (Option (List ℕ))) (taken : ℕ) → direct ≡ true
       → taken + 1 + (announced_steps sizes + (buffer_words sizes + 1)) ≤ call_steps sizes
-      → IsWithin l (if b then Writing 0 s image seen else Idle []) (taken + 1) None
-  checked_own_within l true s image seen taken direct h =
-      let u = unless_true l.direct ((1 - 0) * most sizes + (1 + sizes.reply)) direct in
-      let t : to_write l.direct l image seen None ≡ buffer_words sizes = ap (λ b. to_write b l image seen None) direct in omega (arith, h, u, t)
-  checked_own_within l false s image seen taken direct h =
-      let u = unless_true l.direct 0 direct in omega (arith, h, u)
+      → IsWithin direct (if b then Writing 0 s image seen 0 else Idle []) (taken + 1)
+  checked_own_within direct true s image seen taken is h =
+      let u = unless_true direct ((1 - 0) * most sizes + (1 + sizes.reply)) is in omega (arith, h, u)
+  checked_own_within direct false s image seen taken is h =
+      let u = unless_true direct 0 is in omega (arith, h, u)
+
+  -- a call that begins again has all its steps
+  restarted_within : (b : Bool) → IsWithin false (if b then Ready 0 else Idle []) 0
+  restarted_within true =
+      let e = steps_are sizes in let m = most_is sizes in let t : (2 - 0) * most sizes ≡ most sizes + most sizes = omega arith in omega (arith, e, m, t)
+  restarted_within false = omega arith
 
   -- the words of an invocation that come after the first one, and the rest of the call
   stored_within : (direct : Bool) (stored : ℕ) → stored + 1 ≤ sizes.invocation → (taken : ℕ) → taken + unless_announced direct 0 ≤ call_steps sizes
@@ -458,89 +460,67 @@ module _ (object : Sequential (List ℕ) (List ℕ) (List ℕ)) (sizes : Sizes) 
   announced_within false taken w =
       let e = steps_are sizes in let m = most_is sizes in let t : (2 - 0) * most sizes ≡ most sizes + most sizes = omega arith in omega (arith, e, m, t)
 
-  -- a word is stored: of what was seen, or of what a direct attempt applies already, or chooses now
-  written_within : (p : ℕ) (direct : Bool) (l l' : Local) (tries : ℕ) (image : Image) (seen all : List (Option (List ℕ))) (taken : ℕ) (plan : Option (List (Option (List ℕ)))) → AreApplied direct p seen all
-      → count (there l') (wanted image all) (buffer_words sizes) + 1 ≡ count (there l) (wanted image all) (buffer_words sizes) → Where direct (IsPlanned plan all)
-      → taken + (unless_announced direct ((1 - tries) * most sizes + (1 + sizes.reply)) + (to_write direct l image seen plan + 1)) ≤ call_steps sizes
-      → taken + 1 + (unless_announced direct ((1 - tries) * most sizes + (1 + sizes.reply)) + (to_write direct l' image seen (Some all) + 1)) ≤ call_steps sizes
-  written_within p false l l' tries image seen all taken plan applied less keeps w =
-      let same : all ≡ seen = ⊎_elim (λ its. its.1) (λ own. absurd (let e : false ≡ true = own.0 in cc)) applied in
-      let less' = subst (λ (x : List (Option (List ℕ))). count (there l') (wanted image x) (buffer_words sizes) + 1 ≡ count (there l) (wanted image x) (buffer_words sizes)) same less in
-      omega (arith, w, less')
-  written_within p true l l' tries image seen all taken None applied less keeps w =
-      let m = count_most (there l) (wanted image all) (buffer_words sizes) in omega (arith, w, less, m)
-  written_within p true l l' tries image seen all taken (Some was) applied less keeps w =
-      let w' = subst (λ (x : List (Option (List ℕ))). taken + (unless_announced true ((1 - tries) * most sizes + (1 + sizes.reply)) + (to_write true l image seen (Some x) + 1)) ≤ call_steps sizes) (sym keeps) w in
-      omega (arith, w', less)
-
-  within_after : (p : ℕ) (l : Local) → Stands object sizes some_reply l → (next : Next object sizes p l) (found taken : ℕ) (plan : Option (List (Option (List ℕ))))
-      → KeepsPlan object sizes next plan → IsWithin l l.stage taken plan
-      → IsWithin ((access_of object sizes p l next).leaves found) ((access_of object sizes p l next).leaves found).stage (counted object sizes next taken) (planned object sizes next)
-  within_after p l h (Store [] x at inside room) found taken plan keeps w =
-      let w' = subst (λ k. IsWithin l k taken plan) at w in stored_within l.direct 0 (omega (arith, inside)) taken w'
-  within_after p l h (Store (y ∷ stored) x at inside room) found taken plan keeps w =
-      let w' = subst (λ k. IsWithin l k taken plan) at w in let e = length-push stored x in omega (arith, w', e, inside)
-  within_after p l h (Announce [] at whole few) found taken plan keeps w =
-      let w' = subst (λ k. IsWithin l k taken plan) at w in announced_within l.direct taken w'
-  within_after p l h (Announce (y ∷ inv) at whole few) found taken plan keeps w =
-      let w' = subst (λ k. IsWithin l k taken plan) at w in let t : (2 - 0) * most sizes ≡ most sizes + most sizes = omega arith in omega (arith, w', t, whole)
-  within_after p l h (Follow at) found taken plan keeps w = subst (λ k. taken + left l plan k ≤ call_steps sizes → taken + left (knows l (version_in found)) None k ≤ call_steps sizes) (sym at) (λ x. x) w
-  within_after p l h Recount found taken plan keeps w = absurd keeps
-  within_after p l h (Reread which k either below) found taken plan keeps w = absurd keeps
-  within_after p l h Restart found taken plan keeps w = absurd keeps
-  within_after p l h (Begin at untried few) found taken plan keeps w =
+  within_after : (p : ℕ) (l : Local) → Stands object sizes some_reply p l → (next : Next object sizes p l) (found taken : ℕ) → IsWithin l.direct l.stage taken
+      → IsWithin ((access_of object sizes p l next).leaves found).direct ((access_of object sizes p l next).leaves found).stage (counted object sizes next taken)
+  within_after p l h (Store [] x at inside room) found taken w =
+      let w' = subst (λ k. IsWithin l.direct k taken) at w in stored_within l.direct 0 (omega (arith, inside)) taken w'
+  within_after p l h (Store (y ∷ stored) x at inside room) found taken w =
+      let w' = subst (λ k. IsWithin l.direct k taken) at w in let e = length-push stored x in omega (arith, w', e, inside)
+  within_after p l h (Announce [] at whole few) found taken w =
+      let w' = subst (λ k. IsWithin l.direct k taken) at w in announced_within l.direct taken w'
+  within_after p l h (Announce (y ∷ inv) at whole few) found taken w =
+      let w' = subst (λ k. IsWithin l.direct k taken) at w in let t : (2 - 0) * most sizes ≡ most sizes + most sizes = omega arith in omega (arith, w', t, whole)
+  within_after p l h (Follow at) found taken w = w
+  within_after p l h Recount found taken w = w
+  within_after p l h (Reread which k either below) found taken w = w
+  within_after p l h Restart found taken w = restarted_within (has_begun l.stage l.direct)
+  within_after p l h (Begin at untried few) found taken w =
       let m = most_is sizes in let a = to_look-all sizes in
       let b = begun_most sizes (buffer_in found / 2 == p) (drop (buffer_in found % 2 * buffer_words sizes) l.held) in omega (arith, m, a, b)
-  within_after p l h (Start tries at few) found taken plan keeps w =
-      let w' = subst (λ k. IsWithin l k taken plan) at w in let m = most_is sizes in let t = one_try_less tries few in let a = to_look-all sizes in
+  within_after p l h (Start tries at few) found taken w =
+      let w' = subst (λ k. IsWithin l.direct k taken) at w in let m = most_is sizes in let t = one_try_less tries few in let a = to_look-all sizes in
       let b = begun_most sizes (buffer_in found / 2 == p) (drop (buffer_in found % 2 * buffer_words sizes) l.held) in
       let u = unless_false l.direct ((1 - tries) * most sizes + (1 + sizes.reply)) (subst (λ k. IsInMode k l.direct (length l.own)) at h.mode) in
       omega (arith, w', m, t, a, b, u)
-  within_after p l h (Copy tries s copy at more) found taken plan keeps w =
-      let w' = subst (λ k. IsWithin l k taken plan) at w in let e = length-push copy found in omega (arith, w', e, more)
-  within_after p l h (Look tries s copy seen at copied whole more) found taken plan keeps w =
-      let w' = subst (λ k. IsWithin l k taken plan) at w in
+  within_after p l h (Copy tries s copy at more) found taken w =
+      let w' = subst (λ k. IsWithin l.direct k taken) at w in let e = length-push copy found in omega (arith, w', e, more)
+  within_after p l h (Look tries s copy seen at copied whole more) found taken w =
+      let w' = subst (λ k. IsWithin l.direct k taken) at w in
       let x : Option (List ℕ) = looked copy (length seen) found in
       let e : to_look sizes (length (seen ++ x ∷ [])) ≡ to_look sizes (length seen + 1) = ap (to_look sizes) (length-push seen x) in
       let t = to_look-less sizes (length seen) more in
       let k = lacking-push sizes seen x in
       let i : lacking sizes (x ∷ []) ≤ sizes.invocation = lacking_looked sizes (nat_le found (slice_index copy (length seen))) in
       omega (arith, w', e, t, k, i)
-  within_after p l h (Ask tries s copy seen part at inside more) found taken plan keeps w =
-      let w' = subst (λ k. IsWithin l k taken plan) at w in
+  within_after p l h (Ask tries s copy seen part at inside more) found taken w =
+      let w' = subst (λ k. IsWithin l.direct k taken) at w in
       let e : to_look sizes (length (seen ++ Some part ∷ [])) ≡ to_look sizes (length seen + 1) = ap (to_look sizes) (length-push seen (Some part)) in
       let e' : to_look sizes (length (seen ++ Some (part ++ found ∷ []) ∷ [])) ≡ to_look sizes (length seen + 1) = ap (to_look sizes) (length-push seen (Some (part ++ found ∷ []))) in
       let k = lacking-push sizes seen (Some part) in
       let k' = lacking-push sizes seen (Some (part ++ found ∷ [])) in
       let n = length-push part found in
       omega (arith, w', e, e', k, k', n, more)
-  within_after p l h (Check tries s copy seen at copied whole all announced) found taken plan keeps w =
-      let w' = subst (λ k. IsWithin l k taken plan) at w in
+  within_after p l h (Check tries s copy seen at copied whole all announced) found taken w =
+      let w' = subst (λ k. IsWithin l.direct k taken) at w in
       let u = unless_false l.direct ((1 - tries) * most sizes + (1 + sizes.reply)) announced in
-      checked_within (goes l (checked sizes p (length l.own + 1) tries s copy seen found)) (found == s) (slice_index copy p == length l.own + 1) tries s (read_image sizes copy) seen taken announced (omega (arith, w', u))
-  within_after p l h (CheckOwn s copy seen at copied whole all direct) found taken plan keeps w =
-      let w' = subst (λ k. IsWithin l k taken plan) at w in
+      checked_within l.direct (found == s) (slice_index copy p == length l.own + 1) tries s (read_image sizes copy) seen taken announced (omega (arith, w', u))
+  within_after p l h (CheckOwn s copy seen at copied whole all direct) found taken w =
+      let w' = subst (λ k. IsWithin l.direct k taken) at w in
       let u = unless_true l.direct ((1 - 0) * most sizes + (1 + sizes.reply)) direct in
-      checked_own_within (goes l (checked_own sizes s copy seen found)) (found == s) s (read_image sizes copy) seen taken direct (omega (arith, w', u))
-  within_after p l h (Write tries s image seen all k at applied below differs) found taken plan keeps w =
-      let w' = subst (λ k. IsWithin l k taken plan) at w in
-      let x = wanted image all k in
-      let l' : Local = wrote l (held_place sizes l.spare k) x in
-      let less : count (there l') (wanted image all) (buffer_words sizes) + 1 ≡ count (there l) (wanted image all) (buffer_words sizes) =
-      count_less (there l) (there l') (wanted image all) (buffer_words sizes) k below differs
-      (get_or-set_same l.held (held_place sizes l.spare k) x 0 (let b = place_below sizes l.spare k h.either below in let g = h.long in omega (arith, b, g)))
-      (λ i apart. get_or-set_other l.held (held_place sizes l.spare k) (held_place sizes l.spare i) x 0 (λ e. apart (omega (arith, e)))) in
-      subst (λ j. taken + 1 + left l' (Some all) j ≤ call_steps sizes) (sym at)
-      (written_within p l.direct l l' tries image seen all taken plan applied less keeps w')
-  within_after p l h (Bring tries s image seen at written announced) found taken plan keeps w =
-      let w' = subst (λ k. IsWithin l k taken plan) at w in
+      checked_own_within l.direct (found == s) s (read_image sizes copy) seen taken direct (omega (arith, w', u))
+  within_after p l h (Write tries s image seen all written k at come below) found taken w =
+      let w' = subst (λ k. IsWithin l.direct k taken) at w in
+      let c = come.1 in
+      subst (λ z. IsWithin l.direct (written_to z (k + 1)) (taken + 1)) (sym at) (omega (arith, w', c, below))
+  within_after p l h (Bring tries s image seen to at written announced) found taken w =
+      let w' = subst (λ k. IsWithin l.direct k taken) at w in
       let u = unless_false l.direct ((1 - tries) * most sizes + (1 + sizes.reply)) announced in
       ⊎_elim
       (λ same. rw same.1 (omega (arith, w', u)))
       (λ other. let e = same_tries tries in rw other.1 (omega (arith, w', e, u)))
       (number_cases found s)
-  within_after p l h (BringOwn s image seen inv at written direct whole few) found taken plan keeps w =
-      let w' = subst (λ k. IsWithin l k taken plan) at w in
+  within_after p l h (BringOwn s image seen to inv at written direct whole few) found taken w =
+      let w' = subst (λ k. IsWithin l.direct k taken) at w in
       let u = unless_true l.direct ((1 - 0) * most sizes + (1 + sizes.reply)) direct in
       let v = unless_true l.direct 0 direct in
       let e = steps_are sizes in
@@ -548,38 +528,37 @@ module _ (object : Sequential (List ℕ) (List ℕ) (List ℕ)) (sizes : Sizes) 
       (λ same. rw same.1 (omega (arith, w', u, e)))
       (λ other. rw other.1 (omega (arith, w', u, v)))
       (number_cases found s)
-  within_after p l h (Turn tries at two announced) found taken plan keeps w = let w' = subst (λ k. IsWithin l k taken plan) at w in omega (arith, w')
-  within_after p l h (Load s loaded at more) found taken plan keeps w =
-      let w' = subst (λ k. IsWithin l k taken plan) at w in let e = length-push loaded found in omega (arith, w', e, more)
-  within_after p l h (Reply s loaded at last) found taken plan keeps w =
-      let w' = subst (λ k. IsWithin l k taken plan) at w in omega (arith, w', last)
+  within_after p l h (Turn tries at two announced) found taken w = let w' = subst (λ k. IsWithin l.direct k taken) at w in omega (arith, w')
+  within_after p l h (Load s loaded at more) found taken w =
+      let w' = subst (λ k. IsWithin l.direct k taken) at w in let e = length-push loaded found in omega (arith, w', e, more)
+  within_after p l h (Reply s loaded at last) found taken w =
+      let w' = subst (λ k. IsWithin l.direct k taken) at w in omega (arith, w', last)
 
-  within_end : (p : ℕ) {m : Moment} (taken : ℕ) (plan : Option (List (Option (List ℕ)))) → AllStand object sizes some_reply m → p < sizes.processes → IsWithin (m.local p) (m.local p).stage taken plan
-      → (e : Execution object sizes m) → KeepsPlans object sizes p plan e
-      → (last : Option (List (Option (List ℕ)))) × IsWithin ((last_moment object sizes e).local p) ((last_moment object sizes e).local p).stage (steps_of_call object sizes p taken e) last
-  within_end p taken plan h inside w Ends keeps = (plan, w)
-  within_end p taken plan h inside w (Steps {m = m} q within next rest) keeps =
+  within_end : (p : ℕ) {m : Moment} (taken : ℕ) → AllStand object sizes some_reply m → p < sizes.processes → IsWithin (m.local p).direct (m.local p).stage taken
+      → (e : Execution object sizes m)
+      → IsWithin ((last_moment object sizes e).local p).direct ((last_moment object sizes e).local p).stage (steps_of_call object sizes p taken e)
+  within_end p taken h inside w Ends = w
+  within_end p taken h inside w (Steps {m = m} q within next rest) =
       let a = access_of object sizes q (m.local q) next in
       let found = slice_index m.words a.word in
       let l' = a.leaves found in
-      within_end p (if p == q then counted object sizes next taken else taken) (if p == q then planned object sizes next else plan) (stand_after object sizes some_reply m h q within next) inside
+      within_end p (if p == q then counted object sizes next taken else taken) (stand_after object sizes some_reply m h q within next) inside
       (⊎_elim
       (λ same.
-      let keeps' : KeepsPlan object sizes next plan = subst (λ b. Where b (KeepsPlan object sizes next plan)) same.1 keeps.0 in
-      subst (λ b. IsWithin (if b then l' else m.local p) (if b then l' else m.local p).stage (if b then counted object sizes next taken else taken) (if b then planned object sizes next else plan)) (sym same.1)
-      (within_after q (m.local q) (h q within) next found taken plan keeps' (subst (λ k. IsWithin (m.local k) (m.local k).stage taken plan) same.0 w)))
-      (λ other. subst (λ b. IsWithin (if b then l' else m.local p) (if b then l' else m.local p).stage (if b then counted object sizes next taken else taken) (if b then planned object sizes next else plan)) (sym other.1) w)
+      subst (λ b. IsWithin (if b then l' else m.local p).direct (if b then l' else m.local p).stage (if b then counted object sizes next taken else taken)) (sym same.1)
+      (within_after q (m.local q) (h q within) next found taken (subst (λ k. IsWithin (m.local k).direct (m.local k).stage taken) same.0 w)))
+      (λ other. subst (λ b. IsWithin (if b then l' else m.local p).direct (if b then l' else m.local p).stage (if b then counted object sizes next taken else taken)) (sym other.1) w)
       (number_cases p q))
-      rest keeps.1
+      rest
 
 module _ (object : Sequential (List ℕ) (List ℕ) (List ℕ)) (sizes : Sizes) (few : 1 ≤ sizes.processes) (some_reply : 1 ≤ sizes.reply) (wide : length object.initial ≡ sizes.state) where
   opening_stands : AllStand object sizes some_reply (opened_moment object sizes)
-  opening_stands = λ p inside. record { standing = omega arith; mode = inl refl; long = Opening.held_length object sizes few wide; either = omega arith }
+  opening_stands = λ p inside. record { standing = omega arith; coming = tt; mode = inl refl; long = Opening.held_length object sizes few wide; either = omega arith }
 
   pub never_blocks : (e : Execution object sizes (opened_moment object sizes)) → NeverBlocks object sizes e
   never_blocks e = λ p inside pending.
       let h = stand_at_end object sizes some_reply opening_stands e p inside in
-      next_of object sizes some_reply few p ((last_moment object sizes e).local p) ((last_moment object sizes e).local p).stage refl h.standing h.mode pending
+      next_of object sizes some_reply few p ((last_moment object sizes e).local p) ((last_moment object sizes e).local p).stage refl h.standing h.mode h.coming pending
 
   pub keeps_bound : (e : Execution object sizes (opened_moment object sizes)) → KeepsBound object sizes e
-  keeps_bound e = λ p inside keeps. let w = (within_end object sizes some_reply p 0 None opening_stands inside (omega arith) e keeps).1 in omega (arith, w)
+  keeps_bound e = λ p inside. let w = within_end object sizes some_reply p 0 opening_stands inside (omega arith) e in omega (arith, w)

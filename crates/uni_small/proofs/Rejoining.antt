@@ -33,7 +33,7 @@ module _ {O : Type 0} (meaning : O → Meaning) (o : O) (sizes : Sizes) (id : �
     by_stage (Idle stored) c = c
     by_stage (Ready t) c = c
     by_stage (Reading t s copy seen) c = c
-    by_stage (Writing t s image seen) c = c
+    by_stage (Writing t s image seen w) c = c
     by_stage (Last s loaded) c = c
 
   -- how many calls it has begun
@@ -44,8 +44,8 @@ module _ {O : Type 0} (meaning : O → Meaning) (o : O) (sizes : Sizes) (id : �
   count_at g (Ready t) false c = c.announced
   count_at g (Reading t s copy seen) true c = c.announced
   count_at g (Reading t s copy seen) false c = c.announced
-  count_at g (Writing t s image seen) true c = c.announced
-  count_at g (Writing t s image seen) false c = c.announced
+  count_at g (Writing t s image seen w) true c = c.announced
+  count_at g (Writing t s image seen w) false c = c.announced
   count_at g (Last s loaded) direct c = c.announced
 
   pub recounts : Moves meaning o sizes id me (announce_word p) (λ x. x) nothing (λ found me'. HasRecounted st me found me')
@@ -90,8 +90,8 @@ module _ {O : Type 0} (meaning : O → Meaning) (o : O) (sizes : Sizes) (id : �
   call_again g s (Ready t) false c = c
   call_again g s (Reading t s' copy seen) true c = (c, refl)
   call_again g s (Reading t s' copy seen) false c = c
-  call_again g s (Writing t s' image seen) true c = (c, refl)
-  call_again g s (Writing t s' image seen) false c = c
+  call_again g s (Writing t s' image seen w) true c = (c, refl)
+  call_again g s (Writing t s' image seen w) false c = c
   call_again g s (Last s' loaded) direct c = c
 
   attempt_again : (g : Board) (b : ℕ) (begun : Bool) → g.since p ≤ g.version → IsAttemptAt object sizes g p b (if begun then Ready 0 else Idle [])

@@ -121,7 +121,7 @@ pub with_rows : (words : List ℕ) (from : ℕ) (a b d : List ℕ) → with_row 
 with_rows words from a b d = sym (with_row-append words from a (b ++ d) ∙ with_row-append (with_row words from a) (from + length a) b d)
 
 -- the words before it stay
-with_row-before : (words : List ℕ) (from : ℕ) (row : List ℕ) (j : ℕ) → j < from → slice_index (with_row words from row) j ≡ slice_index words j
+pub with_row-before : (words : List ℕ) (from : ℕ) (row : List ℕ) (j : ℕ) → j < from → slice_index (with_row words from row) j ≡ slice_index words j
 with_row-before words from [] j before = refl
 with_row-before words from (x ∷ row) j before =
     with_row-before (slice_set words from x) (from + 1) row j (omega arith) ∙ get_or-set_other words from j x 0 (λ (e : j ≡ from). omega arith)

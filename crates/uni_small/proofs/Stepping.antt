@@ -115,14 +115,13 @@ module _ {O : Type 0} (meaning : O → Meaning) (o : O) (sizes : Sizes) (st : St
         refl,
       )
 
-  pub write_steps : (k x : ℕ) → IsWriting (meaning o).object k x me → k < buffer_words sizes
-      → slice_index l.held (held_place sizes l.spare k) ≢ x → st.word ≡ buffer_word sizes (2 * p + l.spare) k
+  pub write_steps : (k x : ℕ) → IsWriting (meaning o).object sizes k x me → k < buffer_words sizes → st.word ≡ buffer_word sizes (2 * p + l.spare) k
       → Steps meaning o sizes me (buffer_word sizes (2 * p + l.spare) k) (λ y. x) nothing (λ found me'. HasWritten st me x me')
-  write_steps k x writing below differs word = λ g local words f me' said. (
-    Write writing.0 writing.1 writing.2 writing.3 writing.4 k writing.5 writing.6 below (λ e. differs (e ∙ sym writing.7)),
+  write_steps k x writing below word = λ g local words f me' said. (
+    Write writing.0 writing.1 writing.2 writing.3 writing.4 writing.5 k writing.6 writing.7 below,
     refl,
-    sym writing.7,
-    (λ i. wrote l (held_place (sym f.processes i) l.spare k) (sym writing.7 i)) ∙ left_at me me' _ (said k (word ∙ ap (λ (z : Sizes). buffer_word z (2 * p + l.spare) k) (sym f.processes))),
+    sym writing.8,
+    (λ i. wrote l k (held_place (sym f.processes i) l.spare k) (sym writing.8 i)) ∙ left_at me me' _ (said k (word ∙ ap (λ (z : Sizes). buffer_word z (2 * p + l.spare) k) (sym f.processes))),
     refl,
   )
 
@@ -131,12 +130,12 @@ module _ {O : Type 0} (meaning : O → Meaning) (o : O) (sizes : Sizes) (st : St
   bring_steps tries s all announced word = λ g local words f me' said.
       let image = all.0 in
       let seen = all.1.0 in
-      let stage = all.1.1 in
+      let stage = all.1.2 in
       let found = slice_index words 0 in (
-        Bring tries s image seen stage all.1.2 announced,
+        Bring tries s image seen all.1.1 stage all.1.3 announced,
         refl,
         ap (λ new. if found == s then new else found) (sym word) ∙ either_is (found == s) st.second found,
-        ap (λ new. brought l tries s new found) (sym word) ∙ left_at me me' _ (said tries s image seen stage),
+        ap (λ new. brought l tries s new found) (sym word) ∙ left_at me me' _ (said tries s all.1.1 image seen stage),
         ⊎_elim
             (λ same.
             let now = (subst (λ k. IsAttemptAt (meaning o).object sizes g p (2 * p + l.spare) k) stage f.mine.attempt).1 (let a = same.0 in let b = f.words_are.current in omega (arith, a, b)) in
@@ -151,9 +150,9 @@ module _ {O : Type 0} (meaning : O → Meaning) (o : O) (sizes : Sizes) (st : St
   bring_own_steps s inv all direct whole few word = λ g local words f me' said.
       let image = all.0 in
       let seen = all.1.0 in
-      let stage = all.1.1 in
+      let stage = all.1.2 in
       let found = slice_index words 0 in (
-        BringOwn s image seen inv stage all.1.2 direct whole (omega (arith, few)),
+        BringOwn s image seen all.1.1 inv stage all.1.3 direct whole (omega (arith, few)),
         refl,
         ap (λ new. if found == s then new else found) (sym word) ∙ either_is (found == s) st.second found,
         ap (λ new. brought_own l s new inv found) (sym word) ∙ left_at me me' _ said,

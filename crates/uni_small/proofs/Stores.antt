@@ -1,5 +1,5 @@
 -- The word steps that store.
-use Rattle.uni_small.proofs.Vocabulary.{AreHeld, Board, Bool, HasAnnounced, HasStored, HasWritten, Idle, IsAttemptAt, IsAttempted, IsBeginning, IsCallAt, IsClosed, IsStoring, IsWriting, List, Local, MayBeWritten, Me, Meaning, Moves, Seen, Sequential, Sizes, Step, View, Writing, [], announce_word, announces, ap, append-nil, argument_word, arith, begins, buffer_word, buffer_words, false, get_or-set_other, get_or-set_same, goes, held_place, in_of, inl, inr, length, length-set, most_calls, nothing, number_cases, refl, reply_place, set_at, set_at-cases, set_at_elsewhere, set_at_same, slice_index, slice_set, spell, stage_of, subst, sym, true, with_local, with_seen, wrote, ℕ, ◌*◌, ◌++◌, ◌+◌, ◌<◌, ◌∙◌, ◌∷◌, ◌≡◌, ◌≢◌, ◌≤◌}
+use Rattle.uni_small.proofs.Vocabulary.{AreHeld, Board, Bool, HasAnnounced, HasStored, HasWritten, Idle, IsAttemptAt, IsAttempted, IsBeginning, IsCallAt, IsClosed, IsStoring, IsWriting, List, Local, MayBeWritten, Me, Meaning, Moves, Seen, Sequential, Sizes, Step, View, Writing, [], announce_word, announces, ap, append-nil, argument_word, arith, begins, buffer_word, buffer_words, false, get_or-set_other, get_or-set_same, goes, held_place, in_of, inl, inr, length, length-set, most_calls, nothing, number_cases, refl, reply_place, set_at, set_at-cases, set_at_elsewhere, set_at_same, slice_index, slice_set, spell, stage_of, subst, sym, true, with_local, with_seen, wrote, ℕ, ◌*◌, ◌++◌, ◌+◌, ◌<◌, ◌∙◌, ◌∷◌, ◌≡◌, ◌≢◌, ◌≤◌, written_to}
 use Rattle.uni_small.proofs.Frame.{step_law, sound_with}
 use Rattle.uni_small.proofs.Stepping.{announce_steps, store_steps, write_steps}
 use Rattle.uni_small.proofs.Images.{spell-reply}
@@ -135,21 +135,23 @@ module _ {O : Type 0} (meaning : O → Meaning) (o : O) (sizes : Sizes) (id : �
       })
 
   -- a word of the spare buffer is stored
-  pub writes : (k x : ℕ) → IsWriting object k x me → k < buffer_words sizes → slice_index l.held (held_place sizes l.spare k) ≢ x → st.word ≡ buffer_word sizes (2 * p + l.spare) k
+  pub writes : (k x : ℕ) → IsWriting object sizes k x me → k < buffer_words sizes → st.word ≡ buffer_word sizes (2 * p + l.spare) k
       → Moves meaning o sizes id me (buffer_word sizes (2 * p + l.spare) k) (λ y. x) nothing (λ found me'. HasWritten st me x me')
-  writes k x writing room differs word_is = step_law meaning o sizes id me (buffer_word sizes (2 * p + l.spare) k) (λ y. x) nothing (λ found me'. HasWritten st me x me') single (write_steps meaning o sizes st me k x writing room differs word_is) (λ g local words f.
+  writes k x writing room word_is = step_law meaning o sizes id me (buffer_word sizes (2 * p + l.spare) k) (λ y. x) nothing (λ found me'. HasWritten st me x me') single (write_steps meaning o sizes st me k x writing room word_is) (λ g local words f.
       let tries = writing.0 in
       let s = writing.1 in
       let image = writing.2 in
       let seen = writing.3 in
       let all = writing.4 in
-      let stage : l.stage ≡ Writing tries s image seen = writing.5 in
-      let word : x ≡ slice_index (spell (with_seen object image 0 all)) k = writing.7 in
-      let call : IsAttempted object sizes g p l l.direct = call_at object sizes g p l (Writing tries s image seen) f.mine stage in
-      let was = attempt_at object sizes g p l (Writing tries s image seen) f.mine stage in
-      let may : MayBeWritten object sizes g (2 * p + l.spare) (with_seen object image 0 all) = elim writing.6 [
+      let written = writing.5 in
+      let stage : l.stage ≡ Writing tries s image seen written = writing.6 in
+      let stage' : written_to l.stage (k + 1) ≡ Writing tries s image seen (k + 1) = ap (λ z. written_to z (k + 1)) stage in
+      let word : x ≡ slice_index (spell (with_seen object image 0 all)) k = writing.8 in
+      let call : IsAttempted object sizes g p l l.direct = call_at object sizes g p l (Writing tries s image seen written) f.mine stage in
+      let was = attempt_at object sizes g p l (Writing tries s image seen written) f.mine stage in
+      let may : MayBeWritten object sizes g (2 * p + l.spare) (with_seen object image 0 all) = elim writing.7.0 [
         | inl seen_alone ↦ subst (λ xs. MayBeWritten object sizes g (2 * p + l.spare) (with_seen object image 0 xs)) (sym seen_alone.1) was.2
-        | inr own ↦ subst (λ xs. MayBeWritten object sizes g (2 * p + l.spare) (with_seen object image 0 xs)) (sym own.2) (was.3 own.1)
+        | inr own ↦ subst (λ xs. MayBeWritten object sizes g (2 * p + l.spare) (with_seen object image 0 xs)) (sym own.3) (was.3 own.1)
       ] in
       let mine : ℕ = 2 * p + l.spare in
       let b = f.sound.board in
@@ -161,8 +163,8 @@ module _ {O : Type 0} (meaning : O → Meaning) (o : O) (sizes : Sizes) (id : �
       let other_spot : (i : ℕ) → i ≢ k → buffer' (2 * p + l.spare) i ≡ g.buffer (2 * p + l.spare) i = (λ i apart. ap (λ h. h i) (set_at_same g.buffer (2 * p + l.spare) _) ∙ set_at_elsewhere (g.buffer (2 * p + l.spare)) k x i apart) in
       record {
         board = g';
-        local' = wrote l (held_place sizes l.spare k) x;
-        sound = sound_with object sizes g g' local p (wrote l (held_place sizes l.spare k) x) f.sound
+        local' = wrote l k (held_place sizes l.spare k) x;
+        sound = sound_with object sizes g g' local p (wrote l k (held_place sizes l.spare k) x) f.sound
             (record {
               current = b.current;
               image = b.image;
@@ -210,8 +212,8 @@ module _ {O : Type 0} (meaning : O → Meaning) (o : O) (sizes : Sizes) (id : �
               spare = f.mine.spare;
               apart = f.mine.apart;
               held = held_set object sizes g g' p l.spare k x l.held f.mine.spare room other_buffer same_spot other_spot f.mine.held;
-              call = subst (IsCallAt object sizes g' p (wrote l (held_place sizes l.spare k) x)) (sym stage) (attempted_wrote g buffer' l.direct call);
-              attempt = subst (IsAttemptAt object sizes g' p (2 * p + l.spare)) (sym stage) (
+              call = subst (IsCallAt object sizes g' p (wrote l k (held_place sizes l.spare k) x)) (sym stage') (attempted_wrote g buffer' l.direct call);
+              attempt = subst (IsAttemptAt object sizes g' p (2 * p + l.spare)) (sym stage') (
                 was.0,
                 (λ fresh. let now = was.1 fresh in (now.0, (now.1.0, now.1.1, record { told = now.1.2.told; caught = now.1.2.caught }, now.1.3, now.1.4))),
                 record { rows = was.2.rows; replies = was.2.replies },
@@ -223,7 +225,7 @@ module _ {O : Type 0} (meaning : O → Meaning) (o : O) (sizes : Sizes) (id : �
         said = λ j at.
             let here : buffer_word sizes (2 * p + l.spare) k ≡ buffer_word sizes (2 * p + l.spare) j = sym word_is ∙ at ∙ ap (λ z. buffer_word z (2 * p + l.spare) j) f.processes in
             let same : k ≡ j = omega arith in
-            λ i. (with_local me.0 (wrote l (held_place (sym f.processes i) l.spare (same i)) x), me.1);
+            λ i. (with_local me.0 (wrote l (same i) (held_place (sym f.processes i) l.spare (same i)) x), me.1);
         appended = sym (append-nil g.acts);
       }) where
         attempted_wrote : (g : Board) (buffer' : ℕ → ℕ → ℕ) (direct : Bool) → IsAttempted object sizes g p l direct → IsAttempted object sizes (quiet object sizes g g.told g.announced g.argument g.since buffer' g.atomic g.acts) p l direct

@@ -1,5 +1,5 @@
 -- The words after a store are those of the board after it.
-use Rattle.uni_small.proofs.Vocabulary.{AreWords, Board, List, Sizes, announce_word, ap, argument_word, arith, buffer_word, buffer_words, current_word, get_or-set_other, get_or-set_same, held_place, inl, inr, length, length-set, lt_cases, mul-le-mul_right, number_cases, reply_place, set_at, set_at-cases, slice_index, slice_set, suc, suc-mul, sym, words_of, ℕ, ◌*◌, ◌+◌, ◌<◌, ◌∙◌, ◌≡◌, ◌≢◌, ◌≤◌, ◌⊎◌}
+use Rattle.uni_small.proofs.Vocabulary.{AreWords, Board, List, Sizes, announce_word, ap, argument_word, arith, buffer_word, buffer_words, current_word, get_or-set_other, get_or-set_same, held_place, inl, inr, length, length-set, lt_cases, mul-le-mul_right, number_cases, reply_place, set_at, set_at-cases, slice_index, slice_set, suc, suc-mul, sym, words_of, ℕ, ◌*◌, ◌+◌, ◌<◌, ◌∙◌, ◌≡◌, ◌≢◌, ◌≤◌, ◌⊎◌, AreBuffers, Buffers, Local}
 
 module _ (sizes : Sizes) where
   -- a buffer's words end where the next one's begin
@@ -50,6 +50,13 @@ module _ (sizes : Sizes) where
   -- the words of a process's two buffers
   pub held_inside : (which i : ℕ) → which ≤ 1 → i < buffer_words sizes → held_place sizes which i < 2 * buffer_words sizes
   held_inside which i either below = let h = further which 2 (buffer_words sizes) (omega arith) in omega arith
+
+  pub held_room : (l : Local) (own : Buffers) → AreBuffers sizes l own → (from most : ℕ) → from + most ≤ buffer_words sizes → held_place sizes l.spare from + most ≤ length l.held
+  held_room l own are from most room =
+      let h = further own.spare 2 (buffer_words sizes) (let w = are.which in omega (arith, w)) in
+      let s : l.spare * buffer_words sizes ≡ own.spare * buffer_words sizes = ap (λ k. k * buffer_words sizes) are.spare in
+      let long : length l.held ≡ 2 * buffer_words sizes = ap (λ (xs : List ℕ). length xs) are.held ∙ are.long in
+      omega (arith, h, s, long, room)
 
   pub held_apart : (which i spare j : ℕ) → i < buffer_words sizes → j < buffer_words sizes → (which ≢ spare) ⊎ (i ≢ j) → held_place sizes which i ≢ held_place sizes spare j
   held_apart which i spare j first second apart same = buffer_apart which i spare j first second apart (omega arith)

@@ -1,5 +1,5 @@
 -- Executions: processes that take word steps in any order, as plain data.
-use Rattle.std.specs.Prelude.{◌≡◌, ◌≢◌, ℕ, ◌+◌, ◌*◌, ◌<◌, ◌≤◌, ◌==◌, List, [], ◌∷◌, ◌++◌, Option, Some, if◌then◌else◌}
+use Rattle.std.specs.Prelude.{◌≡◌, ℕ, ◌+◌, ◌*◌, ◌<◌, ◌≤◌, ◌==◌, List, [], ◌∷◌, ◌++◌, Option, Some, if◌then◌else◌}
 use Rattle.std.specs.Prelude.{false, true, length, map, replicate, slice_index, slice_set}
 use Rattle.seq_object.specs.Sequential.{Sequential}
 use Rattle.uni_model.specs.AtomicObject.{Act, Invoked, set_at}
@@ -11,7 +11,7 @@ use Rattle.uni_small.specs.Board.{announce_word, argument_word, buffer_in, buffe
 use Rattle.uni_small.specs.Invariant.{most_calls}
 use Rattle.uni_small.specs.Plays.{begun, brought, brought_own, checked, checked_own, looked}
 use Rattle.uni_small.specs.Plays.{has_begun, restarted, rests}
-use Rattle.uni_small.specs.Standing.{AreApplied, IsWritten}
+use Rattle.uni_small.specs.Standing.{HasComeTo, IsWritten}
 use Rattle.uni_small.specs.declared.sizes.Sizes.{Sizes}
 
 -- the shared words, and where each process stands
@@ -57,13 +57,13 @@ module _ (object : Sequential (List ℕ) (List ℕ) (List ℕ)) (sizes : Sizes) 
         → length copy ≡ buffer_words sizes → AreWhole sizes seen → length seen ≡ sizes.processes → l.direct ≡ false → Next p l
     CheckOwn : (s : ℕ) (copy : List ℕ) (seen : List (Option (List ℕ))) → l.stage ≡ Reading 0 s copy seen
         → length copy ≡ buffer_words sizes → AreWhole sizes seen → length seen ≡ sizes.processes → l.direct ≡ true → Next p l
-    -- a word of the spare buffer that differs from what is to be there, with all that was seen applied, and in a direct attempt a call of its own
-    -- too, is stored; once none does, S is exchanged for one that names this buffer
-    Write : (tries s : ℕ) (image : Image) (seen all : List (Option (List ℕ))) (k : ℕ) → l.stage ≡ Writing tries s image seen → AreApplied l.direct p seen all
-        → k < buffer_words sizes → slice_index l.held (held_place sizes l.spare k) ≢ slice_index (spell (with_seen object image 0 all)) k → Next p l
-    Bring : (tries s : ℕ) (image : Image) (seen : List (Option (List ℕ))) → l.stage ≡ Writing tries s image seen
+    -- a word of the spare buffer is stored, with all that was seen applied, and in a direct attempt a call of its own too, where those before it
+    -- are as they are to be; once all are, S is exchanged for one that names this buffer
+    Write : (tries s : ℕ) (image : Image) (seen all : List (Option (List ℕ))) (written k : ℕ) → l.stage ≡ Writing tries s image seen written
+        → HasComeTo object sizes p l image seen all written k → k < buffer_words sizes → Next p l
+    Bring : (tries s : ℕ) (image : Image) (seen : List (Option (List ℕ))) (written : ℕ) → l.stage ≡ Writing tries s image seen written
         → IsWritten object sizes l image seen → l.direct ≡ false → Next p l
-    BringOwn : (s : ℕ) (image : Image) (seen : List (Option (List ℕ))) (inv : List ℕ) → l.stage ≡ Writing 0 s image seen
+    BringOwn : (s : ℕ) (image : Image) (seen : List (Option (List ℕ))) (written : ℕ) (inv : List ℕ) → l.stage ≡ Writing 0 s image seen written
         → IsWritten object sizes l image (slice_set seen p (Some inv)) → l.direct ≡ true → length inv ≡ sizes.invocation → length l.own < most_calls
         → Next p l
     -- two attempts have failed: S is loaded once more
@@ -100,10 +100,10 @@ module _ (object : Sequential (List ℕ) (List ℕ) (List ℕ)) (sizes : Sizes) 
   access_of p l (Check tries s copy seen at copied whole all announced) =
       load_of 0 (λ found. goes l (checked sizes p (length l.own + 1) tries s copy seen found))
   access_of p l (CheckOwn s copy seen at copied whole all direct) = load_of 0 (λ found. goes l (checked_own sizes s copy seen found))
-  access_of p l (Write tries s image seen all k at applied inside differs) =
+  access_of p l (Write tries s image seen all written k at come inside) =
       let x = slice_index (spell (with_seen object image 0 all)) k in
-      store_of (buffer_word sizes (2 * p + l.spare) k) x (wrote l (held_place sizes l.spare k) x)
-  access_of p l (Bring tries s image seen at written announced) =
+      store_of (buffer_word sizes (2 * p + l.spare) k) x (wrote l k (held_place sizes l.spare k) x)
+  access_of p l (Bring tries s image seen to at written announced) =
       let new = current_word (version_in s + 1) (2 * p + l.spare) in
       record {
         word = 0;
@@ -111,7 +111,7 @@ module _ (object : Sequential (List ℕ) (List ℕ) (List ℕ)) (sizes : Sizes) 
         leaves = λ found. brought l tries s new found;
         acts = λ found. if found == s then map (λ c. Linearize c) (calls_seen image.applied 0 seen) else [];
       }
-  access_of p l (BringOwn s image seen inv at written direct whole few) =
+  access_of p l (BringOwn s image seen to inv at written direct whole few) =
       let new = current_word (version_in s + 1) (2 * p + l.spare) in
       record {
         word = 0;

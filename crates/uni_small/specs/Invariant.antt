@@ -97,7 +97,7 @@ module _ (object : Sequential (List ℕ) (List ℕ) (List ℕ)) (sizes : Sizes) 
   IsCallAt g p l (Idle stored) = IsClosed g p l.own × IsBeginning stored (g.argument p)
   IsCallAt g p l (Ready tries) = IsAttempted g p l l.direct
   IsCallAt g p l (Reading tries s copy seen) = IsAttempted g p l l.direct
-  IsCallAt g p l (Writing tries s image seen) = IsAttempted g p l l.direct
+  IsCallAt g p l (Writing tries s image seen written) = IsAttempted g p l l.direct
   IsCallAt g p l (Last s loaded) = IsOpen object g p l.inv l.own
 
   -- the attempt of a process, at its stage, with its spare buffer b
@@ -106,7 +106,7 @@ module _ (object : Sequential (List ℕ) (List ℕ) (List ℕ)) (sizes : Sizes) 
   IsAttemptAt g p b (Ready tries) = g.since p + tries ≤ g.version
   IsAttemptAt g p b (Reading tries s copy seen) =
       IsAfter g p tries s × IfFresh g s (IsCopied g copy × HasSeen g p seen)
-  IsAttemptAt g p b (Writing tries s image seen) =
+  IsAttemptAt g p b (Writing tries s image seen written) =
       IsAfter g p tries s
       × IfFresh g s ((image ≡ g.image) × (length seen ≡ sizes.processes) × HasSeen g p seen × (IsPending g p → in_of g p < g.announced p) × AreWhole sizes seen)
       × MayBeWritten g b (with_seen object image 0 seen)

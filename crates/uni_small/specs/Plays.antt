@@ -104,7 +104,7 @@ HasAsked step me found me' =
 abbrev pub checked : Sizes → (p made tries s : ℕ) (copy : List ℕ) (seen : List (Option (List ℕ))) (found : ℕ) → Stage
 checked sizes p made tries s copy seen found =
     if found == s
-    then (if slice_index copy p == made then Last s [] else Writing tries s (read_image sizes copy) seen)
+    then (if slice_index copy p == made then Last s [] else Writing tries s (read_image sizes copy) seen 0)
     else Ready (tries + 1)
 
 -- an image is that of a state that calls lead to, and counts no more calls than there can be; and the sizes are the object's
@@ -121,7 +121,7 @@ HasChecked meaning step me found me' =
 
 -- the same for a direct attempt: where S has changed, no call is pending
 abbrev pub checked_own : Sizes → (s : ℕ) (copy : List ℕ) (seen : List (Option (List ℕ))) (found : ℕ) → Stage
-checked_own sizes s copy seen found = if found == s then Writing 0 s (read_image sizes copy) seen else Idle []
+checked_own sizes s copy seen found = if found == s then Writing 0 s (read_image sizes copy) seen 0 else Idle []
 
 abbrev pub HasCheckedOwn : {O : Type 0} → Meaning → Step Seen → Me Seen (View O) → (found : ℕ) → Me Seen (View O) → Type 0
 HasCheckedOwn meaning step me found me' =
@@ -129,11 +129,11 @@ HasCheckedOwn meaning step me found me' =
     → let v = me.0.known in
     Goes me (checked_own v.sizes s copy seen found) me' × (found ≡ s → IsGood meaning v.sizes (read_image v.sizes copy))
 
--- a word of the spare buffer is x
+-- word k of the spare buffer is x
 abbrev pub HasWritten : {O : Type 0} → Step Seen → Me Seen (View O) → (x : ℕ) → Me Seen (View O) → Type 0
 HasWritten step me x me' =
     let v = me.0.known in
-    (k : ℕ) → step.word ≡ buffer_word v.sizes (2 * v.first + v.local.spare) k → IsLeft me (wrote v.local (held_place v.sizes v.local.spare k) x) me'
+    (k : ℕ) → step.word ≡ buffer_word v.sizes (2 * v.first + v.local.spare) k → IsLeft me (wrote v.local k (held_place v.sizes v.local.spare k) x) me'
 
 -- where the exchange finds what the attempt began with, the spare buffer is current
 abbrev pub brought : Local → (tries s new found : ℕ) → Local
@@ -141,7 +141,7 @@ brought l tries s new found = if found == s then brings l new else goes l (Ready
 
 abbrev pub HasBrought : {O : Type 0} → Step Seen → Me Seen (View O) → (found : ℕ) → Me Seen (View O) → Type 0
 HasBrought step me found me' =
-    (tries s : ℕ) (image : Image) (seen : List (Option (List ℕ))) → stage_of me ≡ Writing tries s image seen
+    (tries s written : ℕ) (image : Image) (seen : List (Option (List ℕ))) → stage_of me ≡ Writing tries s image seen written
     → IsLeft me (brought me.0.known.local tries s step.second found) me'
 
 -- the same for a direct attempt at a call of this invocation
@@ -150,7 +150,7 @@ brought_own l s new inv found = if found == s then brings_own l new inv else goe
 
 abbrev pub HasBroughtOwn : {O : Type 0} → Step Seen → Me Seen (View O) → (found : ℕ) → Me Seen (View O) → Type 0
 HasBroughtOwn step me found me' =
-    (s : ℕ) (image : Image) (seen : List (Option (List ℕ))) (its : Seen) → stage_of me ≡ Writing 0 s image seen → step.said ≡ some its
+    (s written : ℕ) (image : Image) (seen : List (Option (List ℕ))) (its : Seen) → stage_of me ≡ Writing 0 s image seen written → step.said ≡ some its
     → IsLeft me (brought_own me.0.known.local s step.second its.invocation.items found) me'
 
 abbrev pub HasTurned : {O : Type 0} → Step Seen → Me Seen (View O) → (s : ℕ) → Me Seen (View O) → Type 0
@@ -182,7 +182,7 @@ abbrev pub has_begun : Stage → (direct : Bool) → Bool
 has_begun (Idle stored) direct = false
 has_begun (Ready tries) direct = if direct then false else true
 has_begun (Reading tries s copy seen) direct = if direct then false else true
-has_begun (Writing tries s image seen) direct = if direct then false else true
+has_begun (Writing tries s image seen written) direct = if direct then false else true
 has_begun (Last s loaded) direct = true
 
 -- how many calls a process has begun, of which so many have returned

@@ -3,7 +3,7 @@ use Rattle.std.specs.Prelude.{Bool, false, true, slice_set, ◌⊎◌, ◌≡◌
 use Rattle.atomic_table.specs.Table.{Me}
 use Rattle.seq_object.specs.Sequential.{Sequential}
 use Rattle.uni_small.specs.Image.{AreWhole, Image, buffer_words, counter_sizes, held_place, spell, with_seen}
-use Rattle.uni_small.specs.View.{Local, Stage, returns}
+use Rattle.uni_small.specs.View.{Local, Stage, returns, written_to}
 use Rattle.uni_small.specs.View.Stage.{Idle, Ready, Reading, Writing, Last}
 use Rattle.uni_small.specs.Board.{buffer_in}
 use Rattle.uni_small.specs.Plays.{IsLeft, stage_of}
@@ -61,38 +61,51 @@ HasCopy sizes tries s applied me =
     (rest : List ℕ) × (stage_of me ≡ Reading tries s (applied ++ rest) []) × (length (applied ++ rest) ≡ buffer_words sizes)
 
 -- what is applied by an attempt of process p that has seen so much: that, and where it is direct a call of its own too
-abbrev pub AreApplied : (direct : Bool) (p : ℕ) (seen all : List (Option (List ℕ))) → Type 0
-AreApplied direct p seen all =
-    ((direct ≡ false) × (all ≡ seen)) ⊎ ((direct ≡ true) × (inv : List ℕ) × (all ≡ slice_set seen p (Some inv)))
+abbrev pub AreApplied : Sizes → (direct : Bool) (p : ℕ) (seen all : List (Option (List ℕ))) → Type 0
+AreApplied sizes direct p seen all =
+    ((direct ≡ false) × (all ≡ seen))
+    ⊎ ((direct ≡ true) × (inv : List ℕ) × (length inv ≡ sizes.invocation) × (all ≡ slice_set seen p (Some inv)))
+
+-- the words of the spare buffer before this one are those of an image with all this applied
+abbrev pub IsWrittenTo : Sequential (List ℕ) (List ℕ) (List ℕ) → Sizes → Local → Image → (all : List (Option (List ℕ))) → (k : ℕ) → Type 0
+IsWrittenTo object sizes l image all k =
+    (i : ℕ) → i < k → slice_index l.held (held_place sizes l.spare i) ≡ slice_index (spell (with_seen object image 0 all)) i
+
+-- an attempt of process p has come to word k, and with all this applied what it has written is right
+abbrev pub HasComeTo : Sequential (List ℕ) (List ℕ) (List ℕ) → Sizes → (p : ℕ) → Local → Image → (seen all : List (Option (List ℕ))) → (written k : ℕ) → Type 0
+HasComeTo object sizes p l image seen all written k =
+    AreApplied sizes l.direct p seen all × (written ≤ k) × IsWrittenTo object sizes l image all k
 
 -- it writes its image, of which these are the words from word `from` on
-abbrev pub HasRow : {O : Type 0} → Sequential (List ℕ) (List ℕ) (List ℕ) → (from : ℕ) → (row : List ℕ) → Me Seen (View O) → Type 0
-HasRow object from row me =
-    (tries : ℕ) × (s : ℕ) × (image : Image) × (seen : List (Option (List ℕ))) × (all : List (Option (List ℕ)))
-    × (stage_of me ≡ Writing tries s image seen) × AreApplied (local_of me).direct me.0.known.first seen all
+abbrev pub HasRow : {O : Type 0} → Sequential (List ℕ) (List ℕ) (List ℕ) → Sizes → (from : ℕ) → (row : List ℕ) → Me Seen (View O) → Type 0
+HasRow object sizes from row me =
+    (tries : ℕ) × (s : ℕ) × (image : Image) × (seen : List (Option (List ℕ))) × (all : List (Option (List ℕ))) × (written : ℕ)
+    × (stage_of me ≡ Writing tries s image seen written)
+    × HasComeTo object sizes me.0.known.first (local_of me) image seen all written from
     × ((i : ℕ) → i < length row → slice_index row i ≡ slice_index (spell (with_seen object image 0 all)) (from + i))
 
 -- it writes its image, of which word k is x
-abbrev pub IsWriting : {O : Type 0} → Sequential (List ℕ) (List ℕ) (List ℕ) → (k x : ℕ) → Me Seen (View O) → Type 0
-IsWriting object k x me =
-    (tries : ℕ) × (s : ℕ) × (image : Image) × (seen : List (Option (List ℕ))) × (all : List (Option (List ℕ)))
-    × (stage_of me ≡ Writing tries s image seen) × AreApplied (local_of me).direct me.0.known.first seen all
+abbrev pub IsWriting : {O : Type 0} → Sequential (List ℕ) (List ℕ) (List ℕ) → Sizes → (k x : ℕ) → Me Seen (View O) → Type 0
+IsWriting object sizes k x me =
+    (tries : ℕ) × (s : ℕ) × (image : Image) × (seen : List (Option (List ℕ))) × (all : List (Option (List ℕ))) × (written : ℕ)
+    × (stage_of me ≡ Writing tries s image seen written)
+    × HasComeTo object sizes me.0.known.first (local_of me) image seen all written k
     × (x ≡ slice_index (spell (with_seen object image 0 all)) k)
 
 -- the spare buffer has the words of an image with what was seen applied
 abbrev pub IsWritten : Sequential (List ℕ) (List ℕ) (List ℕ) → Sizes → Local → Image → (seen : List (Option (List ℕ))) → Type 0
-IsWritten object sizes l image seen =
-    (i : ℕ) → i < buffer_words sizes → slice_index l.held (held_place sizes l.spare i) ≡ slice_index (spell (with_seen object image 0 seen)) i
+IsWritten object sizes l image seen = IsWrittenTo object sizes l image seen (buffer_words sizes)
 
 -- it has written all of its image
 abbrev pub HasWrittenAll : {O : Type 0} → Sequential (List ℕ) (List ℕ) (List ℕ) → Sizes → (tries s : ℕ) → Me Seen (View O) → Type 0
 HasWrittenAll object sizes tries s me =
-    (image : Image) × ((seen : List (Option (List ℕ))) × (stage_of me ≡ Writing tries s image seen) × IsWritten object sizes (local_of me) image seen)
+    (image : Image) × ((seen : List (Option (List ℕ))) × (written : ℕ) × (stage_of me ≡ Writing tries s image seen written)
+    × IsWritten object sizes (local_of me) image seen)
 
 -- it has written all of it, with a call of its own of this invocation
 abbrev pub HasWrittenOwn : {O : Type 0} → Sequential (List ℕ) (List ℕ) (List ℕ) → Sizes → (s : ℕ) → (inv : List ℕ) → Me Seen (View O) → Type 0
 HasWrittenOwn object sizes s inv me =
-    (image : Image) × ((seen : List (Option (List ℕ))) × (stage_of me ≡ Writing 0 s image seen)
+    (image : Image) × ((seen : List (Option (List ℕ))) × (written : ℕ) × (stage_of me ≡ Writing 0 s image seen written)
     × IsWritten object sizes (local_of me) image (slice_set seen me.0.known.first (Some inv)))
 
 -- the call is in, and k words of its reply are loaded
@@ -122,10 +135,12 @@ call_steps sizes = attempt_steps sizes + announced_steps sizes
 sample_steps : call_steps (counter_sizes 2) ≡ 55
 sample_steps = refl
 
--- a seat has stored at most so many words of its spare buffer, its buffers have these words then, and it has changed in nothing else
-abbrev pub WritesWithin : {O : Type 0} → Me Seen (View O) → (most : ℕ) → (held : List ℕ) → Me Seen (View O) → Type 0
-WritesWithin me most held me' =
-    (words : ℕ) × (words ≤ most) × IsLeft me (record (local_of me) { held = held; steps = (local_of me).steps + words }) me'
+-- a seat has stored at most so many words of its spare buffer, of those from word `from` on; its buffers have these words then, and it has
+-- changed in nothing else
+abbrev pub WritesWithin : {O : Type 0} → Me Seen (View O) → (from most : ℕ) → (held : List ℕ) → Me Seen (View O) → Type 0
+WritesWithin me from most held me' =
+    (words : ℕ) × (words ≤ most) × (written : ℕ) × (written ≤ from + most)
+    × IsLeft me (record (local_of me) { stage = written_to (stage_of me) written; held = held; steps = (local_of me).steps + words }) me'
 
 -- where an attempt ends: the call is in, and its reply in the buffer that a word names, or the attempt has failed
 abbrev pub end_of : (tries : ℕ) → (ended : Option ℕ) → Stage

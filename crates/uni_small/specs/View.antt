@@ -31,8 +31,8 @@ pub data Stage : Type 0 where
   Ready : (tries : ℕ) → Stage
   -- the words of the buffer are copied, and then the announcements are looked at, and the words of invocations that aren't in
   Reading : (tries s : ℕ) → (copy : List ℕ) → (seen : List (Option (List ℕ))) → Stage
-  -- the copy was good; with what was seen applied, it is written to the spare buffer, where a word differs
-  Writing : (tries s : ℕ) → Image → (seen : List (Option (List ℕ))) → Stage
+  -- the copy was good; with what was seen applied, it is written to the spare buffer, word by word, where a word differs: this one is next
+  Writing : (tries s : ℕ) → Image → (seen : List (Option (List ℕ))) → (written : ℕ) → Stage
   -- the call is in, its reply is in the buffer that s names, and these words of it are loaded
   Last : (s : ℕ) → (loaded : List ℕ) → Stage
 
@@ -76,9 +76,14 @@ announces l inv = record l { stage = Ready 0; direct = false; inv = inv; steps =
 abbrev pub begins_directly : Local → (s : ℕ) → (copy : List ℕ) → Local
 begins_directly l s copy = record l { stage = Reading 0 s copy []; direct = true; steps = l.steps + 1 }
 
--- after it has stored x, which is there then among the words of its buffers
-abbrev pub wrote : Local → (place x : ℕ) → Local
-wrote l place x = record l { held = slice_set l.held place x; steps = l.steps + 1 }
+-- a stage at which the words of the spare buffer before this one are written
+abbrev pub written_to : Stage → (k : ℕ) → Stage
+written_to (Writing tries s image seen written) k = Writing tries s image seen k
+written_to stage k = stage
+
+-- after it has stored x in word k of the spare buffer, which is at this place among the words of its buffers
+abbrev pub wrote : Local → (k place x : ℕ) → Local
+wrote l k place x = record l { stage = written_to l.stage (k + 1); held = slice_set l.held place x; steps = l.steps + 1 }
 
 -- after it has brought in its spare buffer, by this word
 abbrev pub brings : Local → (s : ℕ) → Local

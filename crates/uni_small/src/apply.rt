@@ -1,12 +1,14 @@
 //! A call from its start to its answer, and what a seat asks between calls.
-ghost use Rattle.std.specs.Prelude.{◌≡◌, ◌↔◌, ◌+◌, ◌*◌, ◌<◌, ◌≤◌, ◌++◌, ◌∷◌, []};
+ghost use Rattle.std.specs.Prelude.{◌≡◌, ◌↔◌, ◌+◌, ◌*◌, ◌<◌, ◌≤◌, ◌++◌};
+ghost use Rattle.std.specs.Prelude.{◌∷◌, []};
 ghost use Rattle.std.specs.Prelude.{IsErr, IsTrue, IfOk, OnOk, OnErr, length};
 ghost use Rattle.uni_small.specs.View.Stage.{Idle};
 ghost use Rattle.uni_small.specs.Invariant.{most_calls};
 ghost use Rattle.uni_small.specs.Plays.{stage_of};
 ghost use Rattle.uni_small.specs.View.Stage.{Last};
 ghost use Rattle.uni_small.specs.Board.{buffer_in, version_in};
-ghost use Rattle.uni_small.specs.Standing.{CallEnds, GoesBy, IsAnnounced, IsOf, ReplyEnds, announced_steps, call_steps, local_of};
+ghost use Rattle.uni_small.specs.Standing.{CallEnds, GoesBy, IsAnnounced, IsOf, ReplyEnds, announced_steps};
+ghost use Rattle.uni_small.specs.Standing.{call_steps, local_of};
 ghost use Rattle.uni_small.specs.Belongs.{AreBuffers, IsSeatOf, HasRoom, calls_made, calls_of, own_calls, process_of};
 ghost use Rattle.uni_small.specs.Belongs.{invocation_width_of, reply_width_of, sizes_of, taken_calls, version_of};
 ghost use Rattle.uni_small.specs.Belongs.{word_steps_of};
@@ -88,7 +90,8 @@ impl<O: SmallObject> SmallShared<O> {
         requires own { AreBuffers self.now.setup.sizes (local_of seat.old.me) own.old }
         requires room { HasRoom self.now.setup.sizes room.old }
         ensures same { (seat.new.table_id ≡ seat.old.table_id) × (seat.new.id ≡ seat.old.id) }
-        ensures ends { CallEnds (announced_steps self.now.setup.sizes) seat.old.me invocation.now reply.new result own.new seat.new.me }
+        ensures ends { CallEnds (announced_steps self.now.setup.sizes) seat.old.me invocation.now reply.new result
+            own.new seat.new.me }
         ensures own { AreBuffers self.now.setup.sizes (local_of seat.new.me) own.new }
         ensures room { HasRoom self.now.setup.sizes room.new }
     {
@@ -126,7 +129,8 @@ impl<O: SmallObject> SmallShared<O> {
         requires own { AreBuffers self.now.setup.sizes (local_of seat.old.me) own.old }
         requires room { HasRoom self.now.setup.sizes room.old }
         ensures same { (seat.new.table_id ≡ seat.old.table_id) × (seat.new.id ≡ seat.old.id) }
-        ensures ends { CallEnds (call_steps self.now.setup.sizes) seat.old.me invocation.now reply.new result own.new seat.new.me }
+        ensures ends { CallEnds (call_steps self.now.setup.sizes) seat.old.me invocation.now reply.new result
+            own.new seat.new.me }
         ensures own { AreBuffers self.now.setup.sizes (local_of seat.new.me) own.new }
         ensures room { HasRoom self.now.setup.sizes room.new }
     {

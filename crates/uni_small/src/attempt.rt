@@ -1,13 +1,15 @@
 //! An attempt at a call: copy the current buffer, apply what was announced, and bring the copy in.
 ghost use Rattle.std.specs.Prelude.{ℕ, ◌*◌, ◌+◌, ◌++◌, ◌<◌, ◌≡◌, ◌≤◌};
-ghost use Rattle.std.specs.Prelude.{All, List, Option, Some, [], ◌∷◌, length, map, slice_index, slice_index_or, slice_set};
+ghost use Rattle.std.specs.Prelude.{All, List, Option, Some, [], ◌∷◌, length, map, slice_index};
+ghost use Rattle.std.specs.Prelude.{slice_index_or, slice_set};
 ghost use Rattle.uni_small.specs.Image.{AreWidths, IsReached, buffer_words, held_place, spell, with_row, with_seen};
 ghost use Rattle.uni_small.specs.View.Stage.{Idle, Ready, Reading, Writing};
 ghost use Rattle.uni_small.specs.Board.{buffer_in};
 ghost use Rattle.uni_small.specs.Invariant.{most_calls};
 ghost use Rattle.uni_small.specs.Plays.{stage_of, IsNamed, IsGood, begun, words_held};
 ghost use Rattle.uni_small.specs.Standing.{GoesBy, GoesWithin, IsAsking, IsCopying, IsLooking, IsOf};
-ghost use Rattle.uni_small.specs.Standing.{EndsWithin, HasCopy, HasRow, IsAnnounced, IsDirect, TriesWithin, WritesWithin, attempt_steps, local_of};
+ghost use Rattle.uni_small.specs.Standing.{EndsWithin, HasCopy, HasRow, IsAnnounced, IsDirect, TriesWithin};
+ghost use Rattle.uni_small.specs.Standing.{WritesWithin, attempt_steps, local_of};
 ghost use Rattle.uni_small.specs.Belongs.{AreBuffers, HasInvocation, HasRoom};
 ghost use Rattle.uni_small.specs.declared.seat.Seen.{Seen};
 ghost use Rattle.uni_small.specs.Belongs.{all_seen, image_in, image_of_rows, seen_in};
@@ -114,7 +116,8 @@ impl<O: SmallObject> SmallShared<O> {
         seen: &mut [Seen],
     )
         requires table { seat.old.table_id ≡ self.now.table.shared.table_id }
-        requires inside { (p < self.now.setup.sizes.processes) × (length applied.now ≡ self.now.setup.sizes.processes)
+        requires inside { (p < self.now.setup.sizes.processes)
+            × (length applied.now ≡ self.now.setup.sizes.processes)
             × (length seen.old ≡ self.now.setup.sizes.processes) }
         requires of { IsOf self.now.setup.object self.now.setup.sizes p seat.old.me }
         requires stage { HasCopy self.now.setup.sizes tries s applied.now seat.old.me }
@@ -200,10 +203,10 @@ impl<O: SmallObject> SmallShared<O> {
         requires inside { (p < self.now.setup.sizes.processes)
             × (from + length row.now ≤ buffer_words self.now.setup.sizes) }
         requires of { IsOf self.now.setup.object self.now.setup.sizes p seat.old.me }
-        requires stage { HasRow (O.meaning self.now.setup.object).object from row.now seat.old.me }
+        requires stage { HasRow (O.meaning self.now.setup.object).object self.now.setup.sizes from row.now seat.old.me }
         requires own { AreBuffers self.now.setup.sizes (local_of seat.old.me) own.old }
         ensures same { (seat.new.table_id ≡ seat.old.table_id) × (seat.new.id ≡ seat.old.id) }
-        ensures goes { WritesWithin seat.old.me (length row.now) own.new.held.items seat.new.me }
+        ensures goes { WritesWithin seat.old.me from (length row.now) own.new.held.items seat.new.me }
         ensures spare { own.new.spare ≡ own.old.spare }
         ensures held { own.new.held.items
             ≡ with_row own.old.held.items (held_place self.now.setup.sizes own.old.spare from) row.now }
@@ -354,12 +357,12 @@ impl<O: SmallObject> SmallShared<O> {
         requires table { seat.old.table_id ≡ self.now.table.shared.table_id }
         requires inside { p < self.now.setup.sizes.processes }
         requires of { IsOf self.now.setup.object self.now.setup.sizes p seat.old.me }
-        requires stage { HasRow (O.meaning self.now.setup.object).object 0
+        requires stage { HasRow (O.meaning self.now.setup.object).object self.now.setup.sizes 0
             (spell (image_in self.now.setup.sizes room.now)) seat.old.me }
         requires own { AreBuffers self.now.setup.sizes (local_of seat.old.me) own.old }
         requires room { HasRoom self.now.setup.sizes room.now }
         ensures same { (seat.new.table_id ≡ seat.old.table_id) × (seat.new.id ≡ seat.old.id) }
-        ensures goes { WritesWithin seat.old.me (buffer_words self.now.setup.sizes) own.new.held.items seat.new.me }
+        ensures goes { WritesWithin seat.old.me 0 (buffer_words self.now.setup.sizes) own.new.held.items seat.new.me }
         ensures spare { own.new.spare ≡ own.old.spare }
         ensures long { length own.new.held.items ≡ length own.old.held.items }
         ensures held { (i : ℕ) → i < buffer_words self.now.setup.sizes
@@ -390,7 +393,7 @@ impl<O: SmallObject> SmallShared<O> {
         requires of { IsOf self.now.setup.object self.now.setup.sizes p seat.old.me }
         requires announced { IsAnnounced seat.old.me }
         requires stage { stage_of seat.old.me
-            ≡ Writing tries s (image_in self.now.setup.sizes room.old) (all_seen room.old) }
+            ≡ Writing tries s (image_in self.now.setup.sizes room.old) (all_seen room.old) 0 }
         requires named { IsNamed self.now.setup.sizes s }
         requires good { IsGood (O.meaning self.now.setup.object) self.now.setup.sizes
             (image_in self.now.setup.sizes room.old) }
@@ -488,7 +491,7 @@ impl<O: SmallObject> SmallShared<O> {
         requires direct { IsDirect seat.old.me }
         requires calls { length (local_of seat.old.me).own + 1 ≤ most_calls }
         requires stage { stage_of seat.old.me
-            ≡ Writing 0 s (image_in self.now.setup.sizes room.old) (all_seen room.old) }
+            ≡ Writing 0 s (image_in self.now.setup.sizes room.old) (all_seen room.old) 0 }
         requires named { IsNamed self.now.setup.sizes s }
         requires good { IsGood (O.meaning self.now.setup.object) self.now.setup.sizes
             (image_in self.now.setup.sizes room.old) }

@@ -11,11 +11,13 @@ ghost use Rattle.uni_small.specs.Board.{buffer_in, current_word, version_in};
 ghost use Rattle.uni_small.specs.Invariant.{most_calls};
 ghost use Rattle.uni_small.specs.Laws.{Moves, begins, ends, nothing, takes_effect, takes_effect_own};
 ghost use Rattle.uni_small.specs.Plays.{HasAnnounced, HasAsked, HasBrought, HasChecked, HasCopied, HasLoaded};
-ghost use Rattle.uni_small.specs.Plays.{HasBegun, HasBroughtOwn, HasCheckedOwn, HasFollowed, HasLooked, HasReplied, HasStarted, HasStored};
+ghost use Rattle.uni_small.specs.Plays.{HasBegun, HasBroughtOwn, HasCheckedOwn, HasFollowed, HasLooked, HasReplied};
+ghost use Rattle.uni_small.specs.Plays.{HasStarted, HasStored};
 ghost use Rattle.uni_small.specs.Plays.{HasTurned, HasWritten, stage_of};
 ghost use Rattle.uni_small.specs.Plays.{HasRecounted, HasReread, HasRestarted};
 ghost use Rattle.uni_small.specs.Shown.{IsShown};
-ghost use Rattle.uni_small.specs.Standing.{IsAsking, IsCopying, IsLoading, IsLooking, IsStoring, IsWriting, IsWritten};
+ghost use Rattle.uni_small.specs.Standing.{IsAsking, IsCopying, IsLoading, IsLooking, IsStoring, IsWriting};
+ghost use Rattle.uni_small.specs.Standing.{IsWritten};
 ghost use Rattle.uni_small.specs.Standing.{IsAnnounced, IsDirect, local_of};
 ghost use mathlib.Core.Option.{some};
 ghost use Rattle.uni_small.specs.declared.seat.Seen.{Seen};
@@ -40,9 +42,10 @@ pub fn announcement_invokes<O: SmallObject>()
 /// The exchange of S that finds what the attempt began with linearizes the calls that its scan saw, in the
 /// order of their processes. Another exchange appends nothing.
 pub fn exchange_linearizes<O: SmallObject>()
-    ensures { (o : O) (sizes : Sizes) (id tries s : ℕ) (image : Image) (seen : List (Option (List ℕ)))
+    ensures { (o : O) (sizes : Sizes) (id tries s written : ℕ) (image : Image) (seen : List (Option (List ℕ)))
         (st : Step Seen) (me : Me Seen (View O)) →
-        sizes.processes ≤ 64 → me.0.known.count ≡ 1 → IsAnnounced me → stage_of me ≡ Writing tries s image seen
+        sizes.processes ≤ 64 → me.0.known.count ≡ 1 → IsAnnounced me
+        → stage_of me ≡ Writing tries s image seen written
         → IsWritten (O.meaning o).object sizes (local_of me) image seen
         → st.second ≡ current_word (version_in s + 1) (2 * me.0.known.first + (local_of me).spare)
         → Moves O.meaning o sizes id me 0 (λ found. either (found == s) st.second found)
@@ -52,12 +55,12 @@ pub fn exchange_linearizes<O: SmallObject>()
 /// The exchange of a direct attempt that finds what it began with begins the call and linearizes it with those
 /// that the scan saw, in the order of their processes. Another exchange appends nothing.
 pub fn direct_exchange_linearizes<O: SmallObject>()
-    ensures { (o : O) (sizes : Sizes) (id s : ℕ) (image : Image) (seen : List (Option (List ℕ))) (its : Seen)
-        (st : Step Seen) (me : Me Seen (View O)) →
+    ensures { (o : O) (sizes : Sizes) (id s written : ℕ) (image : Image) (seen : List (Option (List ℕ)))
+        (its : Seen) (st : Step Seen) (me : Me Seen (View O)) →
         let p = me.0.known.first in
         let inv = its.invocation.items in
         sizes.processes ≤ 64 → me.0.known.count ≡ 1 → IsDirect me → length inv ≡ sizes.invocation
-        → length (local_of me).own + 1 ≤ most_calls → stage_of me ≡ Writing 0 s image seen
+        → length (local_of me).own + 1 ≤ most_calls → stage_of me ≡ Writing 0 s image seen written
         → IsWritten (O.meaning o).object sizes (local_of me) image (slice_set seen p (Some inv))
         → st.second ≡ current_word (version_in s + 1) (2 * p + (local_of me).spare) → st.said ≡ some its
         → Moves O.meaning o sizes id me 0 (λ found. either (found == s) st.second found)
@@ -81,8 +84,7 @@ pub fn stores_append_nothing<O: SmallObject>()
         → Moves O.meaning o sizes id me (argument_word sizes me.0.known.first k) (λ y. x)
         nothing (λ found me'. HasStored st me x me') }
     ensures buffer { (o : O) (sizes : Sizes) (id k x : ℕ) (st : Step Seen) (me : Me Seen (View O)) →
-        me.0.known.count ≡ 1 → IsWriting (O.meaning o).object k x me → k < buffer_words sizes
-        → slice_index (local_of me).held (held_place sizes (local_of me).spare k) ≢ x
+        me.0.known.count ≡ 1 → IsWriting (O.meaning o).object sizes k x me → k < buffer_words sizes
         → st.word ≡ buffer_word sizes (2 * me.0.known.first + (local_of me).spare) k
         → Moves O.meaning o sizes id me
         (buffer_word sizes (2 * me.0.known.first + (local_of me).spare) k) (λ y. x)
@@ -104,8 +106,9 @@ pub fn loads_append_nothing<O: SmallObject>()
         (λ found me'. (q : O) → me.0.object ≡ Some q → HasCheckedOwn (O.meaning q) st me found me') }
     ensures copy { (o : O) (sizes : Sizes) (id tries s i : ℕ) (st : Step Seen) (me : Me Seen (View O)) →
         sizes.processes ≤ 64 → me.0.known.count ≡ 1 → IsCopying tries s i me → i < buffer_words sizes
-        → buffer_in s < 2 * sizes.processes → Moves O.meaning o sizes id me (buffer_word sizes (buffer_in s) i) (λ x. x)
-        nothing (λ found me'. HasCopied st me found me') }
+        → buffer_in s < 2 * sizes.processes
+        → Moves O.meaning o sizes id me (buffer_word sizes (buffer_in s) i) (λ x. x) nothing
+        (λ found me'. HasCopied st me found me') }
     ensures look { (o : O) (sizes : Sizes) (id tries s r : ℕ) (st : Step Seen) (me : Me Seen (View O)) →
         sizes.processes ≤ 64 → me.0.known.count ≡ 1 → IsLooking sizes tries s r me → r < sizes.processes
         → Moves O.meaning o sizes id me (announce_word r) (λ x. x)
@@ -115,11 +118,13 @@ pub fn loads_append_nothing<O: SmallObject>()
         → k < sizes.invocation → Moves O.meaning o sizes id me (argument_word sizes r k) (λ x. x)
         nothing (λ found me'. HasAsked st me found me') }
     ensures check { (o : O) (sizes : Sizes) (id tries s : ℕ) (st : Step Seen) (me : Me Seen (View O)) →
-        sizes.processes ≤ 64 → me.0.known.count ≡ 1 → IsLooking sizes tries s sizes.processes me → IsAnnounced me
+        sizes.processes ≤ 64 → me.0.known.count ≡ 1 → IsLooking sizes tries s sizes.processes me
+        → IsAnnounced me
         → Moves O.meaning o sizes id me 0 (λ x. x) nothing
         (λ found me'. (q : O) → me.0.object ≡ Some q → HasChecked (O.meaning q) st me found me') }
     ensures turn { (o : O) (sizes : Sizes) (id tries : ℕ) (st : Step Seen) (me : Me Seen (View O)) →
-        sizes.processes ≤ 64 → me.0.known.count ≡ 1 → 2 ≤ tries → stage_of me ≡ Ready tries → IsAnnounced me
+        sizes.processes ≤ 64 → me.0.known.count ≡ 1 → 2 ≤ tries → stage_of me ≡ Ready tries
+        → IsAnnounced me
         → Moves O.meaning o sizes id me 0 (λ x. x) nothing (λ found me'. HasTurned st me found me') }
     ensures follow { (o : O) (sizes : Sizes) (id : ℕ) (st : Step Seen) (me : Me Seen (View O)) →
         sizes.processes ≤ 64 → me.0.known.count ≡ 1 → stage_of me ≡ Idle []
@@ -167,8 +172,8 @@ pub fn every_execution_is_linearizable<O: SmallObject>()
 {}
 
 /// The construction is wait-free in every execution: a process in the midst of a call can always take a step, and
-/// no call takes more than `6 * W + (9 + 3 * I + 6 * R) * n + I + R + 11` steps of its own process, where no direct
-/// attempt of that process changes its invocation while it writes, and its seat isn't taken over.
+/// no call takes more than `6 * W + (9 + 3 * I + 6 * R) * n + I + R + 11` steps of its own process, whatever the other
+/// processes do. A call whose seat is taken over is counted from where it begins again.
 pub fn every_call_is_wait_free<O: SmallObject>()
     ensures blocks { (o : O) (sizes : Sizes) → AreSizesOf (O.meaning o) sizes
         → (e : Execution (O.meaning o).object sizes (opened_moment (O.meaning o).object sizes))

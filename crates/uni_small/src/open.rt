@@ -1,5 +1,6 @@
 //! Opening an object.
-ghost use Rattle.std.specs.Prelude.{All, IfOk, IsErrOf, [], ◌<◌, ◌≡◌, ◌≤◌, ◌⊎◌, ◌↔◌, length};
+ghost use Rattle.std.specs.Prelude.{All, IfOk, IsErrOf, [], ◌<◌, ◌≡◌, ◌≤◌, ◌⊎◌, ◌↔◌};
+ghost use Rattle.std.specs.Prelude.{length};
 ghost use Rattle.uni_small.specs.Plays.{first_view};
 ghost use Rattle.uni_small.specs.Board.{AreFew};
 ghost use Rattle.uni_small.specs.TooWide.{IsTooWide};

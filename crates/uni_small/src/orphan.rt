@@ -1,6 +1,8 @@
 //! A seat whose thread stopped in a call.
-ghost use Rattle.std.specs.Prelude.{true, false, ◌≡◌, ◌+◌, ◌*◌, ◌<◌, ◌≤◌, ◌++◌, ◌∷◌, [], IfOk, IfErr, length};
-ghost use Rattle.uni_small.specs.Belongs.{IsSeatOf, calls_made, own_calls, process_of, reply_width_of, taken_calls, version_of};
+ghost use Rattle.std.specs.Prelude.{true, false, ◌≡◌, ◌+◌, ◌*◌, ◌<◌, ◌≤◌, ◌++◌};
+ghost use Rattle.std.specs.Prelude.{◌∷◌, [], IfOk, IfErr, length};
+ghost use Rattle.uni_small.specs.Belongs.{IsSeatOf, calls_made, own_calls, process_of, reply_width_of, taken_calls};
+ghost use Rattle.uni_small.specs.Belongs.{version_of};
 ghost use Rattle.uni_small.specs.Plays.{has_begun};
 ghost use Rattle.uni_small.specs.Invariant.{most_calls};
 ghost use Rattle.uni_small.specs.Standing.{IsOf, local_of};
@@ -14,8 +16,8 @@ use atomic_table::Seat;
 use std::alloc::Global;
 
 /// The seat of a process whose thread stopped at some step of a call. Nothing is known of it but that the call has
-/// begun and has not returned, and how many calls have returned before it: a call by a direct attempt isn't announced, so the
-/// announcement alone doesn't tell.
+/// begun and has not returned, and how many calls have returned before it: a call by a direct attempt isn't announced,
+/// so the announcement alone doesn't tell.
 #[derive(Drop)]
 pub struct SmallOrphan<O> {
     pub(crate) seat: Seat<Seen, View<O>>,
@@ -76,8 +78,8 @@ impl<O: SmallObject> SmallOrphan<O> {
     }
 }
 
-/// The seat of a process whose thread stopped at some step, but not in a call that had begun: between calls, or in a direct
-/// attempt that had not succeeded.
+/// The seat of a process whose thread stopped at some step, but not in a call that had begun: between calls, or in a
+/// direct attempt that had not succeeded.
 #[derive(Drop)]
 pub struct SmallAbandoned<O> {
     pub(crate) seat: Seat<Seen, View<O>>,

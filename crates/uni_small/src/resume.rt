@@ -1,5 +1,6 @@
 //! The end of a call whose thread stopped at some step of it.
-ghost use Rattle.std.specs.Prelude.{true, false, ◌≡◌, ◌+◌, ◌*◌, ◌<◌, ◌≤◌, ◌++◌, ◌∷◌, [], length};
+ghost use Rattle.std.specs.Prelude.{true, false, ◌≡◌, ◌+◌, ◌*◌, ◌<◌, ◌≤◌, ◌++◌};
+ghost use Rattle.std.specs.Prelude.{◌∷◌, [], length};
 ghost use Rattle.uni_small.specs.Image.{buffer_words};
 ghost use Rattle.uni_small.specs.Belongs.{AreBuffers, HasRoom};
 ghost use Rattle.uni_small.specs.Invariant.{most_calls};
@@ -60,7 +61,8 @@ impl<O: SmallObject> SmallShared<O> {
         ensures slots { seat.new.me.1 ≡ seat.old.me.1 }
         ensures taken { seat.new.me.0.known.taken ≡ seat.old.me.0.known.taken }
         ensures few_steps { (local_of seat.new.me).steps ≤ (local_of seat.old.me).steps
-            + (2 * buffer_words self.now.setup.sizes + 2 * attempt_steps self.now.setup.sizes + self.now.setup.sizes.reply + 2) }
+            + (2 * buffer_words self.now.setup.sizes + 2 * attempt_steps self.now.setup.sizes
+            + self.now.setup.sizes.reply + 2) }
         ensures idle { stage_of seat.new.me ≡ Idle [] }
         ensures untried { (local_of seat.new.me).direct ≡ false }
         ensures ends { (local_of seat.new.me).own ≡ (local_of seat.old.me).own ++ record {

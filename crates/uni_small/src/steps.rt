@@ -1,14 +1,17 @@
 //! The word steps, each one function.
-ghost use Rattle.std.specs.Prelude.{true, false, ◌≡◌, ◌≢◌, ℕ, ◌+◌, ◌*◌, ◌<◌, ◌≤◌, ◌==◌, List, [], ◌∷◌, ◌++◌, Option, Some, None};
+ghost use Rattle.std.specs.Prelude.{true, false, ◌≡◌, ◌≢◌, ℕ, ◌+◌, ◌*◌, ◌<◌, ◌≤◌};
+ghost use Rattle.std.specs.Prelude.{◌==◌, List, [], ◌∷◌, ◌++◌, Option, Some, None};
 ghost use Rattle.std.specs.Prelude.{if◌then◌else◌, length, slice_index};
 ghost use Rattle.uni_small.specs.Image.{HasRows, buffer_words, held_place, spell, with_seen, read_image};
 ghost use Rattle.uni_small.specs.View.{announces, begins_directly, brings, goes, knows, returns, wrote};
 ghost use Rattle.uni_small.specs.View.Stage.{Idle, Last, Reading, Ready, Writing};
 ghost use Rattle.uni_small.specs.Board.{buffer_in, current_word, version_in};
 ghost use Rattle.uni_small.specs.Invariant.{most_calls};
-ghost use Rattle.uni_small.specs.Plays.{Goes, IsLeft, stage_of, IsNamed, begun, looked, checked, checked_own, IsGood, brought, brought_own};
+ghost use Rattle.uni_small.specs.Plays.{Goes, IsLeft, stage_of, IsNamed, begun, looked, checked, checked_own};
+ghost use Rattle.uni_small.specs.Plays.{IsGood, brought, brought_own};
 ghost use Rattle.uni_small.specs.Plays.{begun_by, has_begun, restarted, rests};
-ghost use Rattle.uni_small.specs.Standing.{HasWrittenAll, HasWrittenOwn, IsAnnounced, IsDirect, IsAsking, IsCopying, IsLoading, IsLooking, IsOf};
+ghost use Rattle.uni_small.specs.Standing.{HasWrittenAll, HasWrittenOwn, IsAnnounced, IsDirect, IsAsking};
+ghost use Rattle.uni_small.specs.Standing.{IsCopying, IsLoading, IsLooking, IsOf};
 ghost use Rattle.uni_small.specs.Standing.{IsStoring, IsWriting, local_of};
 ghost use Rattle.uni_small.specs.Belongs.{HasInvocation};
 
@@ -203,12 +206,11 @@ impl<O: SmallObject> SmallShared<O> {
         requires table { seat.old.table_id ≡ self.now.table.shared.table_id }
         requires inside { (p < self.now.setup.sizes.processes) × (i < buffer_words self.now.setup.sizes) }
         requires of { IsOf self.now.setup.object self.now.setup.sizes p seat.old.me }
-        requires stage { IsWriting (O.meaning self.now.setup.object).object i x seat.old.me }
+        requires stage { IsWriting (O.meaning self.now.setup.object).object self.now.setup.sizes i x seat.old.me }
         requires spare { ((local_of seat.old.me).spare ≡ spare) × (spare ≤ 1) }
-        requires differs { slice_index (local_of seat.old.me).held (held_place self.now.setup.sizes spare i) ≢ x }
         ensures same { (seat.new.table_id ≡ seat.old.table_id) × (seat.new.id ≡ seat.old.id) }
         ensures left { IsLeft seat.old.me
-            (wrote (local_of seat.old.me) (held_place self.now.setup.sizes spare i) x) seat.new.me }
+            (wrote (local_of seat.old.me) i (held_place self.now.setup.sizes spare i) x) seat.new.me }
     {
         self.table
             .shared
@@ -351,7 +353,8 @@ impl<O: SmallObject> SmallShared<O> {
     /// Loads word i of a buffer of process p, of the first or the second one, whatever it is at.
     pub(crate) fn reread(&self, seat: &mut Seat<Seen, View<O>>, p: u64, which: u64, i: u64) -> u64
         requires table { seat.old.table_id ≡ self.now.table.shared.table_id }
-        requires inside { (p < self.now.setup.sizes.processes) × (which ≤ 1) × (i < buffer_words self.now.setup.sizes) }
+        requires inside { (p < self.now.setup.sizes.processes) × (which ≤ 1)
+            × (i < buffer_words self.now.setup.sizes) }
         requires of { IsOf self.now.setup.object self.now.setup.sizes p seat.old.me }
         ensures same { (seat.new.table_id ≡ seat.old.table_id) × (seat.new.id ≡ seat.old.id) }
         ensures left { IsLeft seat.old.me (rests (local_of seat.old.me)) seat.new.me }
@@ -374,7 +377,8 @@ impl<O: SmallObject> SmallShared<O> {
         self.table.shared.load::<Restarts>(seat, 0)
     }
 
-    /// Loads S: process p, of which no call has begun, stands before its next call, also where it was in a direct attempt.
+    /// Loads S: process p, of which no call has begun, stands before its next call, also where it was in a direct
+    /// attempt.
     pub(crate) fn abandon(&self, seat: &mut Seat<Seen, View<O>>, p: u64) -> u64
         requires table { seat.old.table_id ≡ self.now.table.shared.table_id }
         requires inside { p < self.now.setup.sizes.processes }

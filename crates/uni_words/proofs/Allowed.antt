@@ -2,11 +2,12 @@
 use Rattle.uni_words.proofs.Vocabulary.{Allows, Announce, Content, Finish, GoesBy, HasLooked, HasMoved, InvOf, IsAtStage, IsIdle, IsWithin, Link, Me, Memory, Moved, Name, None, Of, Option, Pending, Place, ReadAnnounce, Reading, Rule, Sequential, Setup, Some, Stage, Test, View, WordLog, ap, arith, begun_by, call_after, cells_of, content_after, content_of, either, eqb, exchanged, if◌then◌else◌, index_in, index_of, inl, inr, link_of, looked_at, lt_cases, moved_at, name_of, name_of-index_of, nat_lt, none, number_cases, option_map, option_or, place_of, refl, stage_found, start_of, step, subst, suc, sym, turn_of, word_of, zero, ℕ, ◌*◌, ◌+◌, ◌<◌, ◌==◌, ◌∙◌, ◌≡◌, ◌≤◌}
 use Rattle.atomic_table.specs.Table.{Step}
 use Rattle.uni_words.proofs.Columns.{index_in-name_of, word_below}
-use Rattle.uni_words.proofs.Moving.{GoesOn, moves}
+use Rattle.uni_words.specs.Execution.{IsPlain}
+use Rattle.uni_words.proofs.Moving.{moves}
 
 -- what the table was told is what the log has
 pub may_move : {O : Type 0} (meaning : O → Sequential ℕ ℕ ℕ) (told setup : Setup O) → told ≡ setup
-    → (slots id i : ℕ) (st : Step ℕ) (me : Me ℕ View) (f said : ℕ → ℕ) → me.0.known.count ≡ 1 → (c : Pending) → me.0.known.its.call ≡ Some c → GoesOn c.stage
+    → (slots id i : ℕ) (st : Step ℕ) (me : Me ℕ View) (f said : ℕ → ℕ) → me.0.known.count ≡ 1 → (c : Pending) → me.0.known.its.call ≡ Some c → IsPlain c.stage
     → word_of setup.n setup.k (place_of setup.n me.0.known.first c.mine c.stage) ≡ Some i
     → ((found : ℕ) (seen : Memory ℕ ℕ ℕ) → content_of setup.n (place_of setup.n me.0.known.first c.mine c.stage) (f found)
     ≡ content_after (meaning setup.object) c.mine c.stage (content_of setup.n (place_of setup.n me.0.known.first c.mine c.stage) found) seen)
@@ -30,7 +31,7 @@ may_step meaning log id me i f says place word of_table allowed = (
 -- A word step of a call that stands at its stage, at the word of the stage's place: a load, a store, and a proposal to a word that is 0.
 -- With it goes what else the table asks of a seat.
 module _ {O : Type 0} (meaning : O → Sequential ℕ ℕ ℕ) (log : WordLog O) (id : ℕ) (me : Me ℕ View) (p : ℕ) (mine : Name) (stage : Stage) (i : ℕ)
-    (stands : IsAtStage log.setup.n log.setup.k p mine stage me) (goes : GoesOn stage)
+    (stands : IsAtStage log.setup.n log.setup.k p mine stage me) (goes : IsPlain stage)
     (word : word_of log.setup.n log.setup.k (place_of log.setup.n me.0.known.first mine stage) ≡ Some i) where
   -- what a step tells says nothing of its operands
   abbrev no_step : Step ℕ

@@ -1,6 +1,7 @@
 -- The word steps that are events, all but those of `new` and of the last step of a call.
 use Rattle.uni_words.proofs.Vocabulary.{AfterOf, Allows, Announce, Announced, BeforeOf, Content, DecideAfter, DecideNew, Effect, Finish, Grows, HasMoved, HeadOf, InvOf, IsCounted-pending, IsLocal, IsShown, IsUnderway, IsWithin, Known, Leads, List, Me, Memory, Moved, Name, NewOf, None, Nothing, Of, Option, Pending, Place, ReadAnnounce, ReadHelpSeq, ScanHead, ScanSeq, SeqOf, Sequential, ShowsRun, Some, Stage, State, Step, Test, View, WorldOf, WriteBefore, WriteHead, WriteScan, WriteSeq, [], after_word, ap, arith, at_its_cell, call_after, content_after, content_of, get_elem?, get_or-set_same, keeps, length, length-set, memory_with, moved_at, new_of, pending_count, place_of, refl, response_after, set_at_same, slice_index, slice_set, some, stage_after, stage_found, subst, sym, turn_of, turns_bounded, word_of, ℕ, ◌+◌, ◌<◌, ◌^◌, ◌∙◌, ◌∷◌, ◌≡◌, ◌≤◌}
 use Rattle.atomic_table.specs.Table as table
+use Rattle.uni_words.specs.Execution.{IsPlain}
 use Rattle.uni_words.proofs.Columns.{word_below}
 use Rattle.uni_words.proofs.Underway.{HasOutcome-grows, last_number-grows}
 use Rattle.uni_words.proofs.Within.{within}
@@ -15,21 +16,15 @@ new_elsewhere : (m : Memory ℕ ℕ ℕ) (place : Place) (u : Content ℕ ℕ �
 new_elsewhere m (NewOf y) u x h = absurd h
 new_elsewhere m _ u x h = refl
 
--- the steps of this file: the call goes on after them, and they don't touch `new`
-abbrev pub GoesOn : Stage → Type 0
-GoesOn (DecideNew c s d) = ⊥
-GoesOn (Finish s t) = ⊥
-GoesOn _ = Unit {0}
-
-not_new : (n p : ℕ) (mine : Name) (stage : Stage) → GoesOn stage → IsNotNew (place_of n p mine stage)
+not_new : (n p : ℕ) (mine : Name) (stage : Stage) → IsPlain stage → IsNotNew (place_of n p mine stage)
 not_new n p mine (DecideNew c s d) h = absurd h
 not_new n p mine (Finish s t) h = absurd h
 not_new n p mine _ h = tt
 
-goes_on : (n p : ℕ) (mine : Name) (stage : Stage) (found : ℕ) → GoesOn stage → (k : Stage) × (stage_found n p mine stage found ≡ Some k)
-goes_on n p mine (DecideNew c s d) found h = absurd h
-goes_on n p mine (Finish s t) found h = absurd h
-goes_on n p mine _ found h = (_, refl)
+pub goes_further : (n p : ℕ) (mine : Name) (stage : Stage) (found : ℕ) → IsPlain stage → (k : Stage) × (stage_found n p mine stage found ≡ Some k)
+goes_further n p mine (DecideNew c s d) found h = absurd h
+goes_further n p mine (Finish s t) found h = absurd h
+goes_further n p mine _ found h = (_, refl)
 
 -- a step after which the call goes on has no response
 silent : (n p : ℕ) (mine : Name) (stage : Stage) (found : ℕ) (next : Stage) (seen : Memory ℕ ℕ ℕ) → stage_found n p mine stage found ≡ Some next → response_after mine stage seen ≡ None
@@ -106,7 +101,7 @@ module _ (object : Sequential ℕ ℕ ℕ) (row : ℕ) where
       }
 
       -- where the step doesn't touch `new`
-      pub fits_elsewhere : GoesOn c.stage → (y : Name) (u : ℕ × Option ℕ) → new_of after.memory y ≡ Some u → u.0 < 2 ^ 31
+      pub fits_elsewhere : IsPlain c.stage → (y : Name) (u : ℕ × Option ℕ) → new_of after.memory y ≡ Some u → u.0 < 2 ^ 31
       fits_elsewhere goes y u e = is.words.fits y u (sym (new_elsewhere w.memory place does.content y (not_new w.n v.first c.mine c.stage goes)) ∙ e)
 
       -- what the step tells the seat, of what it found
@@ -126,7 +121,7 @@ module _ (object : Sequential ℕ ℕ ℕ) (row : ℕ) where
           }
 
   -- The seat may take the step, by which the word becomes f of what it was, and it is told so of what it found.
-  pub moves : (n slots id i : ℕ) (st : table.Step ℕ) (me : Me ℕ View) (f said : ℕ → ℕ) → me.0.known.count ≡ 1 → (c : Pending) → me.0.known.its.call ≡ Some c → GoesOn c.stage
+  pub moves : (n slots id i : ℕ) (st : table.Step ℕ) (me : Me ℕ View) (f said : ℕ → ℕ) → me.0.known.count ≡ 1 → (c : Pending) → me.0.known.its.call ≡ Some c → IsPlain c.stage
       → word_of n row (place_of n me.0.known.first c.mine c.stage) ≡ Some i
       → ((found : ℕ) (seen : Memory ℕ ℕ ℕ) → content_of n (place_of n me.0.known.first c.mine c.stage) (f found)
       ≡ content_after object c.mine c.stage (content_of n (place_of n me.0.known.first c.mine c.stage) found) seen)
@@ -145,7 +140,7 @@ module _ (object : Sequential ℕ ℕ ℕ) (row : ℕ) where
       = subst (λ k. content_of k (place_of k v.first c.mine c.stage) (f found) ≡ content_after object c.mine c.stage (content_of k (place_of k v.first c.mine c.stage) found) seen) (sym shown.1) (writes_n found seen) in
       let small : IsWithin w.n row place found → IsWithin w.n row place (f found) → IsWithin w.n row place (said found)
       = subst (λ k. IsWithin k row (place_of k v.first c.mine c.stage) found → IsWithin k row (place_of k v.first c.mine c.stage) (f found) → IsWithin k row (place_of k v.first c.mine c.stage) (said found)) (sym shown.1) (small_n found) in
-      let on = goes_on v.n v.first c.mine c.stage found goes in
+      let on = goes_further v.n v.first c.mine c.stage found goes in
       let writes_it : content_of w.n place (f found) ≡ (effect object row w s is id v at single c pending).content
       = writes ∙ ap (λ u. content_after object c.mine c.stage u seen) (sym (there object row w s is id v at single c pending i word)) in
       let leads : Leads object row w s (Step v.first ∷ []) (later object row w s is id v at single c pending) (after_word s i (f found) id (moved_at v c found))

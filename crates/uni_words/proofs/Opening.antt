@@ -67,7 +67,7 @@ module _ (object : Sequential ℕ ℕ ℕ) (n row : ℕ) (below : object.initial
   first_local : (q : ℕ) → q < n → IsLocal (opened object n) q no_calls
   first_local q inside = record { inside = inside; call = refl; begun = refl; steps = refl; turns = refl; underway = tt; counted = refl; own = λ k c e. nothing_there k c e; number = refl }
 
-  only_seat : (id : ℕ) (v : View) → get_elem? (first_view n row ∷ []) id ≡ some v → (id ≡ 0) × (first_view n row ≡ v)
+  pub only_seat : (id : ℕ) (v : View) → get_elem? (first_view n row ∷ []) id ≡ some v → (id ≡ 0) × (first_view n row ≡ v)
   only_seat zero v e = (refl, some-injective _ _ e)
   only_seat (suc id) v e = absurd (some-ne-none v (sym e))
 

@@ -10,3 +10,5 @@ pub mod Log
 pub mod Compare
 pub mod Belongs
 pub mod Laws
+pub mod Execution
+pub mod Linearized

@@ -1,5 +1,6 @@
 //! Comparing a log with what callers were told.
-ghost use Rattle.std.specs.Prelude.{◌≡◌, ◌↔◌, ◌<◌, ◌^◌, ℕ, true, IfSome, None, Some, length, map};
+ghost use Rattle.std.specs.Prelude.{◌≡◌, ◌↔◌, ◌<◌, ◌^◌, ℕ, true, IfSome, None, Some, length};
+ghost use Rattle.std.specs.Prelude.{map};
 ghost use Rattle.std.specs.Prelude.{slice_get};
 ghost use Rattle.uni_words.specs.Compare.{Agrees, DiffersFirstAt, IsFirstFault, IsFirstWrong, IsRight};
 ghost use Rattle.uni_words.specs.Log.{calls_by, entry_shown, replied};

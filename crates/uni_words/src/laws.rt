@@ -9,6 +9,8 @@ ghost use Rattle.uni_model.specs.Worlds.{WorldOf};
 ghost use Rattle.uni_words.specs.Laws.{StoreBegins, WordStepMoves, StoreEnds, LoadEnds, LoadKeeps, OwnCallsRise};
 ghost use Rattle.uni_words.specs.Laws.{AskKeeps, JoinKeeps, OpeningShows, ReturnedIsThere, SplitKeeps};
 ghost use Rattle.seq_object.specs.declared.call_id.CallId.{CallId};
+ghost use Rattle.uni_words.specs.Execution.{Execution, opened_table};
+ghost use Rattle.uni_words.specs.Linearized.{AreLinearizedStrongly, IsNarrow, KeepsBound};
 ghost use Rattle.uni_words.specs.View.{Known, Reading};
 ghost use Rattle.uni_words.specs.declared.view.View.{View};
 
@@ -86,4 +88,20 @@ pub fn own_calls_rise<O: WordObject>()
     ensures { (object : O) (row : ℕ) (w : WorldOf ℕ ℕ ℕ) (s : State ℕ View) (id : ℕ) (v : Known)
         (j k : ℕ) (a b : ℕ × ℕ) →
         OwnCallsRise (O.sequential object) row w s id v j k a b }
+{}
+
+/// Every execution from the opening, in which the seats take their word steps in any order, is cut and taken in, is
+/// linearizable in real time: its events are those of a run of the construction. And strongly: one function gives
+/// each its order, and where an execution goes on, only further calls come behind. States and replies stay below 2^31.
+pub fn every_execution_is_linearizable<O: WordObject>()
+    ensures { (object : O) (n row : ℕ) → IsNarrow (O.sequential object)
+        → AreLinearizedStrongly (O.sequential object) n row }
+{}
+
+/// The construction on words is wait-free in every execution: no call takes more than `12 * n + 15` word steps of its
+/// own process, whatever the others do. To ask about a call is no step of one.
+pub fn every_call_is_bounded<O: WordObject>()
+    ensures { (object : O) (n row : ℕ) → IsNarrow (O.sequential object)
+        → (e : Execution (O.sequential object) n row (opened_table (O.sequential object) n row))
+        → KeepsBound (O.sequential object) n row e }
 {}

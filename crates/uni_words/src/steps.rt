@@ -1,11 +1,13 @@
 //! The word steps, each one function.
-ghost use Rattle.std.specs.Prelude.{◌≡◌, ◌+◌, ◌<◌, ◌≤◌, ◌==◌, if◌then◌else◌, unwrap_or, Some};
+ghost use Rattle.std.specs.Prelude.{◌≡◌, ◌+◌, ◌<◌, ◌≤◌, ◌==◌, if◌then◌else◌};
+ghost use Rattle.std.specs.Prelude.{unwrap_or, Some};
 ghost use Rattle.uni_words.specs.Standing.{GoesBy, HasCell, IsCursor, Stands};
 ghost use Rattle.uni_words.specs.Standing.{cell_at, head_at};
 ghost use Rattle.uni_model.specs.Places.Name.{Anchor};
 ghost use Rattle.uni_model.specs.Transition.{stage_after_scan};
 ghost use Rattle.uni_words.specs.Words.{cells_of, link_of};
-ghost use Rattle.uni_model.specs.Stages.Stage.{Announce, ScanHead, ScanSeq, WriteScan, Test, ReadAnnounce, ReadHelpSeq};
+ghost use Rattle.uni_model.specs.Stages.Stage.{Announce, ScanHead, ScanSeq, WriteScan, Test, ReadAnnounce};
+ghost use Rattle.uni_model.specs.Stages.Stage.{ReadHelpSeq};
 ghost use Rattle.uni_model.specs.Stages.Stage.{DecideAfter, DecideNew, WriteBefore, WriteSeq, WriteHead, Finish};
 
 use crate::cursor::Cursor;

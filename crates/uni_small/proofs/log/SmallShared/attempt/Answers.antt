@@ -72,7 +72,7 @@ bring-requires-clause-announced g c =
     let here : slice_index room.applied.items c.args.p ≡ c.index.result.now = sym (c.index.ensures ∙ get_or_default_zero room.applied.items c.args.p c.index.result.now (let r = c.gather-s.ensures.room.applied in let i = c.requires.inside in omega arith)) in
     let other : slice_index room.applied.items c.args.p ≢ length (local_of c.args.seat.now.me).own + 1 = (λ own. c.if-index-number.false (sym here ∙ own ∙ sym c.requires.number)) in
     let now = goes_in meaning sizes c.args.p c.args.tries c.gather-s.result first.0 (image_in sizes room) (room_rows sizes room c.gather-s.ensures.room) c.requires.inside (all_seen room) c.args.seat.now.me c.gather-s.new.seat.me c.check-again.new.seat.me first.2 c.check-again.result c.check-again.ensures.left c.if-again-s.false other in
-    direct_after c.args.seat.now.me c.check-again.new.seat.me (first.0 + 1) (Writing c.args.tries c.gather-s.result (image_in sizes room) (all_seen room)) now ∙ c.requires.announced
+    direct_after c.args.seat.now.me c.check-again.new.seat.me (first.0 + 1) (Writing c.args.tries c.gather-s.result (image_in sizes room) (all_seen room) 0) now ∙ c.requires.announced
 
 pub bring-requires-clause-own : goal.bring-requires-clause-own
 bring-requires-clause-own g c =
@@ -83,7 +83,7 @@ bring-requires-clause-own g c =
     let here : slice_index room.applied.items c.args.p ≡ c.index.result.now = sym (c.index.ensures ∙ get_or_default_zero room.applied.items c.args.p c.index.result.now (let r = c.gather-s.ensures.room.applied in let i = c.requires.inside in omega arith)) in
     let other : slice_index room.applied.items c.args.p ≢ length (local_of c.args.seat.now.me).own + 1 = (λ own. c.if-index-number.false (sym here ∙ own ∙ sym c.requires.number)) in
     let now = goes_in meaning sizes c.args.p c.args.tries c.gather-s.result first.0 (image_in sizes room) (room_rows sizes room c.gather-s.ensures.room) c.requires.inside (all_seen room) c.args.seat.now.me c.gather-s.new.seat.me c.check-again.new.seat.me first.2 c.check-again.result c.check-again.ensures.left c.if-again-s.false other in
-    buffers_stay sizes c.args.tries (first.0 + 1) (Writing c.args.tries c.gather-s.result (image_in sizes room) (all_seen room)) c.args.own.now c.args.seat.now.me c.check-again.new.seat.me now c.requires.own
+    buffers_stay sizes c.args.tries (first.0 + 1) (Writing c.args.tries c.gather-s.result (image_in sizes room) (all_seen room) 0) c.args.own.now c.args.seat.now.me c.check-again.new.seat.me now c.requires.own
 
 pub returns-clause-ends : goal.returns-clause-ends
 returns-clause-ends g c =
@@ -94,7 +94,7 @@ returns-clause-ends g c =
     let here : slice_index room.applied.items c.args.p ≡ c.index.result.now = sym (c.index.ensures ∙ get_or_default_zero room.applied.items c.args.p c.index.result.now (let r = c.gather-s.ensures.room.applied in let i = c.requires.inside in omega arith)) in
     let other : slice_index room.applied.items c.args.p ≢ length (local_of c.args.seat.now.me).own + 1 = (λ own. c.if-index-number.false (sym here ∙ own ∙ sym c.requires.number)) in
     let now = goes_in meaning sizes c.args.p c.args.tries c.gather-s.result first.0 (image_in sizes room) (room_rows sizes room c.gather-s.ensures.room) c.requires.inside (all_seen room) c.args.seat.now.me c.gather-s.new.seat.me c.check-again.new.seat.me first.2 c.check-again.result c.check-again.ensures.left c.if-again-s.false other in
-    ends_later sizes c.args.tries (first.0 + 1) (Writing c.args.tries c.gather-s.result (image_in sizes room) (all_seen room)) c.args.own.now c.args.seat.now.me c.check-again.new.seat.me now c.requires.own c.bring.new.seat.me (buffer_words sizes + 1) (attempt_steps sizes) c.bring.result c.bring.new.own c.bring.ensures.ends (let f = first.1 in omega arith)
+    ends_later sizes c.args.tries (first.0 + 1) (Writing c.args.tries c.gather-s.result (image_in sizes room) (all_seen room) 0) c.args.own.now c.args.seat.now.me c.check-again.new.seat.me now c.requires.own c.bring.new.seat.me (buffer_words sizes + 1) (attempt_steps sizes) c.bring.result c.bring.new.own c.bring.ensures.ends (let f = first.1 in omega arith)
 
 pub bring-requires-clause-of : goal.bring-requires-clause-of
 bring-requires-clause-of g c =
@@ -105,7 +105,7 @@ bring-requires-clause-of g c =
     let here : slice_index room.applied.items c.args.p ≡ c.index.result.now = sym (c.index.ensures ∙ get_or_default_zero room.applied.items c.args.p c.index.result.now (let r = c.gather-s.ensures.room.applied in let i = c.requires.inside in omega arith)) in
     let other : slice_index room.applied.items c.args.p ≢ length (local_of c.args.seat.now.me).own + 1 = (λ own. c.if-index-number.false (sym here ∙ own ∙ sym c.requires.number)) in
     let now = goes_in meaning sizes c.args.p c.args.tries c.gather-s.result first.0 (image_in sizes room) (room_rows sizes room c.gather-s.ensures.room) c.requires.inside (all_seen room) c.args.seat.now.me c.gather-s.new.seat.me c.check-again.new.seat.me first.2 c.check-again.result c.check-again.ensures.left c.if-again-s.false other in
-    of_after c.args.seat.now.me c.check-again.new.seat.me (first.0 + 1) (Writing c.args.tries c.gather-s.result (image_in sizes room) (all_seen room)) now c.requires.of
+    of_after c.args.seat.now.me c.check-again.new.seat.me (first.0 + 1) (Writing c.args.tries c.gather-s.result (image_in sizes room) (all_seen room) 0) now c.requires.of
 
 pub bring-requires-clause-stage : goal.bring-requires-clause-stage
 bring-requires-clause-stage g c =
@@ -116,7 +116,7 @@ bring-requires-clause-stage g c =
     let here : slice_index room.applied.items c.args.p ≡ c.index.result.now = sym (c.index.ensures ∙ get_or_default_zero room.applied.items c.args.p c.index.result.now (let r = c.gather-s.ensures.room.applied in let i = c.requires.inside in omega arith)) in
     let other : slice_index room.applied.items c.args.p ≢ length (local_of c.args.seat.now.me).own + 1 = (λ own. c.if-index-number.false (sym here ∙ own ∙ sym c.requires.number)) in
     let now = goes_in meaning sizes c.args.p c.args.tries c.gather-s.result first.0 (image_in sizes room) (room_rows sizes room c.gather-s.ensures.room) c.requires.inside (all_seen room) c.args.seat.now.me c.gather-s.new.seat.me c.check-again.new.seat.me first.2 c.check-again.result c.check-again.ensures.left c.if-again-s.false other in
-    stage_after c.args.seat.now.me c.check-again.new.seat.me (first.0 + 1) (Writing c.args.tries c.gather-s.result (image_in sizes room) (all_seen room)) now
+    stage_after c.args.seat.now.me c.check-again.new.seat.me (first.0 + 1) (Writing c.args.tries c.gather-s.result (image_in sizes room) (all_seen room) 0) now
 
 pub bring-requires-clause-good : goal.bring-requires-clause-good
 bring-requires-clause-good g c =

@@ -110,7 +110,7 @@ bring_own-requires-clause-of g c =
     let me2 = c.check_own-again.new.seat.me in
     let inv = c.args.invocation.now in
     let now = own_goes_in meaning sizes s first.0 (image_in sizes room) rows seen me0 me1 me2 first.2 c.check_own-again.result c.check_own-again.ensures.left c.if-again-s.false in
-    let stage = Writing 0 s (image_in sizes room) seen in
+    let stage = Writing 0 s (image_in sizes room) seen 0 in
     own_of sizes s (first.0 + 1) copy inv stage me me0 me2 c.begin-s.ensures.left now c.requires.of
 
 pub bring_own-requires-clause-direct : goal.bring_own-requires-clause-direct
@@ -129,7 +129,7 @@ bring_own-requires-clause-direct g c =
     let me2 = c.check_own-again.new.seat.me in
     let inv = c.args.invocation.now in
     let now = own_goes_in meaning sizes s first.0 (image_in sizes room) rows seen me0 me1 me2 first.2 c.check_own-again.result c.check_own-again.ensures.left c.if-again-s.false in
-    let stage = Writing 0 s (image_in sizes room) seen in
+    let stage = Writing 0 s (image_in sizes room) seen 0 in
     own_direct sizes s (first.0 + 1) copy inv stage me me0 me2 c.begin-s.ensures.left now
 
 pub bring_own-requires-clause-calls : goal.bring_own-requires-clause-calls
@@ -148,7 +148,7 @@ bring_own-requires-clause-calls g c =
     let me2 = c.check_own-again.new.seat.me in
     let inv = c.args.invocation.now in
     let now = own_goes_in meaning sizes s first.0 (image_in sizes room) rows seen me0 me1 me2 first.2 c.check_own-again.result c.check_own-again.ensures.left c.if-again-s.false in
-    let stage = Writing 0 s (image_in sizes room) seen in
+    let stage = Writing 0 s (image_in sizes room) seen 0 in
     let same = ap (λ (xs : List Returned). length xs) (own_calls_are sizes s (first.0 + 1) copy inv stage me me0 me2 c.begin-s.ensures.left now) in
     let few = c.requires.calls in omega arith
 
@@ -168,7 +168,7 @@ bring_own-requires-clause-stage g c =
     let me2 = c.check_own-again.new.seat.me in
     let inv = c.args.invocation.now in
     let now = own_goes_in meaning sizes s first.0 (image_in sizes room) rows seen me0 me1 me2 first.2 c.check_own-again.result c.check_own-again.ensures.left c.if-again-s.false in
-    let stage = Writing 0 s (image_in sizes room) seen in
+    let stage = Writing 0 s (image_in sizes room) seen 0 in
     stage_after me0 me2 (first.0 + 1) stage now
 
 pub bring_own-requires-clause-good : goal.bring_own-requires-clause-good
@@ -204,7 +204,7 @@ bring_own-requires-clause-own g c =
     let me2 = c.check_own-again.new.seat.me in
     let inv = c.args.invocation.now in
     let now = own_goes_in meaning sizes s first.0 (image_in sizes room) rows seen me0 me1 me2 first.2 c.check_own-again.result c.check_own-again.ensures.left c.if-again-s.false in
-    let stage = Writing 0 s (image_in sizes room) seen in
+    let stage = Writing 0 s (image_in sizes room) seen 0 in
     own_buffers sizes s (first.0 + 1) copy inv stage me me0 me2 c.begin-s.ensures.left now c.args.own.now c.requires.own
 
 pub returns-clause-ends : goal.returns-clause-ends
@@ -223,5 +223,5 @@ returns-clause-ends g c =
     let me2 = c.check_own-again.new.seat.me in
     let inv = c.args.invocation.now in
     let now = own_goes_in meaning sizes s first.0 (image_in sizes room) rows seen me0 me1 me2 first.2 c.check_own-again.result c.check_own-again.ensures.left c.if-again-s.false in
-    let stage = Writing 0 s (image_in sizes room) seen in
+    let stage = Writing 0 s (image_in sizes room) seen 0 in
     tries_later sizes s (first.0 + 1) copy inv stage me me0 me2 c.begin-s.ensures.left now c.bring_own.new.seat.me (buffer_words sizes + 1) (attempt_steps sizes) c.bring_own.result c.bring_own.new.own c.bring_own.ensures.ends (let f = first.1 in omega arith)

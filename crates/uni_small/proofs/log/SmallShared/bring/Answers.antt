@@ -21,18 +21,19 @@ write-requires-clause-stage g c =
       image,
       seen,
       seen,
+      0,
       c.requires.stage,
-      inl (c.requires.announced, refl),
+      (inl (c.requires.announced, refl), omega arith, λ i below. absurd (omega arith)),
       (λ i below. ap (λ (m : Image). slice_index (spell m) i) same ∙ ap (slice_index (spell (with_seen object image 0 seen))) (let e : i ≡ 0 + i = omega arith in e)),
     )
 
 pub bring_in-found-requires-clause-of : goal.bring_in-found-requires-clause-of
 bring_in-found-requires-clause-of g c =
-    writes_of c.args.seat.now.me c.write.new.seat.me (buffer_words c.args.self.now.setup.sizes) c.write.new.own.held.items c.write.ensures.goes c.requires.of
+    writes_of c.args.seat.now.me c.write.new.seat.me 0 (buffer_words c.args.self.now.setup.sizes) c.write.new.own.held.items c.write.ensures.goes c.requires.of
 
 pub bring_in-found-requires-clause-announced : goal.bring_in-found-requires-clause-announced
 bring_in-found-requires-clause-announced g c =
-    writes_direct c.args.seat.now.me c.write.new.seat.me (buffer_words c.args.self.now.setup.sizes) c.write.new.own.held.items c.write.ensures.goes ∙ c.requires.announced
+    writes_direct c.args.seat.now.me c.write.new.seat.me 0 (buffer_words c.args.self.now.setup.sizes) c.write.new.own.held.items c.write.ensures.goes ∙ c.requires.announced
 
 pub bring_in-found-requires-clause-spare : goal.bring_in-found-requires-clause-spare
 bring_in-found-requires-clause-spare g c =
@@ -40,7 +41,7 @@ bring_in-found-requires-clause-spare g c =
     let me1 = c.write.new.seat.me in
     let own = c.args.own.now in
     let own1 = c.write.new.own in
-    let are : AreBuffers c.args.self.now.setup.sizes (local_of me1) own1 = writes_buffers me me1 (buffer_words c.args.self.now.setup.sizes) own1.held.items c.write.ensures.goes c.args.self.now.setup.sizes own own1 c.requires.own c.write.ensures.spare refl c.write.ensures.long in
+    let are : AreBuffers c.args.self.now.setup.sizes (local_of me1) own1 = writes_buffers me me1 0 (buffer_words c.args.self.now.setup.sizes) own1.held.items c.write.ensures.goes c.args.self.now.setup.sizes own own1 c.requires.own c.write.ensures.spare refl c.write.ensures.long in
     (are.spare, are.which)
 
 pub bring_in-found-requires-clause-stage : goal.bring_in-found-requires-clause-stage
@@ -60,11 +61,12 @@ bring_in-found-requires-clause-stage g c =
     let me1 = c.write.new.seat.me in
     let own = c.args.own.now in
     let own1 = c.write.new.own in
-    let are : AreBuffers c.args.self.now.setup.sizes (local_of me1) own1 = writes_buffers me me1 (buffer_words c.args.self.now.setup.sizes) own1.held.items c.write.ensures.goes c.args.self.now.setup.sizes own own1 c.requires.own c.write.ensures.spare refl c.write.ensures.long in (
+    let are : AreBuffers c.args.self.now.setup.sizes (local_of me1) own1 = writes_buffers me me1 0 (buffer_words c.args.self.now.setup.sizes) own1.held.items c.write.ensures.goes c.args.self.now.setup.sizes own own1 c.requires.own c.write.ensures.spare refl c.write.ensures.long in (
       image,
       (
         seen,
-        writes_stage me me1 (buffer_words sizes) own1.held.items c.write.ensures.goes ∙ c.requires.stage,
+        c.write.ensures.goes.2,
+        writes_stage me me1 0 (buffer_words sizes) own1.held.items c.write.ensures.goes c.args.tries c.args.s 0 image seen c.requires.stage,
         (λ i below. (λ k. slice_index (are.held k) (held_place sizes ((are.spare ∙ c.write.ensures.spare) k) i)) ∙ c.write.ensures.held i below ∙ ap (λ (m : Image). slice_index (spell m) i) same),
       ),
     )

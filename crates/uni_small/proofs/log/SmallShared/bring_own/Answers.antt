@@ -24,22 +24,23 @@ write-requires-clause-stage g c =
       image,
       seen,
       slice_set seen c.args.seat.now.me.0.known.first (Some c.args.invocation.now),
+      0,
       c.requires.stage,
-      inr (c.requires.direct, c.args.invocation.now, refl),
+      (inr (c.requires.direct, c.args.invocation.now, c.requires.wide, refl), omega arith, λ i below. absurd (omega arith)),
       (λ i below. ap (λ (m : Image). slice_index (spell m) i) same ∙ ap (slice_index (spell (with_seen object image 0 (slice_set seen c.args.seat.now.me.0.known.first (Some c.args.invocation.now))))) (let e : i ≡ 0 + i = omega arith in e)),
     )
 
 pub bring_in_own-found-requires-clause-of : goal.bring_in_own-found-requires-clause-of
 bring_in_own-found-requires-clause-of g c =
-    writes_of c.args.seat.now.me c.write.new.seat.me (buffer_words c.args.self.now.setup.sizes) c.write.new.own.held.items c.write.ensures.goes c.requires.of
+    writes_of c.args.seat.now.me c.write.new.seat.me 0 (buffer_words c.args.self.now.setup.sizes) c.write.new.own.held.items c.write.ensures.goes c.requires.of
 
 pub bring_in_own-found-requires-clause-direct : goal.bring_in_own-found-requires-clause-direct
 bring_in_own-found-requires-clause-direct g c =
-    writes_direct c.args.seat.now.me c.write.new.seat.me (buffer_words c.args.self.now.setup.sizes) c.write.new.own.held.items c.write.ensures.goes ∙ c.requires.direct
+    writes_direct c.args.seat.now.me c.write.new.seat.me 0 (buffer_words c.args.self.now.setup.sizes) c.write.new.own.held.items c.write.ensures.goes ∙ c.requires.direct
 
 pub bring_in_own-found-requires-clause-room : goal.bring_in_own-found-requires-clause-room
 bring_in_own-found-requires-clause-room g c =
-    let same = ap (λ (xs : List Returned). length xs) (writes_own c.args.seat.now.me c.write.new.seat.me (buffer_words c.args.self.now.setup.sizes) c.write.new.own.held.items c.write.ensures.goes) in
+    let same = ap (λ (xs : List Returned). length xs) (writes_own c.args.seat.now.me c.write.new.seat.me 0 (buffer_words c.args.self.now.setup.sizes) c.write.new.own.held.items c.write.ensures.goes) in
     let few = c.requires.calls in omega arith
 
 pub bring_in_own-found-requires-clause-spare : goal.bring_in_own-found-requires-clause-spare
@@ -48,7 +49,7 @@ bring_in_own-found-requires-clause-spare g c =
     let me1 = c.write.new.seat.me in
     let own = c.args.own.now in
     let own1 = c.write.new.own in
-    let are : AreBuffers c.args.self.now.setup.sizes (local_of me1) own1 = writes_buffers me me1 (buffer_words c.args.self.now.setup.sizes) own1.held.items c.write.ensures.goes c.args.self.now.setup.sizes own own1 c.requires.own c.write.ensures.spare refl c.write.ensures.long in
+    let are : AreBuffers c.args.self.now.setup.sizes (local_of me1) own1 = writes_buffers me me1 0 (buffer_words c.args.self.now.setup.sizes) own1.held.items c.write.ensures.goes c.args.self.now.setup.sizes own own1 c.requires.own c.write.ensures.spare refl c.write.ensures.long in
     (are.spare, are.which)
 
 pub bring_in_own-found-requires-clause-stage : goal.bring_in_own-found-requires-clause-stage
@@ -71,14 +72,15 @@ bring_in_own-found-requires-clause-stage g c =
     let same = (λ i. image_of_rows sizes (a i) (b i) (d i)) ∙ c.apply_seen.ensures.image ∙ (λ i. with_seen object (before i) 0 (all_is i)) in
     let me = c.args.seat.now.me in
     let me1 = c.write.new.seat.me in
-    let first_is : me1.0.known.first ≡ me.0.known.first = ap (λ (m : Me Seen (View _)). m.0.known.first) c.write.ensures.goes.2 in
+    let first_is : me1.0.known.first ≡ me.0.known.first = ap (λ (m : Me Seen (View _)). m.0.known.first) c.write.ensures.goes.4 in
     let own = c.args.own.now in
     let own1 = c.write.new.own in
-    let are : AreBuffers c.args.self.now.setup.sizes (local_of me1) own1 = writes_buffers me me1 (buffer_words c.args.self.now.setup.sizes) own1.held.items c.write.ensures.goes c.args.self.now.setup.sizes own own1 c.requires.own c.write.ensures.spare refl c.write.ensures.long in (
+    let are : AreBuffers c.args.self.now.setup.sizes (local_of me1) own1 = writes_buffers me me1 0 (buffer_words c.args.self.now.setup.sizes) own1.held.items c.write.ensures.goes c.args.self.now.setup.sizes own own1 c.requires.own c.write.ensures.spare refl c.write.ensures.long in (
       image,
       (
         seen,
-        writes_stage me me1 (buffer_words sizes) own1.held.items c.write.ensures.goes ∙ c.requires.stage,
+        c.write.ensures.goes.2,
+        writes_stage me me1 0 (buffer_words sizes) own1.held.items c.write.ensures.goes 0 c.args.s 0 image seen c.requires.stage,
         (λ i below. (λ k. slice_index (are.held k) (held_place sizes ((are.spare ∙ c.write.ensures.spare) k) i)) ∙ c.write.ensures.held i below ∙ ap (λ (m : Image). slice_index (spell m) i) same
             ∙ (λ k. slice_index (spell (with_seen object image 0 (slice_set seen (sym first_is k) (Some (sym words k))))) i)),
       ),

@@ -1,9 +1,9 @@
-use Rattle.uni_small.proofs.Vocabulary.{HasRoom, Image, List, Room, Sizes, ap, arith, buffer_words, held_place, image_in, length, refl, slice_index, spell, sym, with_row, with_seen, ℕ, ◌*◌, ◌++◌, ◌+◌, ◌-◌, ◌<◌, ◌∙◌, ◌≡◌}
-use Rattle.uni_small.proofs.Going.{writes_applied, writes_stage, writes_of, writes_buffers, writes_more}
+use Rattle.uni_small.proofs.Vocabulary.{AreBuffers, Buffers, HasComeTo, HasRoom, Image, Me, Option, Seen, Sequential, View, WritesWithin, local_of, subst, ◌≤◌, List, Room, Sizes, ap, arith, buffer_words, held_place, image_in, length, refl, slice_index, spell, sym, with_row, with_seen, ℕ, ◌*◌, ◌++◌, ◌+◌, ◌-◌, ◌<◌, ◌∙◌, ◌≡◌}
+use Rattle.uni_small.proofs.Going.{writes_buffers, writes_come, writes_more, writes_of, writes_stage}
 use Rattle.uni_small.proofs.Images.{spell-applied, spell-length}
 use Rattle.uni_small.proofs.Rooms.{room_reply, room_rows, room_spelled, room_state}
 use Rattle.uni_small.proofs.Rows.{with_row-index, with_row-length, with_rows}
-use Rattle.uni_small.proofs.Words.{held_inside}
+use Rattle.uni_small.proofs.Words.{held_inside, held_room}
 use Rattle.uni_small.proofs.log.SmallShared.write.Goals as goal
 
 -- the words of a row are the image's
@@ -24,7 +24,7 @@ module _ (sizes : Sizes) (room : Room) (h : HasRoom sizes room) (image : Image)
       ∙ ap (slice_index (spell image)) (let e : 0 + (sizes.processes + sizes.processes * sizes.reply + i) ≡ sizes.processes + sizes.processes * sizes.reply + i = omega arith in e)
 
 pub write_row-requires-2-clause-of : goal.write_row-requires-2-clause-of
-write_row-requires-2-clause-of g c = writes_of c.args.seat.now.me c.write_row.new.seat.me (length c.deref.result.now) c.write_row.new.own.held.items c.write_row.ensures.goes c.requires.of
+write_row-requires-2-clause-of g c = writes_of c.args.seat.now.me c.write_row.new.seat.me 0 (length c.deref.result.now) c.write_row.new.own.held.items c.write_row.ensures.goes c.requires.of
 
 pub write_row-requires-2-clause-own : goal.write_row-requires-2-clause-own
 write_row-requires-2-clause-own g c =
@@ -36,32 +36,59 @@ write_row-requires-2-clause-own g c =
     let me1 = c.write_row.new.seat.me in
     let own1 = c.write_row.new.own in
     let long1 = ap (λ (ws : List ℕ). length ws) c.write_row.ensures.held ∙ with_row-length own.held.items (held_place sizes own.spare 0) a in
-    let are1 = writes_buffers me me1 (length a) own1.held.items c.write_row.ensures.goes sizes own own1 c.requires.own c.write_row.ensures.spare refl long1 in
+    let are1 = writes_buffers me me1 0 (length a) own1.held.items c.write_row.ensures.goes sizes own own1 c.requires.own c.write_row.ensures.spare refl long1 in
     are1
+
+-- the first row is written, and then the second one
+module _ {O : Type 0} (object : Sequential (List ℕ) (List ℕ) (List ℕ)) (sizes : Sizes) (me me1 : Me Seen (View O)) (own own1 : Buffers) (are : AreBuffers sizes (local_of me) own) where
+  -- what has been written with a row more
+  come_further : (from most : ℕ) (row : List ℕ) → length row ≡ most → (first : WritesWithin me from (length row) own1.held.items me1) → own1.held.items ≡ with_row own.held.items (held_place sizes own.spare from) row
+      → from + most ≤ buffer_words sizes → (image : Image) (seen all : List (Option (List ℕ))) (written : ℕ) → HasComeTo object sizes me.0.known.first (local_of me) image seen all written from
+      → ((i : ℕ) → i < most → slice_index row i ≡ slice_index (spell (with_seen object image 0 all)) (from + i))
+      → HasComeTo object sizes me1.0.known.first (local_of me1) image seen all first.2 (from + most)
+  come_further from most row long first is inside image seen all written come words =
+      subst (λ k. HasComeTo object sizes me1.0.known.first (local_of me1) image seen all first.2 (from + k)) long
+      (writes_come object sizes me me1 from (length row) own1.held.items row image seen all written first refl
+      (is ∙ (λ k. with_row (sym are.held k) (held_place sizes (sym are.spare k) from) row))
+      (held_room sizes (local_of me) own are from (length row) (omega (arith, long, inside))) come (λ i below. words i (omega (arith, long, below))))
+
+-- what has been written with the first row
+first_come : {O : Type 0} (object : Sequential (List ℕ) (List ℕ) (List ℕ)) (sizes : Sizes) (me me1 : Me Seen (View O)) (own own1 : Buffers) (room : Room) (h : HasRoom sizes room) → AreBuffers sizes (local_of me) own → (row : List ℕ) → row ≡ room.applied.items
+    → (first : WritesWithin me 0 (length row) own1.held.items me1) → own1.held.items ≡ with_row own.held.items (held_place sizes own.spare 0) row → (image : Image) (seen all : List (Option (List ℕ))) (written : ℕ)
+    → HasComeTo object sizes me.0.known.first (local_of me) image seen all written 0
+    → ((i : ℕ) → i < length (spell (image_in sizes room)) → slice_index (spell (image_in sizes room)) i ≡ slice_index (spell (with_seen object image 0 all)) (0 + i))
+    → HasComeTo object sizes me1.0.known.first (local_of me1) image seen all first.2 sizes.processes
+first_come object sizes me me1 own own1 room h are row value first held image seen all written come same =
+    subst (λ k. HasComeTo object sizes me1.0.known.first (local_of me1) image seen all first.2 k) (let e : 0 + sizes.processes ≡ sizes.processes = omega arith in e)
+    (come_further object sizes me me1 own own1 are 0 sizes.processes row (ap (λ (xs : List ℕ). length xs) value ∙ h.applied) first held (omega arith) image seen all written come
+    (λ i below. ap (λ (xs : List ℕ). slice_index xs i) value ∙ applied_row sizes room h (with_seen object image 0 all) same i below))
 
 pub write_row-requires-2-clause-stage : goal.write_row-requires-2-clause-stage
 write_row-requires-2-clause-stage g c =
     let object = (g.O.SmallObject.meaning c.args.self.now.setup.object).object in
     let sizes = c.args.self.now.setup.sizes in
     let me = c.args.seat.now.me in
-    let own = c.args.own.now in
+    let me1 = c.write_row.new.seat.me in
+    let own1 = c.write_row.new.own in
     let room = c.args.room.now in
-    let at = c.requires.stage in (
+    let at = c.requires.stage in
+    let goes = c.write_row.ensures.goes in (
       at.0,
       at.1,
       at.2,
       at.3,
       at.4,
-      writes_stage me c.write_row.new.seat.me (length c.deref.result.now) c.write_row.new.own.held.items c.write_row.ensures.goes ∙ at.5,
-      writes_applied me c.write_row.new.seat.me (length c.deref.result.now) c.write_row.new.own.held.items at.3 at.4 c.write_row.ensures.goes at.6,
-      (λ i below. ap (λ (xs : List ℕ). slice_index xs i) c.deref-2.ensures.value ∙ reply_row sizes room c.requires.room (with_seen object at.2 0 at.4) at.7 i
+      goes.2,
+      writes_stage me me1 0 (length c.deref.result.now) own1.held.items goes at.0 at.1 at.5 at.2 at.3 at.6,
+      first_come object sizes me me1 c.args.own.now own1 room c.requires.room c.requires.own c.deref.result.now c.deref.ensures.value goes c.write_row.ensures.held at.2 at.3 at.4 at.5 at.7 at.8,
+      (λ i below. ap (λ (xs : List ℕ). slice_index xs i) c.deref-2.ensures.value ∙ reply_row sizes room c.requires.room (with_seen object at.2 0 at.4) at.8 i
           (let e : length c.deref-2.result.now ≡ length room.reply.items = ap (λ (xs : List ℕ). length xs) c.deref-2.ensures.value in let r = c.requires.room.reply in omega arith)),
     )
 
 pub write_row-requires-3-clause-of : goal.write_row-requires-3-clause-of
 write_row-requires-3-clause-of g c =
-    let first = writes_of c.args.seat.now.me c.write_row.new.seat.me (length c.deref.result.now) c.write_row.new.own.held.items c.write_row.ensures.goes c.requires.of in
-    writes_of c.write_row.new.seat.me c.write_row-2.new.seat.me (length c.deref-2.result.now) c.write_row-2.new.own.held.items c.write_row-2.ensures.goes first
+    let first = writes_of c.args.seat.now.me c.write_row.new.seat.me 0 (length c.deref.result.now) c.write_row.new.own.held.items c.write_row.ensures.goes c.requires.of in
+    writes_of c.write_row.new.seat.me c.write_row-2.new.seat.me c.args.self.now.setup.sizes.processes (length c.deref-2.result.now) c.write_row-2.new.own.held.items c.write_row-2.ensures.goes first
 
 pub write_row-requires-3-clause-own : goal.write_row-requires-3-clause-own
 write_row-requires-3-clause-own g c =
@@ -73,12 +100,12 @@ write_row-requires-3-clause-own g c =
     let me1 = c.write_row.new.seat.me in
     let own1 = c.write_row.new.own in
     let long1 = ap (λ (ws : List ℕ). length ws) c.write_row.ensures.held ∙ with_row-length own.held.items (held_place sizes own.spare 0) a in
-    let are1 = writes_buffers me me1 (length a) own1.held.items c.write_row.ensures.goes sizes own own1 c.requires.own c.write_row.ensures.spare refl long1 in
+    let are1 = writes_buffers me me1 0 (length a) own1.held.items c.write_row.ensures.goes sizes own own1 c.requires.own c.write_row.ensures.spare refl long1 in
     let b = c.deref-2.result.now in
     let me2 = c.write_row-2.new.seat.me in
     let own2 = c.write_row-2.new.own in
     let long2 = ap (λ (ws : List ℕ). length ws) c.write_row-2.ensures.held ∙ with_row-length own1.held.items (held_place sizes own1.spare sizes.processes) b in
-    writes_buffers me1 me2 (length b) own2.held.items c.write_row-2.ensures.goes sizes own1 own2 are1 c.write_row-2.ensures.spare refl long2
+    writes_buffers me1 me2 sizes.processes (length b) own2.held.items c.write_row-2.ensures.goes sizes own1 own2 are1 c.write_row-2.ensures.spare refl long2
 
 pub write_row-requires-3-clause-stage : goal.write_row-requires-3-clause-stage
 write_row-requires-3-clause-stage g c =
@@ -87,17 +114,29 @@ write_row-requires-3-clause-stage g c =
     let me = c.args.seat.now.me in
     let own = c.args.own.now in
     let room = c.args.room.now in
-    let at = c.requires.stage in (
+    let at = c.requires.stage in
+    let me1 = c.write_row.new.seat.me in
+    let own1 = c.write_row.new.own in
+    let a = c.deref.result.now in
+    let first = c.write_row.ensures.goes in
+    let long1 = ap (λ (ws : List ℕ). length ws) c.write_row.ensures.held ∙ with_row-length own.held.items (held_place sizes own.spare 0) a in
+    let are1 = writes_buffers me me1 0 (length a) own1.held.items first sizes own own1 c.requires.own c.write_row.ensures.spare refl long1 in
+    let me2 = c.write_row-2.new.seat.me in
+    let own2 = c.write_row-2.new.own in
+    let b = c.deref-2.result.now in
+    let goes = c.write_row-2.ensures.goes in
+    let lb : length b ≡ sizes.processes * sizes.reply = ap (λ (xs : List ℕ). length xs) c.deref-2.ensures.value ∙ c.requires.room.reply in (
       at.0,
       at.1,
       at.2,
       at.3,
       at.4,
-      writes_stage c.write_row.new.seat.me c.write_row-2.new.seat.me (length c.deref-2.result.now) c.write_row-2.new.own.held.items c.write_row-2.ensures.goes
-          ∙ writes_stage me c.write_row.new.seat.me (length c.deref.result.now) c.write_row.new.own.held.items c.write_row.ensures.goes ∙ at.5,
-      writes_applied c.write_row.new.seat.me c.write_row-2.new.seat.me (length c.deref-2.result.now) c.write_row-2.new.own.held.items at.3 at.4 c.write_row-2.ensures.goes
-          (writes_applied me c.write_row.new.seat.me (length c.deref.result.now) c.write_row.new.own.held.items at.3 at.4 c.write_row.ensures.goes at.6),
-      (λ i below. ap (λ (xs : List ℕ). slice_index xs i) c.deref-3.ensures.value ∙ state_row sizes room c.requires.room (with_seen object at.2 0 at.4) at.7 i
+      goes.2,
+      writes_stage me1 me2 sizes.processes (length b) own2.held.items goes at.0 at.1 first.2 at.2 at.3 (writes_stage me me1 0 (length a) own1.held.items first at.0 at.1 at.5 at.2 at.3 at.6),
+      come_further object sizes me1 me2 own1 own2 are1 sizes.processes (sizes.processes * sizes.reply) b lb goes c.write_row-2.ensures.held (omega arith) at.2 at.3 at.4 first.2
+          (first_come object sizes me me1 own own1 room c.requires.room c.requires.own a c.deref.ensures.value first c.write_row.ensures.held at.2 at.3 at.4 at.5 at.7 at.8)
+          (λ i below. ap (λ (xs : List ℕ). slice_index xs i) c.deref-2.ensures.value ∙ reply_row sizes room c.requires.room (with_seen object at.2 0 at.4) at.8 i below),
+      (λ i below. ap (λ (xs : List ℕ). slice_index xs i) c.deref-3.ensures.value ∙ state_row sizes room c.requires.room (with_seen object at.2 0 at.4) at.8 i
           (let e : length c.deref-3.result.now ≡ length room.state.items = ap (λ (xs : List ℕ). length xs) c.deref-3.ensures.value in let r = c.requires.room.state in omega arith)),
     )
 
@@ -113,9 +152,16 @@ returns-clause-goes g c =
     let la : length a ≡ length room.applied.items = ap (λ (xs : List ℕ). length xs) c.deref.ensures.value in
     let lb : length b ≡ length room.reply.items = ap (λ (xs : List ℕ). length xs) c.deref-2.ensures.value in
     let ld : length d ≡ length room.state.items = ap (λ (xs : List ℕ). length xs) c.deref-3.ensures.value in
-    let two = writes_more me c.write_row.new.seat.me (length a) c.write_row.new.own.held.items c.write_row.ensures.goes c.write_row-2.new.seat.me (length b) c.write_row-2.new.own.held.items c.write_row-2.ensures.goes in
-    let all = writes_more me c.write_row-2.new.seat.me (length a + length b) c.write_row-2.new.own.held.items two c.write_row-3.new.seat.me (length d) c.write_row-3.new.own.held.items c.write_row-3.ensures.goes in
-    (all.0, (let few = all.1 in let r = c.requires.room.applied in let q = c.requires.room.reply in let s = c.requires.room.state in omega arith), all.2)
+    let r = c.requires.room.applied in
+    let q = c.requires.room.reply in
+    let s = c.requires.room.state in
+    let at_second : sizes.processes ≡ 0 + length a = omega arith in
+    let at_third : sizes.processes + sizes.processes * sizes.reply ≡ 0 + (length a + length b) = omega arith in
+    let two = writes_more me c.write_row.new.seat.me 0 (length a) c.write_row.new.own.held.items c.write_row.ensures.goes c.write_row-2.new.seat.me (length b) c.write_row-2.new.own.held.items
+    (subst (λ k. WritesWithin c.write_row.new.seat.me k (length b) c.write_row-2.new.own.held.items c.write_row-2.new.seat.me) at_second c.write_row-2.ensures.goes) in
+    let all = writes_more me c.write_row-2.new.seat.me 0 (length a + length b) c.write_row-2.new.own.held.items two c.write_row-3.new.seat.me (length d) c.write_row-3.new.own.held.items
+    (subst (λ k. WritesWithin c.write_row-2.new.seat.me k (length d) c.write_row-3.new.own.held.items c.write_row-3.new.seat.me) at_third c.write_row-3.ensures.goes) in
+    (all.0, (let few = all.1 in omega arith), all.2, (let to = all.3 in omega arith), all.4)
 
 pub returns-clause-held : goal.returns-clause-held
 returns-clause-held g c =

@@ -1,4 +1,4 @@
-use Rattle.uni_small.proofs.Vocabulary.{HasWritten, ap, arith, buffer_word, held_place, local_of, none, nothing, slice_index, step, sym, with_local, wrote, ◌*◌, ◌+◌, ◌∙◌}
+use Rattle.uni_small.proofs.Vocabulary.{HasWritten, arith, buffer_word, held_place, local_of, none, nothing, step, sym, with_local, wrote, ◌*◌, ◌+◌, ◌∙◌}
 use Rattle.uni_small.proofs.Allowed.{by_key}
 use Rattle.uni_small.proofs.Stores.{writes}
 use Rattle.uni_small.proofs.Words.{buffer_inside}
@@ -20,7 +20,7 @@ store-requires g c =
       (let q = c.buffer_word.ensures in let r = buffer_inside sizes (2 * c.args.p + c.args.spare) c.args.i (let a = c.requires.inside.0 in let b = c.requires.spare.1 in omega arith) c.requires.inside.1 in let t = shared.sized in omega arith),
       by_key meaning shared.table.shared.key shared.setup shared.same slots id me i (buffer_word sizes (2 * me.0.known.first + me.0.known.local.spare) c.args.i) word (λ x. c.args.x) (λ x me'. HasWritten st me c.args.x me')
           nothing
-          (writes meaning o sizes id st me c.requires.of.alone c.args.i c.args.x c.requires.stage c.requires.inside.1 (λ e. c.requires.differs (ap (λ k. slice_index me.0.known.local.held (held_place sizes k c.args.i)) (sym c.requires.spare.0) ∙ e)) word),
+          (writes meaning o sizes id st me c.requires.of.alone c.args.i c.args.x c.requires.stage c.requires.inside.1 word),
     )
 
 pub returns-clause-left : goal.returns-clause-left
@@ -29,4 +29,4 @@ returns-clause-left g c =
     let of = c.requires.of in
     let spare = c.requires.spare.0 in
     c.store.ensures.2 c.args.i (c.buffer_word.ensures ∙ (λ k. buffer_word (sym of.sizes k) (2 * sym of.first k + sym spare k) c.args.i))
-    ∙ (λ k. (with_local me.0 (wrote (local_of me) (held_place (of.sizes k) (spare k) c.args.i) c.args.x), me.1))
+    ∙ (λ k. (with_local me.0 (wrote (local_of me) c.args.i (held_place (of.sizes k) (spare k) c.args.i) c.args.x), me.1))
