@@ -17,3 +17,4 @@ pub mod Progress
 pub mod Belongs
 pub mod Final
 pub mod Ended
+pub mod Orphans

@@ -3,17 +3,14 @@
 
 mod apply;
 mod attempt;
-mod close;
 pub mod laws;
 mod log;
 mod object;
-mod open;
 mod orphan;
 mod resume;
 mod rule;
 mod seat;
 mod sizes;
-mod steps;
 mod view;
 
 pub use apply::{CallsSpent, MAX_CALLS};

@@ -13,6 +13,12 @@ use atomic_table::{Seat, Table};
 use std::alloc::{AllocError, Global};
 use thiserror::Error;
 
+// The table is private to this module and to these three, so no other function can touch a word: each step of a
+// call is counted in `steps`, and what opening, closing and taking in a seat load is no step of one.
+mod close;
+pub(crate) mod open;
+mod steps;
+
 /// The greatest number of processes.
 pub const MAX_PROCESSES: u64 = 64;
 
@@ -34,7 +40,7 @@ pub enum SmallOpenFault {
 #[derive(Drop)]
 pub struct SmallShared<O: SmallObject> {
     pub(crate) setup: Setup<O>,
-    pub(crate) table: SmallTable<O>,
+    table: SmallTable<O>,
     pub ghost same: { table.shared.key ≡ setup },
     pub ghost sized: { table.shared.table_id.words ≡ words_of setup.sizes },
     pub ghost slotless: { table.shared.table_id.slots ≡ 0 },

@@ -1,5 +1,5 @@
 -- The word step that begins a call.
-use Rattle.uni_words.proofs.Vocabulary.{AfterOf, Allows, Anchor, Announce, Announced, BeforeOf, Bool, Call, CountsSteps-world_after, Grows, HasBegun, HeadOf, HelpingInvariant-begun, InvOf, Invariant-begun, IsLocal, IsShown, Known, Leads, List, Me, Memory, Name, NewOf, None, Of, Place, SeqOf, Sequential, ShowsRun, Some, State, View, WorldOf, [], after_word, ap, arith, begun_by, cond, content_of, false, get_elem?, inl, inr, inv_of, invocation_in, keeps, length, length-set, lt_cases, memory_of, memory_with, nat_lt, number_cases, pending_count, place_eq, place_eq_false, place_eq_true, refl, set_at_elsewhere, set_at_same, slice_set, some, subst, sym, true, word_at, word_of, world_after_call, ℕ, ◌+◌, ◌<◌, ◌∙◌, ◌∷◌, ◌≡◌, ◌≢◌, ◌≤◌}
+use Rattle.uni_words.proofs.Vocabulary.{Allows, Anchor, Announce, Bool, Call, CountsSteps-world_after, Grows, HasBegun, HelpingInvariant-begun, InvOf, Invariant-begun, IsLocal, IsShown, Known, Leads, List, Me, Memory, Name, None, Of, Place, Sequential, ShowsRun, Some, State, View, WorldOf, [], after_word, ap, arith, begun_by, cond, content_of, false, get_elem?, inl, inr, inv_of, invocation_in, keeps, length, length-set, lt_cases, memory_of, memory_with, nat_lt, number_cases, pending_count, place_eq, place_eq_false, place_eq_true, refl, set_at_elsewhere, set_at_same, slice_set, some, subst, sym, true, word_at, word_of, world_after_call, ℕ, ◌+◌, ◌<◌, ◌∙◌, ◌∷◌, ◌≡◌, ◌≢◌, ◌≤◌}
 use Rattle.atomic_table.specs.Table.{Step}
 use Rattle.uni_model.specs.Places.Content.{Invocation}
 use Rattle.uni_words.proofs.Locality.{set_here, set_elsewhere}

@@ -1,10 +1,10 @@
 -- Every execution from the opening shows a world of the construction, to which its events lead.
-use Rattle.uni_words.proofs.Vocabulary.{AreAccepted, WriteBefore, stage_found, looked_at, moved_at, Name, Option, DecideNew, Event, Finish, HeadOf, InvOf, Invocation, Applied, IsShown, Known, None, after_join, after_split, Leads, LeadsTo, List, NewOf, Of, Pending, Place, Reading, Reply, SeqOf, Sequential, Some, Stage, State, Step, View, WorldOf, [], after_word, ap, append-nil, append_assoc, arith, content_after, content_of, either, get_elem?, if◌then◌else◌, name_of, new_of, opened, place_of, refl, reply_in, settled_word, slice_index, some, state_in, subst, sym, word_of, ℕ, true, false, Bool, ◌++◌, ◌+◌, ◌<◌, ◌==◌, ◌^◌, ◌∙◌, ◌∷◌, ◌≡◌, ◌≢◌, ◌≤◌}
-use Rattle.uni_words.specs.Execution.{Access, Execution, Next, access_of, after_access, events, goes_on, last_state, opened_table}
+use Rattle.uni_words.proofs.Vocabulary.{AreAccepted, WriteBefore, stage_found, looked_at, moved_at, DecideNew, Event, Finish, HeadOf, InvOf, Invocation, Applied, IsShown, Known, None, after_join, after_split, Leads, LeadsTo, List, NewOf, Of, Pending, Place, Reading, Reply, SeqOf, Sequential, Some, Stage, State, Step, View, WorldOf, [], after_word, ap, append-nil, append_assoc, arith, content_after, content_of, either, get_elem?, if◌then◌else◌, name_of, opened, place_of, refl, reply_in, settled_word, slice_index, some, state_in, subst, sym, word_of, ℕ, true, false, Bool, ◌++◌, ◌==◌, ◌∙◌, ◌∷◌, ◌≡◌, ◌≢◌, ◌≤◌}
+use Rattle.uni_words.specs.Execution.{Execution, Next, access_of, after_access, events, goes_on, last_state, opened_table}
 use Rattle.uni_words.specs.Execution.Next.{Begin, Ask, Move, LookInv, LookNew, Decide, LookReply, StoreEnd, LoadEnd}
 use Rattle.uni_words.specs.Execution.Execution.{Ends, Takes, Splits, Joins}
 use Rattle.uni_words.specs.Laws.{HasSeat}
-use Rattle.uni_words.specs.Linearized.{AreLinearizedStrongly, IsLinearized, IsNarrow}
+use Rattle.uni_words.specs.Linearized.{AreLinearizedStrongly, IsNarrow}
 use Rattle.uni_words.proofs.Asking.{asked_leads}
 use Rattle.uni_words.proofs.Begins.{begun_leads}
 use Rattle.uni_words.proofs.Decides.{decided_fits, decided_writes}
@@ -19,7 +19,6 @@ use Rattle.uni_words.proofs.Splitting.{split_leads}
 use Rattle.uni_model.specs.HerlihyWing.{IsWellFormed}
 use Rattle.uni_model.specs.Linearizable.{observed_in}
 use Rattle.uni_model.specs.StrongLinearizable.{IsStronglyLinearizable}
-use Rattle.uni_model.specs.Places.{Memory}
 use Rattle.uni_words.specs.Shown.{HasRead}
 
 module _ (object : Sequential ℕ ℕ ℕ) (n row : ℕ) (narrow : IsNarrow object) where

@@ -1,5 +1,5 @@
 -- A word that is memory_with is a place that is memory_with.
-use Rattle.uni_words.proofs.Vocabulary.{AfterOf, Anchor, Announced, BeforeOf, Bool, HeadOf, InvOf, IsShared, List, NewOf, None, Of, Option, Place, SeqOf, Some, ap, cond, content_of, false, get_or-set_other, get_or-set_same, inl, inr, length, memory_of, memory_with, nat_lt, number_cases, option_map_or, place_eq, place_eq_false, place_eq_true, refl, slice_index, slice_set, subst, sym, true, word_at, word_of, words_of, ℕ, ◌<◌, ◌∙◌, ◌≡◌, ◌≢◌}
+use Rattle.uni_words.proofs.Vocabulary.{Anchor, Bool, InvOf, IsShared, List, None, Of, Option, Place, Some, ap, cond, content_of, false, get_or-set_other, get_or-set_same, inl, inr, length, memory_of, memory_with, nat_lt, number_cases, option_map_or, place_eq, place_eq_false, place_eq_true, refl, slice_index, slice_set, subst, sym, true, word_at, word_of, words_of, ℕ, ◌<◌, ◌∙◌, ◌≡◌, ◌≢◌}
 use Rattle.uni_model.specs.Places.Content.{Invocation}
 use Rattle.uni_words.proofs.Columns.{one_place, word_below}
 

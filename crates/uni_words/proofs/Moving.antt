@@ -1,5 +1,5 @@
 -- The word steps that are events, all but those of `new` and of the last step of a call.
-use Rattle.uni_words.proofs.Vocabulary.{AfterOf, Allows, Announce, Announced, BeforeOf, Content, DecideAfter, DecideNew, Effect, Finish, Grows, HasMoved, HeadOf, InvOf, IsCounted-pending, IsLocal, IsShown, IsUnderway, IsWithin, Known, Leads, List, Me, Memory, Moved, Name, NewOf, None, Nothing, Of, Option, Pending, Place, ReadAnnounce, ReadHelpSeq, ScanHead, ScanSeq, SeqOf, Sequential, ShowsRun, Some, Stage, State, Step, Test, View, WorldOf, WriteBefore, WriteHead, WriteScan, WriteSeq, [], after_word, ap, arith, at_its_cell, call_after, content_after, content_of, get_elem?, get_or-set_same, keeps, length, length-set, memory_with, moved_at, new_of, pending_count, place_of, refl, response_after, set_at_same, slice_index, slice_set, some, stage_after, stage_found, subst, sym, turn_of, turns_bounded, word_of, ℕ, ◌+◌, ◌<◌, ◌^◌, ◌∙◌, ◌∷◌, ◌≡◌, ◌≤◌}
+use Rattle.uni_words.proofs.Vocabulary.{Allows, Content, DecideNew, Effect, Finish, Grows, HasMoved, IsCounted-pending, IsLocal, IsShown, IsUnderway, IsWithin, Known, Leads, List, Me, Memory, Moved, Name, NewOf, None, Nothing, Of, Option, Pending, Place, Sequential, ShowsRun, Some, Stage, State, Step, View, WorldOf, [], after_word, ap, arith, at_its_cell, call_after, content_after, content_of, get_elem?, get_or-set_same, keeps, length, length-set, memory_with, moved_at, new_of, pending_count, place_of, refl, response_after, set_at_same, slice_index, slice_set, some, stage_after, stage_found, subst, sym, turn_of, turns_bounded, word_of, ℕ, ◌+◌, ◌<◌, ◌^◌, ◌∙◌, ◌∷◌, ◌≡◌, ◌≤◌}
 use Rattle.atomic_table.specs.Table as table
 use Rattle.uni_words.specs.Execution.{IsPlain}
 use Rattle.uni_words.proofs.Columns.{word_below}

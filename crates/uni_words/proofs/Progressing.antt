@@ -1,9 +1,9 @@
 -- No call takes more word steps than 12n + 15, whatever the other seats do.
-use Rattle.uni_words.proofs.Vocabulary.{Announce, Applied, DecideAfter, DecideNew, Event, Finish, HasRead, Invocation, IsAmong, IsCounted-pending, IsShown, Known, List, Memory, Name, None, Nothing, Option, Pending, Process, ReadAnnounce, ReadHelpSeq, Reading, Reply, ScanHead, ScanSeq, Sequential, Some, Stage, State, Test, View, WorldOf, WriteBefore, WriteHead, WriteScan, WriteSeq, [], after_join, after_split, ap, arith, at_its_cell, at_set, call_after, content_of, false, first_alone, first_view, get_elem?, if◌then◌else◌, inl, nat_lt, inr, nobody, number_cases, others, place_of, refl, slice_index, slice_set, some, stage_found, subst, sym, took_in, true, turn_of, turns_bounded, word_of, Bool, ◌*◌, ◌++◌, ◌+◌, ◌-◌, ◌<◌, ◌==◌, ◌∙◌, ◌∷◌, ◌≡◌, ◌≢◌, ◌≤◌, ℕ}
+use Rattle.uni_words.proofs.Vocabulary.{Announce, Applied, DecideAfter, DecideNew, Event, Finish, HasRead, Invocation, IsAmong, IsCounted-pending, IsShown, Known, List, Memory, Name, None, Nothing, Option, Pending, Process, ReadAnnounce, ReadHelpSeq, Reading, Reply, ScanHead, ScanSeq, Sequential, Some, Stage, State, Test, View, WorldOf, WriteBefore, WriteHead, WriteScan, WriteSeq, [], after_join, after_split, ap, arith, at_its_cell, at_set, call_after, content_of, false, first_alone, get_elem?, if◌then◌else◌, inl, nat_lt, inr, nobody, number_cases, others, place_of, refl, slice_index, slice_set, some, stage_found, subst, sym, took_in, true, turn_of, turns_bounded, word_of, Bool, ◌*◌, ◌++◌, ◌+◌, ◌-◌, ◌<◌, ◌==◌, ◌∙◌, ◌≡◌, ◌≤◌, ℕ}
 use Rattle.uni_model.proofs.Bounded.{IsBounded-held}
 use Rattle.uni_model.specs.Bound.{IsWithinBound}
 use Rattle.uni_model.specs.Counting.{HasTurns, steps_at}
-use Rattle.uni_words.specs.Execution.{Execution, IsPlain, Next, access_of, after_access, counted, last_state, opened_table, steps_of_call}
+use Rattle.uni_words.specs.Execution.{Execution, IsPlain, Next, access_of, after_access, counted, opened_table, steps_of_call}
 use Rattle.uni_words.specs.Execution.Next.{Begin, Ask, Move, LookInv, LookNew, Decide, LookReply, StoreEnd, LoadEnd}
 use Rattle.uni_words.specs.Execution.Execution.{Ends, Takes, Splits, Joins}
 use Rattle.uni_words.specs.Laws.{HasSeat}
@@ -119,8 +119,7 @@ module _ (object : Sequential ℕ ℕ ℕ) (n row : ℕ) (narrow : IsNarrow obje
         let its = IsCounted-pending w is.counts v.first c call in
         let few = turns_bounded object w is.counts is.sound v.first in
         let within : IsWithinBound w.n (Some c) (w.begun v.first) (w.among v.first) (w.steps v.first) (w.turns v.first)
-        = subst (λ o. IsWithinBound w.n o (w.begun v.first) (w.among v.first) (w.steps v.first) (w.turns v.first)) call (IsBounded-held object w is.counts is.sound v.first) in
-        (
+        = subst (λ o. IsWithinBound w.n o (w.begun v.first) (w.among v.first) (w.steps v.first) (w.turns v.first)) call (IsBounded-held object w is.counts is.sound v.first) in (
           call,
           subst (HasTurns c.stage) own.turns its.1,
           sym own.steps ∙ its.2 ∙ (λ k. steps_at (count k) c.stage (own.turns k)),

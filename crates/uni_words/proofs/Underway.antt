@@ -1,5 +1,5 @@
 -- What a seat knows stays while the memory grows.
-use Rattle.uni_words.proofs.Vocabulary.{Announce, Applied, DecideAfter, DecideNew, Finish, Grows, HasOutcome, HasRead, Invocation, IsShared, IsUnderway, List, Memory, Name, None, Nothing, Of, Option, Pending, ReadAnnounce, ReadHelpSeq, Reading, Reply, ScanHead, ScanSeq, Some, Stage, Test, WriteBefore, WriteHead, WriteScan, WriteSeq, [], ap, arith, last_number, length, new_of, option_and_then, place_of, refl, response_in, slice_get, subst, suc, sym, zero, ℕ, ◌<◌, ◌∙◌, ◌∷◌, ◌≡◌, ◌≤◌}
+use Rattle.uni_words.proofs.Vocabulary.{Announce, Applied, DecideNew, Finish, Grows, HasOutcome, HasRead, Invocation, IsShared, IsUnderway, List, Memory, Name, None, Nothing, Of, Option, Pending, ReadAnnounce, Reading, Reply, Some, Stage, [], ap, arith, last_number, length, new_of, option_and_then, place_of, refl, response_in, slice_get, subst, suc, sym, zero, ℕ, ◌<◌, ◌∙◌, ◌∷◌, ◌≡◌, ◌≤◌}
 
 pub there_below : {A : Type 0} (l : List A) (i : ℕ) → i < length l → (a : A) × (slice_get l i ≡ Some a)
 there_below [] i h = absurd (omega arith)

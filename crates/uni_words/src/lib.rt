@@ -2,28 +2,24 @@
 #![tactic(auto)]
 
 mod apply;
-mod calls;
-mod close;
 mod compare;
 mod cursor;
-mod follows;
 mod laws;
 mod log;
 mod object;
 mod objects;
-mod open;
 mod read;
 mod rule;
 mod seat;
-mod steps;
 mod view;
 mod words;
 
 pub use apply::{Answer, RowFull};
 pub use compare::differs;
 pub use laws::{
-    ask_keeps, join_keeps, load_ends, load_keeps, opening_shows, own_calls_rise, returned_is_there,
-    split_keeps, store_begins, store_ends, word_step_moves,
+    ask_keeps, every_call_is_bounded, every_execution_is_linearizable, join_keeps, load_ends,
+    load_keeps, opening_shows, own_calls_rise, returned_is_there, split_keeps, store_begins,
+    store_ends, word_step_moves,
 };
 pub use log::{WordLog, WordOpenFault};
 pub use object::WordObject;

@@ -1,5 +1,5 @@
 use Rattle.uni_small.proofs.Vocabulary.{All, HasInvocation, length, ◌≡◌}
-use Rattle.uni_small.proofs.open.seen_room.Given as goal
+use Rattle.uni_small.proofs.log.open.seen_room.Given as goal
 
 abbrev pub invariant-loop : goal.invariant-loop
 invariant-loop l = (length l.seen.items ≡ l.counter) × All (HasInvocation l.sizes) l.seen.items

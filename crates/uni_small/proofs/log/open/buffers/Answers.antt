@@ -1,6 +1,6 @@
 use Rattle.uni_small.proofs.Vocabulary.{List, ap, arith, first_held, first_image, length, refl, spell, sym, ℕ, ◌++◌, ◌∙◌, ◌≡◌}
 use Rattle.uni_small.proofs.Opening.{held_length}
-use Rattle.uni_small.proofs.open.buffers.Goals as goal
+use Rattle.uni_small.proofs.log.open.buffers.Goals as goal
 
 pub returns : goal.returns
 returns g c =

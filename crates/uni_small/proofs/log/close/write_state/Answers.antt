@@ -1,7 +1,7 @@
 use Rattle.uni_small.proofs.Vocabulary.{Sizes, ap, arith, buffer_word, buffer_words, get_or-set_other, get_or-set_same, inl, inr, length, number_cases, slice_index, slots_items, state_place, subst, sym, words_before, ℕ, ◌%◌, ◌*◌, ◌+◌, ◌<◌, ◌∙◌, ◌≡◌}
 use Rattle.uni_small.proofs.Lists.{slice_index-get}
 use Rattle.uni_small.proofs.Words.{buffer_inside}
-use Rattle.uni_small.proofs.close.write_state.Goals as goal
+use Rattle.uni_small.proofs.log.close.write_state.Goals as goal
 
 -- where the state of a buffer begins
 abbrev state_from : Sizes → (b : ℕ) → ℕ
