@@ -1,0 +1,5 @@
+use Rattle.uni_any.proofs.Meaning.{linearized_at}
+use Rattle.uni_any.proofs.laws.shown_is_linearizable.Goals as goal
+
+pub returns : goal.returns
+returns g c o sizes id b local seat_of s v is at single = linearized_at g.O.SeqObject.sequential o sizes b local seat_of s is id v at single

@@ -1,0 +1,18 @@
+use Rattle.uni_any.proofs.Vocabulary.{HasLaid, HoldsBlock, arith, none, step, subst, sym, ◌+◌}
+use Rattle.uni_any.proofs.Frame.{by_key}
+use Rattle.uni_any.proofs.Laying.{lays}
+use Rattle.uni_any.proofs.shared.AnyShared.close_block.Goals as goal
+
+pub load-requires : goal.load-requires
+load-requires g c =
+    let shared = c.args.self.now in
+    let slots = shared.table.shared.table_id.slots in
+    let me = c.args.seat.now.me in
+    let st = step slots (1 + c.args.p) 0 0 none in
+    let held = c.requires.held in (
+      c.requires.table,
+      (let q0 = shared.sized in let q1 = c.requires.inside in omega arith),
+      by_key g.O.SeqObject.sequential shared.table.shared.key shared.setup shared.same slots c.args.seat.now.id me (1 + c.args.p) (λ x. x) (λ x me'. HasLaid st me x me')
+          (lays g.O.SeqObject.sequential shared.setup.object shared.setup.sizes slots c.args.seat.now.id me c.args.p c.requires.of held.0 held.1 c.args.r held.2 held.3
+          (subst (λ k. HoldsBlock shared.setup.sizes k c.args.r held.2 me) (sym c.requires.of.first) held.4) st),
+    )

@@ -1,0 +1,10 @@
+pub mod Content
+pub mod Board
+pub mod Batch
+pub mod Invariant
+pub mod Shown
+pub mod Plays
+pub mod Standing
+pub mod Belongs
+pub mod Calls
+pub mod Final

@@ -1,0 +1,15 @@
+//! What a version of the object is: its state, and of each process how many calls are in, and the last reply.
+
+/// Of one process: how many of its calls are in, and the reply to the last of them.
+#[derive(Clone, Copy, Debug)]
+pub struct Row<R> {
+    pub applied: u64,
+    pub reply: Option<R>,
+}
+
+/// A version of the object. Once it is named, nobody changes it.
+#[derive(Drop)]
+pub struct Block<S, R> {
+    pub state: S,
+    pub rows: Vec<Row<R>>,
+}

@@ -1,0 +1,90 @@
+//! Closing an object.
+ghost use Rattle.std.specs.Prelude.{◌≡◌, ◌*◌, ◌<◌};
+ghost use Rattle.std.specs.Arc.{arc_value};
+ghost use Rattle.std.specs.Mem.Slots.{IsFull, slots_items, slots_len};
+ghost use lib.ListN.{get_elem?};
+ghost use mathlib.Core.Option.{some};
+ghost use Rattle.uni_any.specs.Belongs.{IsSeatOf, object_of, own_calls, pending_call, process_of, processes_of};
+ghost use Rattle.uni_any.specs.Board.{AreFew, block_frame, slot_of};
+ghost use Rattle.uni_any.specs.Final.{IsLinearized};
+
+use crate::block::Block;
+use crate::mail::Mail;
+use crate::rule::Setup;
+use crate::seat::{AnySeat, Held};
+use crate::shared::AnyShared;
+use crate::sizes::Sizes;
+use crate::steps::SPAN;
+use atomic_table::Closed;
+use seq_object::SeqObject;
+use std::alloc::Global;
+use std::sync::Arc;
+
+/// Frees a closed table, and drops what was in its slots.
+fn free<I: Drop, B: Drop>(closed: Closed<Mail<I, B>, Global>)
+    requires { IsFull closed.slots }
+{
+    let mut closed = closed;
+    for i in 0..closed.slot_count() {
+        drop(closed.take(i));
+    }
+    closed.free();
+}
+
+/// Frees a closed table: what was in this slot.
+fn take_slot<I: Drop, B: Drop>(closed: Closed<Mail<I, B>, Global>, slot: usize) -> Mail<I, B>
+    requires full { IsFull closed.slots }
+    requires inside { slot < slots_len closed.slots }
+    ensures { get_elem? (slots_items closed.slots) slot ≡ some result }
+{
+    let mut closed = closed;
+    let kept = closed.take(slot);
+    for before in 0..slot {
+        drop(closed.take(before));
+    }
+    for after in slot + 1..closed.slot_count() {
+        drop(closed.take(after));
+    }
+    closed.free();
+    kept
+}
+
+/// The slot for reader p of block b.
+fn slot_of_block(sizes: &Sizes, b: u64, p: u64) -> usize
+    requires few { AreFew sizes.now }
+    requires inside { (b < sizes.now.processes * sizes.now.calls) × (p < sizes.now.processes) }
+    ensures { result ≡ slot_of sizes.now (block_frame sizes.now b) p }
+{
+    ((sizes.processes * sizes.calls + b) * sizes.processes + p) as usize
+}
+
+impl<O: SeqObject> AnyShared<O> {
+    /// Closes the object with the seat of one of its processes, which is one of this object's: its last
+    /// version. Other seats may be dropped: which calls they made is not said. It takes no memory.
+    ///
+    /// The calls of the seat's process, with the replies that they were given, are those of a history that the
+    /// atomic object accepts; where one is pending, it has begun, and may have taken effect. The last version
+    /// has the state after the calls of this history, in the order in which they took effect.
+    pub fn close_with(self, seat: AnySeat<O>) -> Arc<Block<O::State, O::Resp>, Global>
+        requires seat { IsSeatOf self seat }
+        ensures told { IsLinearized (O.sequential (object_of self)) (processes_of self) (process_of seat)
+            (own_calls seat) (pending_call seat) (arc_value result).state }
+    {
+        let AnyShared { setup, table } = self;
+        let Setup { object, sizes } = setup;
+        drop(object);
+        let AnySeat { seat, p, held, .. } = seat;
+        let Held { word, block } = held;
+        let closed = table.close_with(seat);
+        let s = closed.word(0);
+        if s == word {
+            free(closed);
+            return block;
+        }
+        let slot = slot_of_block(&sizes, s % SPAN - 1, p);
+        let Mail::Version(last) = take_slot(closed, slot) else {
+            unreachable!()
+        };
+        last
+    }
+}
