@@ -1,0 +1,37 @@
+//! The shortest prefix that is not linearizable.
+
+ghost use Rattle.std.specs.Prelude.{◌≡◌, ◌+◌, ◌<◌, ◌≤◌, IfOk, IfSome, length, take};
+ghost use Rattle.lin_check.specs.Verdicts.{IsLinearizable};
+
+use crate::checkable::Checkable;
+use crate::event::Event;
+use crate::search::{Verdict, check};
+use std::alloc::{AllocError, Global};
+
+/// How many events of a history that is not linearizable are linearizable, where with the next one they are not; `None`
+/// where a search on the way gave up.
+pub fn shortest<O: Checkable>(
+    alloc: Global,
+    object: &O,
+    history: &[Event<O::Inv, O::Resp>],
+    limit: u64,
+) -> Result<Option<usize>, AllocError>
+    requires { ¬ (IsLinearizable (O.sequential object.now) history.now) }
+    ensures within { IfOk result (λ found. IfSome found (λ k. k < length history.now)) }
+    ensures good { IfOk result (λ found. IfSome found (λ k.
+        IsLinearizable (O.sequential object.now) (take k history.now))) }
+    ensures bad { IfOk result (λ found. IfSome found (λ k.
+        ¬ (IsLinearizable (O.sequential object.now) (take (k + 1) history.now)))) }
+{
+    let mut good = 0;
+    let mut bad = history.len();
+    while good + 1 < bad {
+        let middle = good + (bad - good) / 2;
+        match check(alloc, object, &history[..middle], limit)? {
+            Verdict::Linearizable(_) => good = middle,
+            Verdict::NotLinearizable => bad = middle,
+            Verdict::GaveUp => return Ok(None),
+        }
+    }
+    Ok(Some(good))
+}
