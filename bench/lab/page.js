@@ -1,0 +1,32 @@
+"use strict";
+// The program of a page, without its view: what its scripts of these names define, for tests.
+
+const fs = require("fs");
+const vm = require("vm");
+
+// what the scripts of a page with these ids define, under these names; `change` is a pair of texts, of which the second takes
+// the place of the first, which has to stand there once
+function programOf(path, ids, names, change = null) {
+  const page = fs.readFileSync(path, "utf8");
+  let text = ids.map((id) => new RegExp(`<script id="${id}">([^]*?)</script>`).exec(page)[1]).join("\n");
+  if (change !== null) {
+    if (text.split(change[0]).length !== 2) throw new Error(`it doesn't stand there once: ${change[0]}`);
+    text = text.replace(change[0], () => change[1]);
+  }
+  const context = vm.createContext({});
+  vm.runInContext(`${text}\nthis.program = { ${names.join(", ")} };`, context);
+  return context.program;
+}
+
+// random numbers from a seed, the same on each run (mulberry32)
+function randomFrom(seed) {
+  let state = seed;
+  return () => {
+    state = (state + 0x6d2b79f5) | 0;
+    let t = Math.imul(state ^ (state >>> 15), 1 | state);
+    t = (t + Math.imul(t ^ (t >>> 7), 61 | t)) ^ t;
+    return ((t ^ (t >>> 14)) >>> 0) / 4294967296;
+  };
+}
+
+module.exports = { programOf, randomFrom };
