@@ -1,4 +1,4 @@
-"""Plays the laboratory in Chromium, by clicks and keys: python3 browser.py [PAGE]
+"""Plays the laboratory and the page of histories in Chromium, by clicks and keys: python3 browser.py
 
 Each flaw has to be found, in how many seconds is told, and nothing may break the construction. A student's function that
 throws, loops, changes its argument or answers something else has to be told so by name. A run has to come back by undo, by
@@ -16,11 +16,13 @@ sys.path.insert(0, str(HERE.parent / "viewer"))
 from viewer import Browser  # noqa: E402
 
 PAGE = HERE.parent.parent / "docs/pages/lab.html"
+HISTORIES = HERE.parent.parent / "docs/pages/history.html"
 FLAWS = ["never-helps", "helps-blindly", "number-first", "last-wins", "newest-reply"]
 
 # Functions of students, and what the page has to say of each.
 FAULTS = {
-    "({ start: [], apply(s, c, x) { s.push(x); return [s, 'ok']; } })": "`apply` changes its argument at `enq 5` in the state []",
+    "({ start: [], apply(s, c, x) { s.push(x); return [s, 'ok']; } })":
+        "`apply` changes its argument at `enq 5` in the state []",
     "({ start: [], apply() { throw Error('not yet'); } })": "`apply` throws at `enq 5` in the state []: not yet.",
     "({ start: [], apply() { for (;;); } })": "Ended after a second without an answer: `apply` at `enq 5` in the state []",
     "({ start: [], apply() { return 5; } })": "`apply` returns 5 at `enq 5` in the state []",
@@ -64,7 +66,8 @@ class Page(Browser):
     def set(self, name, value, event=None):
         """Puts a text into a field, and tells the page of it."""
         tell = f"one.dispatchEvent(new Event({json.dumps(event)}))" if event else ""
-        self.run(f"(() => {{ const one = document.getElementById({json.dumps(name)}); one.value = {json.dumps(value)}; {tell}; }})()")
+        one = f"const one = document.getElementById({json.dumps(name)})"
+        self.run(f"(() => {{ {one}; one.value = {json.dumps(value)}; {tell}; }})()")
         self.settle()
 
     def press_all(self, keys):
@@ -167,16 +170,44 @@ def lose_nothing(page, checks):
     checks.that("a bad link is told", "sofa" in page.text("verdict"), page.text("verdict"))
 
 
+def judge_histories(page, checks):
+    """The page of histories judges its examples, and what is pasted."""
+    page.go(HISTORIES)
+    checks.that("a wrong queue", "Line 10: A deq → 2." in page.text("verdict"), page.text("verdict"))
+    for name, wanted in {"a queue that is right": "Linearizable", "lines of the judge": "Linearizable",
+                         "unidraw --history": "Linearizable", "Jepsen's maps": "Not linearizable. Line 5",
+                         "begin and return times": "Linearizable"}.items():
+        page.set("history", name, "change")
+        checks.that(name, page.text("verdict").startswith(wanted), page.text("verdict"))
+    page.set("text", "A enq 1\nA deq")
+    page.click("judge-it")
+    checks.that("no history", page.text("verdict") == "Line 2: A has a call pending.", page.text("verdict"))
+    page.set("object", "({ start: 0, apply() { for (;;); } })", "input")
+    page.set("text", "A enq 1\nA -> ok")
+    page.click("judge-it")
+    said, _ = wait_for(page, "verdict", ("Ended",), 10)
+    checks.that("a function that loops", "`apply` at `enq 1` in the state 0" in said, said)
+
+
+# What is shown in the pictures.
+SHOWN = {
+    "lab": (PAGE, ""),
+    "lab-broken": (PAGE, "#object=queue&calls=enq+5;enq+7;deq/deq&flaw=newest-reply&run=0x21.1x23.0x5"),
+    "history": (HISTORIES, ""),
+}
+
+
 def shoot(page, folder):
-    """Pictures of a broken run."""
-    for name, end in {"lab": "", "lab-broken": "#object=queue&calls=enq+5;enq+7;deq/deq&flaw=newest-reply&run=0x21.1x23.0x5"}.items():
+    """Pictures of both pages, as wide as a desk and as a hand, by day and by night."""
+    for name, (file, end) in SHOWN.items():
         for scheme in ["light", "dark"]:
             page.ask("Emulation.setEmulatedMedia", {"features": [{"name": "prefers-color-scheme", "value": scheme}]})
             for width, height in [(1300, 950), (390, 2600)]:
-                page.ask("Emulation.setDeviceMetricsOverride", {"width": width, "height": height, "deviceScaleFactor": 1, "mobile": False})
-                page.go(PAGE, end)
-                checked = page.run("document.documentElement.scrollWidth")
-                print(f"{name} at {width}, {scheme}: {checked} wide, {page.run('document.documentElement.scrollHeight')} high")
+                size = {"width": width, "height": height, "deviceScaleFactor": 1, "mobile": False}
+                page.ask("Emulation.setDeviceMetricsOverride", size)
+                page.go(file, end)
+                wide = page.run("document.documentElement.scrollWidth")
+                print(f"{name} at {width}, {scheme}: {wide} wide")
                 page.shoot(os.path.join(folder, f"{name}-{width}-{scheme}.png"), width, height)
     page.ask("Emulation.clearDeviceMetricsOverride")
 
@@ -184,7 +215,7 @@ def shoot(page, folder):
 def main():
     page, checks = Page(), Checks()
     try:
-        for part in (find_flaws, tell_faults, break_by_hand, lose_nothing):
+        for part in (find_flaws, tell_faults, break_by_hand, lose_nothing, judge_histories):
             part(page, checks)
         if os.environ.get("SHOTS"):
             shoot(page, os.environ["SHOTS"])
