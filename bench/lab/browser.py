@@ -70,6 +70,9 @@ class Page(Browser):
         self.run(f"(() => {{ {one}; one.value = {json.dumps(value)}; {tell}; }})()")
         self.settle()
 
+    def click_on(self, selector):
+        self.run(f"document.querySelector({json.dumps(selector)}).click()")
+
     def press_all(self, keys):
         for key in keys:
             self.press(key)
@@ -144,6 +147,19 @@ def break_by_hand(page, checks):
     checks.that("never-helps is broken by hand", said.startswith("Not wait-free"), said)
 
 
+def foresee(page, checks):
+    """The page says what can still come: two logs at first, and one after the step that decided."""
+    page.go(PAGE, "#object=queue&calls=enq+6/enq+5&flaw=none&run=")
+    page.click_on("#foresight summary")
+    said, _ = wait_for(page, "outlook", ("Open",), 20)
+    checks.that("two logs can come", "from here: 2." in said, said)
+    for run, wanted in {"0x10.1x10": "Critical: each next step decides.", "0x10.1x11": "The last step has decided it."}.items():
+        page.go(PAGE, f"#object=queue&calls=enq+6/enq+5&flaw=none&run={run}")
+        page.click_on("#foresight summary")
+        said, _ = wait_for(page, "outlook", ("Critical", "Open", "The last", "Decided"), 20)
+        checks.that(wanted, said.startswith(wanted), said)
+
+
 def lose_nothing(page, checks):
     """A run comes back by undo, reload and link, and keys do what buttons do."""
     page.go(PAGE)
@@ -215,7 +231,7 @@ def shoot(page, folder):
 def main():
     page, checks = Page(), Checks()
     try:
-        for part in (find_flaws, tell_faults, break_by_hand, lose_nothing, judge_histories):
+        for part in (find_flaws, tell_faults, break_by_hand, foresee, lose_nothing, judge_histories):
             part(page, checks)
         if os.environ.get("SHOTS"):
             shoot(page, os.environ["SHOTS"])

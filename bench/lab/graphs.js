@@ -7,25 +7,9 @@
 
 const fs = require("fs");
 const path = require("path");
-const { programOf } = require("./page.js");
+const { callsOf, graphOf, programOf } = require("./page.js");
 
 const NAMES = ["EXAMPLES", "labOf", "opening", "follow"];
-
-function graphOf(file) {
-  const found = /<script type="text\/plain" id="data">([^]*?)<\/script>/.exec(fs.readFileSync(file, "utf8"));
-  return found === null ? null : JSON.parse(found[1]);
-}
-
-// the calls of each process, in their order
-function callsOf(graph) {
-  const plan = Array.from({ length: graph.processes }, () => new Map());
-  for (const edge of graph.edges) {
-    if (edge === null || edge.call === undefined) continue;
-    const [p, k] = edge.call.split(".").map(Number);
-    plan[p].set(k, edge.words);
-  }
-  return plan.map((own) => [...own.keys()].sort().map((k) => own.get(k)).join("; ") || "-").join("\n");
-}
 
 // a state as `uniplay` writes it
 function spelled(state) {

@@ -29,4 +29,21 @@ function randomFrom(seed) {
   };
 }
 
-module.exports = { programOf, randomFrom };
+// the graph of a page of `uniplay`; null where a page has none
+function graphOf(file) {
+  const found = /<script type="text\/plain" id="data">([^]*?)<\/script>/.exec(fs.readFileSync(file, "utf8"));
+  return found === null ? null : JSON.parse(found[1]);
+}
+
+// the calls of each process, in their order
+function callsOf(graph) {
+  const plan = Array.from({ length: graph.processes }, () => new Map());
+  for (const edge of graph.edges) {
+    if (edge === null || edge.call === undefined) continue;
+    const [p, k] = edge.call.split(".").map(Number);
+    plan[p].set(k, edge.words);
+  }
+  return plan.map((own) => [...own.keys()].sort().map((k) => own.get(k)).join("; ") || "-").join("\n");
+}
+
+module.exports = { callsOf, graphOf, programOf, randomFrom };

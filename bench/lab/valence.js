@@ -1,21 +1,31 @@
 "use strict";
 // Counts, on the pages of `uniplay`, from how many worlds logs can still differ, and which worlds are critical: there each next
-// step decides which log it will be. node valence.js PAGE..
+// step decides which log it will be: node valence.js LABORATORY PAGE..
 //
-// It walks by the page's own program; the course quotes what it says.
+// It walks by the page's own program, and the course quotes what it says. The laboratory has to count the same worlds, and as
+// many that are open.
 
 const fs = require("fs");
 const path = require("path");
 const vm = require("vm");
+const { callsOf, graphOf, programOf } = require("./page.js");
 
 const NAMES = ["opening", "orderOf", "edgeOf", "follow", "logOf"];
 
+// the functions of the program of a page of `uniplay`
 function read(file) {
-  const [, graph, program] = /<script type="text\/plain" id="data">([^]*?)<\/script>\s*<script>([^]*?)<\/script>/
-    .exec(fs.readFileSync(file, "utf8"));
+  const [, program] = /<\/script>\s*<script>([^]*?)<\/script>/.exec(fs.readFileSync(file, "utf8"));
   const page = vm.createContext({});
   vm.runInContext(`${program}\nthis.page = { ${NAMES.join(", ")} };`, page);
-  return { graph: JSON.parse(graph), page: page.page };
+  return page.page;
+}
+
+// how many worlds the laboratory counts of the same calls, and how many that are open
+function countedBy(lab, graph) {
+  const made = lab.labOf({ object: lab.EXAMPLES[graph.object].text, calls: callsOf(graph), flaw: "none" });
+  lab.ended(lab.foresightOf(made, [], 0));
+  const outlooks = [...made.foreseen.known.values()];
+  return { worlds: outlooks.length, open: outlooks.filter((bits) => (bits & (bits - 1n)) !== 0n).length };
 }
 
 // of each node the logs that can still come, by their places in the list of all logs
@@ -39,9 +49,10 @@ function outlooks(page, graph, order, nextOf) {
   return { logs, outlook };
 }
 
-function main(files) {
+function main([laboratory, ...files]) {
+  const lab = programOf(laboratory, ["judge", "machine"], ["EXAMPLES", "labOf", "foresightOf", "ended"]);
   for (const file of files) {
-    const { graph, page } = read(file);
+    const [graph, page] = [graphOf(file), read(file)];
     const order = page.orderOf(graph);
     const processes = Array.from({ length: graph.processes }, (_, p) => p);
     const nextOf = (node) => processes.filter((p) => page.edgeOf(graph, node, p) !== null);
@@ -53,8 +64,11 @@ function main(files) {
       const { kind, place } = page.edgeOf(graph, node, p);
       return `${kind} at ${place}`;
     }).join(" against "));
+    const { worlds, open: opened } = countedBy(lab, graph);
+    const isSame = worlds === order.length && opened === open.length;
+    if (!isSame) process.exitCode = 1;
     console.log(`${path.basename(file)}: ${order.length} worlds, ${logs.length} logs; open ${open.length}, ` +
-      `critical ${critical.length}: ${kinds.join("; ")}`);
+      `critical ${critical.length}: ${kinds.join("; ")}; the laboratory counts ${isSame ? "the same" : `${worlds}, ${opened}`}`);
   }
 }
 
