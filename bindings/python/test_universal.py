@@ -2,8 +2,11 @@
 
 import contextlib
 import copy
+import gc
+import os
 import pickle
 import signal
+import threading
 import unittest
 
 from universal import Differs, Entry, Fault, Log, Refused, in_threads
@@ -44,6 +47,9 @@ class Calls(unittest.TestCase):
         self.refuses(Fault.BAD_TABLE, lambda: Log.machine(1, 1, SWITCH[0], [[0, 0], [1, 1 << 31]]))
         self.refuses(Fault.BAD_TABLE, lambda: Log.machine(1, 1, SWITCH[0], [[0, 0]]))
         self.refuses(Fault.BAD_TABLE, lambda: Log.machine(1, 1, [[0, 1], [1]], SWITCH[1]))
+        for entry in [-1, 1 << 32]:
+            self.refuses(Fault.BAD_TABLE, lambda: Log.machine(1, 1, [[0, 1], [1, entry]], SWITCH[1]))
+        self.assertRaises(TypeError, lambda: Log.machine(1, 1, [[0, 1.0], [1, 0]], SWITCH[1]))
 
     def test_seats(self):
         log = Log.tally(2, 1)
@@ -91,25 +97,68 @@ class Calls(unittest.TestCase):
     def test_one_call_at_a_time(self):
         with Log.tally(1, 4096) as log:
             seat = log.seat()
-        refused = []
+        told = []
 
         def interrupt(*_):
-            try:
-                seat.apply(1)
-            except Refused as fault:
-                refused.append(fault.fault)
+            told.append(seat.apply(1))
 
-        # the handler runs while the seat's lock is held
-        with seat._lock:
-            interrupt()
-        self.assertEqual(refused, [Fault.BUSY])
         had = signal.signal(signal.SIGALRM, interrupt)
         signal.setitimer(signal.ITIMER_REAL, 0.001, 0.001)
-        made = sum(1 for _ in range(2000) if seat.apply(1))
+        for _ in range(2000):
+            told.append(seat.apply(1))
         signal.setitimer(signal.ITIMER_REAL, 0)
         signal.signal(signal.SIGALRM, had)
-        self.assertEqual(made, 2000)
-        self.assertLessEqual(set(refused), {Fault.BUSY})
+        # each call of the handler is one of the seat's
+        self.assertEqual(sorted(answer.reply for answer in told), list(range(len(told))))
+        self.assertEqual(len(seat.finish()), len(told))
+
+    def test_an_exception_of_a_handler_leaves_the_seat(self):
+        class Stop(Exception):
+            pass
+
+        def stop(*_):
+            raise Stop
+
+        had = signal.signal(signal.SIGALRM, stop)
+        for round_ in range(300):
+            with Log.tally(1, 4096) as log:
+                seat = log.seat()
+            made = 0
+            with contextlib.suppress(Stop):
+                signal.setitimer(signal.ITIMER_REAL, 0.0002 + round_ % 50 * 0.00001)
+                for made in range(4095):
+                    seat.apply(1)
+                signal.pause()
+            signal.setitimer(signal.ITIMER_REAL, 0)
+            self.assertIn(seat.apply(1).reply, range(made, made + 3))
+            seat.close()
+        signal.signal(signal.SIGALRM, had)
+
+    def test_a_second_thread_waits(self):
+        with Log.tally(1, 4000) as log:
+            seat = log.seat()
+        threads = [threading.Thread(target=lambda: [seat.apply(1) for _ in range(1000)]) for _ in range(4)]
+        for thread in threads:
+            thread.start()
+        for thread in threads:
+            thread.join()
+        self.assertEqual(len(seat.finish()), 4000)
+
+    def test_a_fork_leaves_the_seat(self):
+        with Log.tally(1, 4096) as log:
+            seat = log.seat()
+        seat.apply(1)
+        child = os.fork()
+        if child == 0:
+            os._exit(seat.apply(1).reply)
+        self.assertEqual(os.waitstatus_to_exitcode(os.waitpid(child, 0)[1]), 1)
+        self.assertEqual(seat.apply(1).reply, 1)
+
+    def test_faults_cross_processes(self):
+        for fault in Fault:
+            self.assertIs(pickle.loads(pickle.dumps(Refused(fault))).fault, fault)
+        differs = pickle.loads(pickle.dumps(Differs(3, 7)))
+        self.assertEqual((differs.process, differs.nth, differs.fault), (3, 7, Fault.DIFFERS))
 
     def test_handles_are_not_copied(self):
         log = Log.tally(1, 1)
@@ -132,6 +181,15 @@ class Calls(unittest.TestCase):
         for bad in [[*seats, *strangers], [seats[0], seats[0]]]:
             self.assertRaises(ValueError, lambda: in_threads(bad, lambda seat: seat.apply(1)))
         self.assertEqual(len(in_threads(seats, lambda seat: seat.apply(1))), 2)
+        # also where one of them is gone by then
+        for _ in range(200):
+            with Log.tally(2, 1) as log:
+                seats = log.seats()
+            del log
+            gc.collect()
+            with Log.tally(2, 1) as log:
+                strangers = log.seats()
+            self.assertRaises(ValueError, lambda: in_threads([seats[0], strangers[1]], lambda seat: seat.apply(1)))
 
     def test_told(self):
         def seats():
@@ -160,6 +218,8 @@ class Calls(unittest.TestCase):
         seat = seats()
         for told in [{0: [(1 << 64, 0)]}, {0: [], 1 << 64: []}, {0: [], 1: [(3, 1 << 32)]}]:
             self.assertRaises(ValueError, lambda: seat.finish(told))
+        for told in [{0: [(5.0, 0)]}, {0: [(7, 4.0)]}, {0.0: [(7, 4)]}]:
+            self.assertRaises(TypeError, lambda: seat.finish(told))
         self.assertEqual(len(seat.finish()), 3)
 
     def test_wrong_handle(self):

@@ -124,8 +124,7 @@ class Calls(unittest.TestCase):
         for held in [row, row.seat()]:
             self.assertRaises(TypeError, lambda: copy.copy(held))
         seat = only_seat(Queue.open(1, 1))
-        with seat._lock:
-            self.refuses(Fault.BUSY, lambda: seat.put(1))
+        seat.put(1)
         with Log.tally(1, 1) as log, Counter.open(1) as counter:
             seats = [log.seat(), counter.seat()]
         self.assertRaises(ValueError, lambda: in_threads(seats, lambda seat: None))

@@ -1,16 +1,18 @@
 """Threads that count, that agree on a value, and that run a machine by its tables."""
 
-from universal import Log, in_threads
+from collections.abc import Callable
+
+from universal import Entry, Log, Seat, in_threads
 
 THREADS, CALLS = 4, 1000
 
 
-def shared(log, inv_of):
+def shared(log: Log, inv_of: Callable[[int, int], int]) -> list[Entry]:
     """Each seat in a thread of its own; then all calls in their order."""
     with log:
         seats = log.seats()
 
-    def work(seat):
+    def work(seat: Seat) -> None:
         for i in range(CALLS):
             seat.apply(inv_of(seat.process, i))
 

@@ -12,21 +12,23 @@ The last seat closes the log and gets all calls in their one order.
         seats = log.seats()
     in_threads(seats, lambda seat: seat.apply(5))   # [Entry(seq=2, process=.., nth=0, inv=5, reply=0), ..]
 
-The functions behind this module are proved; this module is not. A seat is in one call at a time: where a second thread
-or a signal handler uses it meanwhile, that is refused as `BUSY`. The library `libuniversal.so` is the one that the
+The functions behind this module are proved; this module is not. A call keeps the interpreter's lock, so a seat is in one
+call at a time, and no exception of a signal handler comes between its parts. Where an interpreter has no such lock, a
+seat that a second thread uses meanwhile is refused as `BUSY`. The library `libuniversal.so` is the one that the
 variable `UNIVERSAL_LIBRARY` names, or else the one in the package, where `pip install bindings/python` puts it.
 """
 
 from __future__ import annotations
 
 import ctypes
+import operator
 import threading
 from collections.abc import Callable, Mapping, Sequence
 from ctypes import POINTER, byref, c_size_t, c_uint32, c_uint64, c_void_p
 from enum import IntEnum
-from typing import NamedTuple, NoReturn
+from typing import Any, Generic, NamedTuple, NoReturn, Protocol, TypeVar
 
-from ._native import load
+from ._native import load, one_at_a_time
 
 __all__ = ["Differs", "Entry", "Fault", "Log", "Refused", "Reply", "Seat", "in_threads"]
 
@@ -54,6 +56,9 @@ class Refused(Exception):
         super().__init__(fault.name.lower().replace("_", " "))
         self.fault = fault
 
+    def __reduce__(self) -> tuple[object, ...]:
+        return type(self), (self.fault,)
+
 
 class Differs(Refused):
     """A closed log hasn't what a process was told: `nth` is the number, from 0, of its first call in which they differ."""
@@ -61,6 +66,9 @@ class Differs(Refused):
     def __init__(self, process: int, nth: int) -> None:
         super().__init__(Fault.DIFFERS)
         self.process, self.nth = process, nth
+
+    def __reduce__(self) -> tuple[object, ...]:
+        return type(self), (self.process, self.nth)
 
 
 class Reply(NamedTuple):
@@ -103,9 +111,9 @@ class _Entry(ctypes.Structure):
     ]
 
 
-_TABLES = [c_uint32, c_uint32, POINTER(c_uint32), c_size_t, POINTER(c_uint32), c_size_t]
+_TABLES: list[Any] = [c_uint32, c_uint32, POINTER(c_uint32), c_size_t, POINTER(c_uint32), c_size_t]
 
-_SIGNATURES = {
+_SIGNATURES: Mapping[str, list[Any]] = {
     "universal_open_tally": [c_uint64, c_uint64, POINTER(_Handle)],
     "universal_open_sticky": [c_uint64, c_uint64, POINTER(_Handle)],
     "universal_open_register": [c_uint64, c_uint64, POINTER(_Handle)],
@@ -139,11 +147,18 @@ _SIGNATURES = {
 }
 
 
-_LIBRARY = load("libuniversal", "UNIVERSAL_LIBRARY", _SIGNATURES)
+_ONE_AT_A_TIME = one_at_a_time()
+_LIBRARY = load(ctypes.PyDLL if _ONE_AT_A_TIME else ctypes.CDLL, "libuniversal", "UNIVERSAL_LIBRARY", _SIGNATURES)
 _LIBRARY.universal_drop.restype = None
 
 
+_Self = TypeVar("_Self", bound="_Held")
+_Given = TypeVar("_Given")
+_State = TypeVar("_State", covariant=True)
+
+
 def _number(value: int, bits: int) -> int:
+    value = operator.index(value)
     if not 0 <= value < 1 << bits:
         raise ValueError(f"{value} isn't from 0 to 2^{bits} - 1")
     return value
@@ -155,42 +170,44 @@ def _tables(next: Sequence[Sequence[int]], reply: Sequence[Sequence[int]]) -> li
         raise Refused(Fault.BAD_TABLE)
     tables: list[object] = [states, invocations]
     for table in (next, reply):
-        entries = [_number(entry, 32) for row in table for entry in row]
+        entries = [operator.index(entry) for row in table for entry in row]
+        if any(not 0 <= entry < 1 << 32 for entry in entries):
+            raise Refused(Fault.BAD_TABLE)
         tables += [(c_uint32 * max(1, len(entries)))(*entries), len(entries)]
     return tables
 
 
 class _Held:
-    """A handle of the library, and the lock that keeps it in one call at a time."""
+    """A handle of the library, and, where the interpreter has no lock of its own, one that keeps it in one call at a time."""
 
     def __init__(self) -> None:
         self._handle = _Handle()
         self._at = byref(self._handle)
-        self._lock = threading.Lock()
+        self._lock = None if _ONE_AT_A_TIME else threading.Lock()
 
-    def _call(self, function: Callable[..., int], *args: object) -> None:
+    def _alone(self, function: Callable[..., int], *args: object) -> int:
+        if self._lock is None:
+            return function(self._at, *args)
         if not self._lock.acquire(False):
             raise Refused(Fault.BUSY)
         try:
-            status = function(self._at, *args)
+            return function(self._at, *args)
         finally:
             self._lock.release()
+
+    def _call(self, function: Callable[..., int], *args: object) -> None:
+        status = self._alone(function, *args)
         if status != 0:
             raise Refused(Fault(status))
 
     def close(self) -> None:
         """Lets go what is held. Each later call raises `Refused` with `WRONG_HANDLE`. Raises `Refused`: busy."""
-        if not self._lock.acquire(False):
-            raise Refused(Fault.BUSY)
-        try:
-            _LIBRARY.universal_drop(self._at)
-        finally:
-            self._lock.release()
+        self._alone(_LIBRARY.universal_drop)
 
     def _is_closed(self) -> bool:
         return self._handle.at is None
 
-    def __enter__(self):
+    def __enter__(self: _Self) -> _Self:
         return self
 
     def __exit__(self, *_: object) -> None:
@@ -204,17 +221,20 @@ class _Held:
         raise TypeError(f"a {type(self).__name__} can't be copied: it is one handle of the library")
 
 
-class _Shared(_Held):
+class _Shared(_Held, Generic[_Given]):
     """What n processes share, with the seats that are still to be given out."""
 
     def __init__(self) -> None:
         super().__init__()
-        self._given: list = []
+        self._given: list[_Given] = []
+        # what its seats keep, and by which they are told from those of another one
+        self._mark = object()
 
-    def _id(self) -> int:
-        return id(self._lock)
+    def seat(self) -> _Given:
+        """The seat of the greatest process that has none yet."""
+        raise NotImplementedError
 
-    def seats(self) -> list:
+    def seats(self) -> list[_Given]:
         """All seats that are left, that of the greatest process first.
 
         Raises `Refused`: memory; then those that were had are among those of the next call.
@@ -229,7 +249,7 @@ class _Shared(_Held):
                 return given
 
 
-class Log(_Shared):
+class Log(_Shared["Seat"]):
     """An object that n processes share, with the seats that are still to be given out."""
 
     @classmethod
@@ -291,7 +311,7 @@ class Seat(_Held):
 
     def __init__(self, log: Log) -> None:
         super().__init__()
-        self._log_id = log._id()
+        self._mark = log._mark
 
     def __repr__(self) -> str:
         return "<Seat, closed>" if self._is_closed() else f"<Seat of process {self.process}>"
@@ -317,7 +337,7 @@ class Seat(_Held):
         `told` has for processes the calls that they made, each with its reply, with which the log is compared. That it
         has those of the process whose seat closes it is proved.
 
-        Raises `ValueError`: a number of `told` has too many bits. Raises `Refused`: another has the log. The seat stays in
+        Raises `ValueError` and `TypeError`: a number of `told` has too many bits, or is none. Raises `Refused`: another has the log. The seat stays in
         both. Raises `Refused`: memory was refused; the log is closed then, and a further call reads it. Raises `Differs`, for the first of these processes
         of which the log has other calls: the log is let go.
         """
@@ -351,7 +371,17 @@ class Seat(_Held):
         return [Entry(e.seq, e.process, e.nth, e.inv, e.reply if e.is_replied else None) for e in entries[: count.value]]
 
 
-def in_threads(seats: Sequence, work: Callable[..., object]):
+class _Finishing(Protocol[_State]):
+    """A seat of a log or of a small object."""
+
+    _mark: object
+
+    def close(self) -> None: ...
+
+    def finish(self) -> _State: ...
+
+
+def in_threads(seats: Sequence[_Finishing[_State]], work: Callable[[Any], object]) -> _State:
     """Runs `work(seat)` for each seat in a thread of its own, joins them all, and closes what they are seats of: what `finish`
     gives, which is all calls of a log, in their order, or the last state of a small object.
 
@@ -364,7 +394,7 @@ def in_threads(seats: Sequence, work: Callable[..., object]):
         raise ValueError("there is no seat")
     if len({id(seat) for seat in seats}) < len(seats):
         raise ValueError("a seat is there twice")
-    if len({seat._log_id for seat in seats}) > 1:
+    if any(seat._mark is not seats[0]._mark for seat in seats):
         raise ValueError("the seats are of two logs")
     raised: dict[int, BaseException] = {}
 

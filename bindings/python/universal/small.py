@@ -17,7 +17,7 @@ from __future__ import annotations
 from collections.abc import Callable, Sequence
 from ctypes import byref, c_uint32, c_uint64
 from queue import Full
-from typing import Generic, TypeVar
+from typing import Any, Generic, TypeVar, cast
 
 from . import _LIBRARY, Fault, Refused, _Held, _number, _Shared, _tables, in_threads
 
@@ -33,14 +33,17 @@ class Short(Exception):
     """A balance is too small. Nothing is changed."""
 
 
-class _Seat(_Held):
+_State = TypeVar("_State")
+
+
+class _Seat(_Held, Generic[_State]):
     """A process of a small object, which makes its calls. `process` is which it is, and `version` that of its latest call."""
 
     _replies = 1
 
-    def __init__(self, object_: Small) -> None:
+    def __init__(self, object_: Small[Any, Any]) -> None:
         super().__init__()
-        self._log_id, self._width = object_._id(), object_._width
+        self._mark, self._width = object_._mark, object_._width
         self.process = self.version = 0
 
     def __repr__(self) -> str:
@@ -52,7 +55,7 @@ class _Seat(_Held):
         reply = (c_uint64 * self._replies)()
         self._call(_LIBRARY.universal_small_apply, invocation, len(words), reply, self._replies, byref(version))
         self.version = version.value
-        return reply
+        return list(reply)
 
     def follows(self, version: int) -> bool:
         """Whether a version has come: all later calls of this seat come after all calls that are in it then.
@@ -63,7 +66,7 @@ class _Seat(_Held):
         self._call(_LIBRARY.universal_small_follows, _number(version, 64), byref(has_come))
         return has_come.value != 0
 
-    def finish(self):
+    def finish(self) -> _State:
         """Closes the object, by the last that has it: the last state.
 
         Raises `Refused`: another has the object, and the seat stays.
@@ -71,11 +74,11 @@ class _Seat(_Held):
         return self._state(_words(self, self._width))
 
     @classmethod
-    def _state(cls, words: list[int]):
-        return words
+    def _state(cls, words: list[int]) -> _State:
+        return cast(_State, words)
 
 
-_S = TypeVar("_S", bound=_Seat)
+_S = TypeVar("_S", bound=_Seat[Any])
 
 
 def _words(held: _Held, width: int) -> list[int]:
@@ -84,7 +87,7 @@ def _words(held: _Held, width: int) -> list[int]:
     return list(state[:width])
 
 
-class Small(_Shared, Generic[_S]):
+class Small(_Shared[_S], Generic[_S, _State]):
     """A small object that n processes share, with the seats that are still to be given out."""
 
     def __init__(self, seats_of: type[_S], width: int) -> None:
@@ -96,7 +99,7 @@ class Small(_Shared, Generic[_S]):
         return f"<Small {name}, closed>" if self._is_closed() else f"<Small {name}>"
 
     @classmethod
-    def _open(cls, seats_of: type[_S], width: int, function: Callable[..., int], *args: object) -> Small[_S]:
+    def _open(cls, seats_of: type[_S], width: int, function: Callable[..., int], *args: object) -> Small[_S, _State]:
         opened = cls(seats_of, width)
         status = function(*args, opened._at)
         if status != 0:
@@ -110,19 +113,19 @@ class Small(_Shared, Generic[_S]):
         seat.process = process.value
         return seat
 
-    def finish(self):
+    def finish(self) -> _State:
         """Closes the object, if all its seats are closed: the last state.
 
         Raises `Refused`: a seat has the object, which stays.
         """
-        return self._seats_of._state(_words(self, self._width))
+        return cast(_State, self._seats_of._state(_words(self, self._width)))
 
 
-class Counter(_Seat):
+class Counter(_Seat[int]):
     """A seat of a counter modulo 2^64, 0 at the start. The last state is the sum."""
 
     @classmethod
-    def open(cls, n: int) -> Small[Counter]:
+    def open(cls, n: int) -> Small[Counter, int]:
         """A counter for n processes. Raises `Refused`: n isn't from 1 to 64; memory was refused."""
         return Small._open(cls, 1, _LIBRARY.universal_open_counter, _number(n, 64))
 
@@ -135,11 +138,11 @@ class Counter(_Seat):
         return words[0]
 
 
-class Register(_Seat):
+class Register(_Seat[int]):
     """A seat of a register of 64 bits, 0 at the start. The last state is the value."""
 
     @classmethod
-    def open(cls, n: int) -> Small[Register]:
+    def open(cls, n: int) -> Small[Register, int]:
         """A register for n processes. Raises as `Counter.open`."""
         return Small._open(cls, 1, _LIBRARY.universal_open_register64, _number(n, 64))
 
@@ -163,11 +166,11 @@ class Register(_Seat):
         return words[0]
 
 
-class Counters(_Seat):
+class Counters(_Seat[list[int]]):
     """A seat of an array of counters modulo 2^64, each 0 at the start. The last state is their list."""
 
     @classmethod
-    def open(cls, n: int, count: int) -> Small[Counters]:
+    def open(cls, n: int, count: int) -> Small[Counters, list[int]]:
         """So many counters for n processes.
 
         Raises `Refused`: n isn't from 1 to 64; there are more than 65,536 counters; memory was refused.
@@ -181,7 +184,7 @@ class Counters(_Seat):
         return self._apply(index, number % (1 << 64))[0]
 
 
-class _Row(_Seat):
+class _Row(_Seat[list[int]]):
     @classmethod
     def _state(cls, words: list[int]) -> list[int]:
         return words[1 : 1 + words[0]]
@@ -200,7 +203,7 @@ class Queue(_Row):
     """A seat of a queue of numbers from 1 to 2^64 - 1. The last state is their list, the oldest one first."""
 
     @classmethod
-    def open(cls, n: int, capacity: int) -> Small[Queue]:
+    def open(cls, n: int, capacity: int) -> Small[Queue, list[int]]:
         """A queue of at most `capacity` numbers for n processes.
 
         Raises `Refused`: n isn't from 1 to 64; capacity is more than 65,535; memory was refused.
@@ -220,7 +223,7 @@ class Stack(_Row):
     """A seat of a stack of numbers from 1 to 2^64 - 1. The last state is their list, the newest one last."""
 
     @classmethod
-    def open(cls, n: int, capacity: int) -> Small[Stack]:
+    def open(cls, n: int, capacity: int) -> Small[Stack, list[int]]:
         """A stack of at most `capacity` numbers for n processes. Raises as `Queue.open`."""
         return Small._open(cls, 1 + capacity, _LIBRARY.universal_open_stack, _number(n, 64), _number(capacity, 32))
 
@@ -233,13 +236,13 @@ class Stack(_Row):
         return self._take()
 
 
-class Map(_Seat):
+class Map(_Seat[dict[int, int]]):
     """A seat of a map from words to words. The last state is a dictionary, with the oldest key first."""
 
     _replies = 2
 
     @classmethod
-    def open(cls, n: int, capacity: int) -> Small[Map]:
+    def open(cls, n: int, capacity: int) -> Small[Map, dict[int, int]]:
         """A map of at most `capacity` keys for n processes.
 
         Raises `Refused`: n isn't from 1 to 64; capacity is more than 32,767; memory was refused.
@@ -269,7 +272,7 @@ class Map(_Seat):
         return dict(zip(words[1 : 1 + 2 * words[0] : 2], words[2::2]))
 
 
-class Book(_Seat):
+class Book(_Seat[list[int]]):
     """A seat of a book of sixteen accounts, each with a balance up to 999,999,999,999 that is 0 at the start.
 
     The last state is the list of the balances.
@@ -278,7 +281,7 @@ class Book(_Seat):
     _replies = 2
 
     @classmethod
-    def open(cls, n: int) -> Small[Book]:
+    def open(cls, n: int) -> Small[Book, list[int]]:
         """A book for n processes. Raises as `Counter.open`."""
         return Small._open(cls, 16, _LIBRARY.universal_open_book, _number(n, 64))
 
@@ -309,11 +312,11 @@ class Book(_Seat):
         return self._number_of(3, 0, 0, 0)
 
 
-class Machine(_Seat):
+class Machine(_Seat[int]):
     """A seat of a machine by its tables. The last state is the number of its state."""
 
     @classmethod
-    def open(cls, n: int, next: Sequence[Sequence[int]], reply: Sequence[Sequence[int]]) -> Small[Machine]:
+    def open(cls, n: int, next: Sequence[Sequence[int]], reply: Sequence[Sequence[int]]) -> Small[Machine, int]:
         """The machine of two tables with a row for each state and an entry for each invocation; 0 is the start.
 
         Raises `Refused`: the tables aren't those of a machine; and then as `Counter.open`.

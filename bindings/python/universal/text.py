@@ -12,6 +12,7 @@ variable `UNIVERSAL_TEXT_LIBRARY` names, or else the one in the package, where `
 
 from __future__ import annotations
 
+import ctypes
 from ctypes import POINTER, byref, c_size_t, c_uint8, c_uint64, string_at
 
 from ._native import load
@@ -61,7 +62,7 @@ _SIGNATURES = {
     "universal_draw": [*_SCRIPT, *_OUT],
     "universal_lines": [*_SCRIPT, *_OUT],
 }
-_LIBRARY = load("libuniversal_text", "UNIVERSAL_TEXT_LIBRARY", _SIGNATURES)
+_LIBRARY = load(ctypes.CDLL, "libuniversal_text", "UNIVERSAL_TEXT_LIBRARY", _SIGNATURES)
 
 
 def _text(name: str, script: str, limit: int, *numbers: int) -> str:
