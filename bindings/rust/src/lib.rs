@@ -9,7 +9,7 @@
 //! whatever the other threads do. The last seat closes the log and gets all calls in their one order.
 //!
 //! The functions behind this crate are proved; this crate is not. Its types keep what they ask for: a seat is `&mut`
-//! in a call, goes to another thread but is never shared, and is closed by value.
+//! in a call, so no two threads are in one at a time, and it is closed by value.
 //!
 //! ```
 //! use universal::Log;

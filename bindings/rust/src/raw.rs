@@ -3,7 +3,7 @@ use crate::{Fault, Machine};
 use std::ffi::c_void;
 use std::ptr::{null_mut, NonNull};
 
-/// What a handle of `universal.h` is. It is in one call at a time, so it is `Send` and not `Sync`.
+/// What a handle of `universal.h` is. It is in one call at a time: each call takes it by `&mut`.
 #[repr(C)]
 #[derive(Debug)]
 pub(crate) struct Handle {
@@ -12,6 +12,9 @@ pub(crate) struct Handle {
 
 // `Send` of what a handle has is proved in the library.
 unsafe impl Send for Handle {}
+
+// By `&` nothing is done with a handle but to print where it points.
+unsafe impl Sync for Handle {}
 
 /// A reply.
 #[repr(C)]

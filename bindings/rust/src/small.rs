@@ -29,7 +29,20 @@ use std::marker::PhantomData;
 use std::num::NonZeroU64;
 
 mod kind {
-    /// What an object is, by its last state.
+    /// What an object is, by its last state: the bound of a function over seats of any object.
+    ///
+    /// ```
+    /// use universal::small::{Counter, Kind, SmallSeat};
+    ///
+    /// fn in_threads<K: Kind>(seats: &mut [SmallSeat<K>], work: impl Fn(&mut SmallSeat<K>) + Sync) {
+    ///     std::thread::scope(|scope| seats.iter_mut().for_each(|seat| drop(scope.spawn(|| work(seat)))));
+    /// }
+    ///
+    /// let mut seats = Counter::open(4)?.into_seats()?;
+    /// in_threads(&mut seats, |seat| drop(seat.add(5).unwrap()));
+    /// assert_eq!(seats[0].add(0).unwrap(), 20);
+    /// # Ok::<(), universal::Fault>(())
+    /// ```
     pub trait Kind {
         /// The last state.
         type State;
@@ -39,7 +52,7 @@ mod kind {
     }
 }
 
-use kind::Kind;
+pub use kind::Kind;
 
 macro_rules! kinds {
     ($($name:ident: $state:ty, $words:ident => $read:expr;)*) => {$(

@@ -178,7 +178,7 @@ fn the_log_has_what_each_thread_was_told() {
 
 #[test]
 fn handles_go_to_other_threads() {
-    fn goes<T: Send>() {}
+    fn goes<T: Send + Sync>() {}
     goes::<Log>();
     goes::<universal::Seat>();
 }

@@ -124,8 +124,17 @@ fn seats_end_and_follow_and_close() {
 
 #[test]
 fn what_goes_to_another_thread() {
-    fn goes<T: Send>() {}
+    fn goes<T: Send + Sync>() {}
     goes::<Map>();
     goes::<Small<universal::small::kinds::Map>>();
     goes::<Busy<SmallSeat<universal::small::kinds::Queue>>>();
+}
+
+#[test]
+fn faults_go_into_the_errors_of_threads() {
+    fn opened(n: u64) -> Result<usize, Box<dyn std::error::Error + Send + Sync>> {
+        Ok(Map::open(n, 100)?.into_seats()?.len())
+    }
+    assert_eq!(opened(2).unwrap(), 2);
+    assert_eq!(opened(0).unwrap_err().to_string(), "there aren't from 1 to 64 processes");
 }
