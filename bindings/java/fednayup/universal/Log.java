@@ -19,14 +19,10 @@ public final class Log implements AutoCloseable {
 
     private Log() {}
 
-    private interface Open {
-        int status(MemorySegment log) throws Throwable;
-    }
-
-    private static Log opened(Open open) throws Refused {
+    private static Log opened(Universal.With open) throws Refused {
         Log log = new Log();
         try {
-            Universal.done(() -> open.status(log.handle.at));
+            log.handle.call(open);
             return log;
         } catch (Refused refused) {
             log.close();
@@ -68,7 +64,7 @@ public final class Log implements AutoCloseable {
         Handle seat = new Handle();
         try (Arena arena = Arena.ofConfined()) {
             MemorySegment process = arena.allocate(JAVA_LONG);
-            Universal.done(() -> (int) Universal.SEAT.invokeExact(handle.use(), seat.at, process));
+            handle.call(at -> (int) Universal.SEAT.invokeExact(at, seat.at(), process));
             return new Seat(seat, process.get(JAVA_LONG, 0));
         } catch (Refused refused) {
             seat.close();

@@ -15,7 +15,7 @@ public final class Seat implements AutoCloseable {
     private static final long ENTRY = 40, CALL = 16;
 
     private final Handle handle;
-    private final Arena arena = Arena.ofShared();
+    private final Arena arena = Arena.ofAuto();
     private final MemorySegment answer = arena.allocate(JAVA_INT, 2);
 
     /** Which process it is, from 0 to n - 1. */
@@ -28,7 +28,7 @@ public final class Seat implements AutoCloseable {
 
     /** A call: its reply. Refused: the seat has made its calls, and nothing is changed. */
     public synchronized int apply(long inv) throws Refused {
-        Universal.done(() -> (int) Universal.APPLY.invokeExact(handle.use(), inv, answer));
+        handle.call(at -> (int) Universal.APPLY.invokeExact(at, inv, answer));
         return answer.get(JAVA_INT, 0);
     }
 
@@ -37,7 +37,7 @@ public final class Seat implements AutoCloseable {
      * always true of a call that has returned.
      */
     public synchronized boolean follows(long process, long nth) throws Refused {
-        Universal.done(() -> (int) Universal.FOLLOWS.invokeExact(handle.use(), process, nth, answer));
+        handle.call(at -> (int) Universal.FOLLOWS.invokeExact(at, process, nth, answer));
         return answer.get(JAVA_INT, 0) != 0;
     }
 
@@ -55,7 +55,7 @@ public final class Seat implements AutoCloseable {
      * and it is let go.
      */
     public synchronized List<Entry> finish(Map<Long, List<Call>> told) throws Refused {
-        Universal.done(() -> (int) Universal.CLOSE.invokeExact(handle.use()));
+        handle.call(at -> (int) Universal.CLOSE.invokeExact(at));
         try {
             for (Map.Entry<Long, List<Call>> its : told.entrySet()) {
                 compare(its.getKey(), its.getValue());
@@ -75,7 +75,7 @@ public final class Seat implements AutoCloseable {
             }
             try {
                 long count = calls.size();
-                Universal.done(() -> (int) Universal.COMPARE.invokeExact(handle.use(), process, made, count, nth));
+                handle.call(at -> (int) Universal.COMPARE.invokeExact(at, process, made, count, nth));
             } catch (Refused refused) {
                 throw refused.fault == Fault.DIFFERS ? new Differs(process, nth.get(JAVA_LONG, 0)) : refused;
             }
@@ -85,10 +85,10 @@ public final class Seat implements AutoCloseable {
     private List<Entry> entries() throws Refused {
         try (Arena room = Arena.ofConfined()) {
             MemorySegment count = room.allocate(JAVA_LONG), none = room.allocate(ENTRY, 8);
-            Universal.done(() -> (int) Universal.READ.invokeExact(handle.use(), none, 0L, count));
+            handle.call(at -> (int) Universal.READ.invokeExact(at, none, 0L, count));
             long size = count.get(JAVA_LONG, 0);
             MemorySegment entries = room.allocate(ENTRY * Math.max(1, size), 8);
-            Universal.done(() -> (int) Universal.READ.invokeExact(handle.use(), entries, size, count));
+            handle.call(at -> (int) Universal.READ.invokeExact(at, entries, size, count));
             List<Entry> calls = new ArrayList<>();
             for (long i = 0; i < size; i++) {
                 calls.add(entry(entries.asSlice(ENTRY * i, ENTRY)));
@@ -106,8 +106,5 @@ public final class Seat implements AutoCloseable {
     @Override
     public synchronized void close() {
         handle.close();
-        if (arena.scope().isAlive()) {
-            arena.close();
-        }
     }
 }

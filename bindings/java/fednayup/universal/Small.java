@@ -34,17 +34,17 @@ public final class Small<S extends Small.Seat> implements AutoCloseable {
 
     private static <S extends Seat> Small<S> opened(MethodHandle open, long n, int width, Seats<S> seats) throws Refused {
         Small<S> object = new Small<>(width, seats);
-        return object.opened(() -> (int) open.invokeExact(n, object.handle.at));
+        return object.opened(at -> (int) open.invokeExact(n, at));
     }
 
     private static <S extends Seat> Small<S> opened(MethodHandle open, long n, int size, int width, Seats<S> seats) throws Refused {
         Small<S> object = new Small<>(width, seats);
-        return object.opened(() -> (int) open.invokeExact(n, size, object.handle.at));
+        return object.opened(at -> (int) open.invokeExact(n, size, at));
     }
 
-    private Small<S> opened(Universal.Call open) throws Refused {
+    private Small<S> opened(Universal.With open) throws Refused {
         try {
-            Universal.done(open);
+            handle.call(open);
             return this;
         } catch (Refused refused) {
             close();
@@ -57,7 +57,7 @@ public final class Small<S extends Small.Seat> implements AutoCloseable {
         Handle seat = new Handle();
         try (Arena arena = Arena.ofConfined()) {
             MemorySegment process = arena.allocate(JAVA_LONG);
-            Universal.done(() -> (int) Universal.SMALL_SEAT.invokeExact(handle.use(), seat.at, process));
+            handle.call(at -> (int) Universal.SMALL_SEAT.invokeExact(at, seat.at(), process));
             return seats.of(seat, process.get(JAVA_LONG, 0), width);
         } catch (Refused refused) {
             seat.close();
@@ -88,7 +88,7 @@ public final class Small<S extends Small.Seat> implements AutoCloseable {
     private static long[] finish(Handle handle, int width) throws Refused {
         try (Arena arena = Arena.ofConfined()) {
             MemorySegment state = arena.allocate(JAVA_LONG, Math.max(1, width));
-            Universal.done(() -> (int) Universal.SMALL_CLOSE.invokeExact(handle.use(), state, (long) width));
+            handle.call(at -> (int) Universal.SMALL_CLOSE.invokeExact(at, state, (long) width));
             handle.close();
             return state.asSlice(0, 8L * width).toArray(JAVA_LONG);
         }
@@ -106,7 +106,7 @@ public final class Small<S extends Small.Seat> implements AutoCloseable {
 
         private final Handle handle;
         private final int width;
-        private final Arena arena = Arena.ofShared();
+        private final Arena arena = Arena.ofAuto();
         private final MemorySegment invocation = arena.allocate(JAVA_LONG, MOST), reply = arena.allocate(JAVA_LONG, 2);
         private final MemorySegment answer = arena.allocate(JAVA_LONG);
         private long version;
@@ -130,7 +130,7 @@ public final class Small<S extends Small.Seat> implements AutoCloseable {
          * of one that a call was answered.
          */
         public final synchronized boolean follows(long version) throws Refused {
-            Universal.done(() -> (int) Universal.SMALL_FOLLOWS.invokeExact(handle.use(), version, answer));
+            handle.call(at -> (int) Universal.SMALL_FOLLOWS.invokeExact(at, version, answer));
             return answer.get(JAVA_INT, 0) != 0;
         }
 
@@ -145,16 +145,13 @@ public final class Small<S extends Small.Seat> implements AutoCloseable {
         @Override
         public final synchronized void close() {
             handle.close();
-            if (arena.scope().isAlive()) {
-                arena.close();
-            }
         }
 
         /** A call: the words of its reply. */
         final synchronized long[] apply(int replies, long... words) throws Refused {
-            handle.use();
+            handle.at();
             MemorySegment.copy(words, 0, invocation, JAVA_LONG, 0, words.length);
-            Universal.done(() -> (int) Universal.SMALL_APPLY.invokeExact(handle.use(), invocation, (long) words.length, reply,
+            handle.call(at -> (int) Universal.SMALL_APPLY.invokeExact(at, invocation, (long) words.length, reply,
                     (long) replies, answer));
             version = answer.get(JAVA_LONG, 0);
             return new long[] {reply.get(JAVA_LONG, 0), reply.get(JAVA_LONG, 8)};
@@ -358,8 +355,8 @@ public final class Small<S extends Small.Seat> implements AutoCloseable {
         public static Small<Machine> open(long n, int[][] next, int[][] reply) throws Refused {
             Universal.Tables tables = Universal.Tables.of(next, reply);
             Small<Machine> object = new Small<>(1, Machine::new);
-            return object.opened(() -> (int) Universal.OPEN_SMALL_MACHINE.invokeExact(n, tables.states(),
-                    tables.invocations(), tables.next(), tables.nexts(), tables.reply(), tables.replies(), object.handle.at));
+            return object.opened(at -> (int) Universal.OPEN_SMALL_MACHINE.invokeExact(n, tables.states(),
+                    tables.invocations(), tables.next(), tables.nexts(), tables.reply(), tables.replies(), at));
         }
 
         /** A call: the reply. An invocation past the tables, read as an unsigned one, is the last one. */

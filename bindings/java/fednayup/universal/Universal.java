@@ -14,6 +14,8 @@ import java.lang.foreign.MemoryLayout;
 import java.lang.foreign.MemorySegment;
 import java.lang.foreign.SymbolLookup;
 import java.lang.invoke.MethodHandle;
+import java.lang.ref.Cleaner;
+import java.lang.ref.Reference;
 import java.nio.file.Files;
 import java.nio.file.Path;
 import java.nio.file.StandardCopyOption;
@@ -116,30 +118,56 @@ final class Universal {
         }
     }
 
-    /** A handle of the library, in memory of its own. One call at a time: its owner's methods are synchronized. */
+    /**
+     * A handle of the library, in memory of its own. One call at a time: its owner's methods are synchronized. Where it is
+     * forgotten, what it has is let go once nothing names it any more.
+     */
     static final class Handle implements AutoCloseable {
-        private final Arena arena = Arena.ofShared();
-        final MemorySegment at = arena.allocate(ADDRESS);
-        private boolean gone;
+        private static final Cleaner CLEANER = Cleaner.create();
 
-        MemorySegment use() {
-            if (gone) {
-                throw new IllegalStateException("it was closed");
-            }
-            return at;
-        }
-
-        @Override
-        public void close() {
-            if (!gone) {
-                gone = true;
+        /** What is let go once. It doesn't name its handle. */
+        private record Held(MemorySegment at) implements Runnable {
+            @Override
+            public void run() {
                 try {
                     DROP.invokeExact(at);
                 } catch (Throwable wrong) {
                     throw new AssertionError(wrong);
                 }
-                arena.close();
             }
         }
+
+        private final Held held = new Held(Arena.ofAuto().allocate(ADDRESS));
+        private final Cleaner.Cleanable letGo = CLEANER.register(this, held);
+        private boolean gone;
+
+        /** A call with the handle, which stays until that has returned. */
+        void call(With call) throws Refused {
+            try {
+                MemorySegment at = at();
+                done(() -> call.status(at));
+            } finally {
+                Reference.reachabilityFence(this);
+            }
+        }
+
+        MemorySegment at() {
+            if (gone) {
+                throw new IllegalStateException("it was closed");
+            }
+            return held.at;
+        }
+
+        @Override
+        public void close() {
+            gone = true;
+            letGo.clean();
+        }
+    }
+
+    /** A function of the library that takes a handle. */
+    @FunctionalInterface
+    interface With {
+        int status(MemorySegment at) throws Throwable;
     }
 }
