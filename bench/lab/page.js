@@ -4,6 +4,13 @@
 const fs = require("fs");
 const vm = require("vm");
 
+// what a program defines under these names
+function defined(program, names) {
+  const context = vm.createContext({});
+  vm.runInContext(`${program}\nthis.program = { ${names.join(", ")} };`, context);
+  return context.program;
+}
+
 // what the scripts of a page with these ids define, under these names; `change` is a pair of texts, of which the second takes
 // the place of the first, which has to stand there once
 function programOf(path, ids, names, change = null) {
@@ -13,9 +20,13 @@ function programOf(path, ids, names, change = null) {
     if (text.split(change[0]).length !== 2) throw new Error(`it doesn't stand there once: ${change[0]}`);
     text = text.replace(change[0], () => change[1]);
   }
-  const context = vm.createContext({});
-  vm.runInContext(`${text}\nthis.program = { ${names.join(", ")} };`, context);
-  return context.program;
+  return defined(text, names);
+}
+
+// what the program of a page of `uniplay` defines under these names
+function playerOf(file, names) {
+  const [, program] = /<\/script>\s*<script>([^]*?)<\/script>/.exec(fs.readFileSync(file, "utf8"));
+  return defined(program, names);
 }
 
 // random numbers from a seed, the same on each run (mulberry32)
@@ -46,4 +57,4 @@ function callsOf(graph) {
   return plan.map((own) => [...own.keys()].sort().map((k) => own.get(k)).join("; ") || "-").join("\n");
 }
 
-module.exports = { callsOf, graphOf, programOf, randomFrom };
+module.exports = { callsOf, graphOf, playerOf, programOf, randomFrom };

@@ -5,20 +5,10 @@
 // It walks by the page's own program, and the course quotes what it says. The laboratory has to count the same worlds, and as
 // many that are open.
 
-const fs = require("fs");
 const path = require("path");
-const vm = require("vm");
-const { callsOf, graphOf, programOf } = require("./page.js");
+const { callsOf, graphOf, playerOf, programOf } = require("./page.js");
 
 const NAMES = ["opening", "orderOf", "edgeOf", "follow", "logOf"];
-
-// the functions of the program of a page of `uniplay`
-function read(file) {
-  const [, program] = /<\/script>\s*<script>([^]*?)<\/script>/.exec(fs.readFileSync(file, "utf8"));
-  const page = vm.createContext({});
-  vm.runInContext(`${program}\nthis.page = { ${NAMES.join(", ")} };`, page);
-  return page.page;
-}
 
 // how many worlds the laboratory counts of the same calls, and how many that are open
 function countedBy(lab, graph) {
@@ -52,7 +42,7 @@ function outlooks(page, graph, order, nextOf) {
 function main([laboratory, ...files]) {
   const lab = programOf(laboratory, ["judge", "machine"], ["EXAMPLES", "labOf", "foresightOf", "ended"]);
   for (const file of files) {
-    const [graph, page] = [graphOf(file), read(file)];
+    const [graph, page] = [graphOf(file), playerOf(file, NAMES)];
     const order = page.orderOf(graph);
     const processes = Array.from({ length: graph.processes }, (_, p) => p);
     const nextOf = (node) => processes.filter((p) => page.edgeOf(graph, node, p) !== null);

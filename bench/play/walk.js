@@ -9,28 +9,7 @@
 // whose program tells it wrongly, fails.
 
 const { execFileSync } = require("child_process");
-const fs = require("fs");
-const vm = require("vm");
-
-// the graph of a page, and the functions of its program
-function read(path) {
-  const [, graph, program] = /<script type="text\/plain" id="data">([^]*?)<\/script>\s*<script>([^]*?)<\/script>/
-    .exec(fs.readFileSync(path, "utf8"));
-  const page = vm.createContext({});
-  vm.runInContext(`${program}\nthis.run = { randomRun, scriptOf, commanded };`, page);
-  return { graph: JSON.parse(graph), page: page.run };
-}
-
-// random numbers from a seed, the same on each run (mulberry32)
-function randomFrom(seed) {
-  let state = seed;
-  return () => {
-    state = (state + 0x6d2b79f5) | 0;
-    let t = Math.imul(state ^ (state >>> 15), 1 | state);
-    t = (t + Math.imul(t ^ (t >>> 7), 61 | t)) ^ t;
-    return ((t ^ (t >>> 14)) >>> 0) / 4294967296;
-  };
-}
+const { graphOf, playerOf, randomFrom } = require("../lab/page.js");
 
 // a run with commands between its events
 function withCommands(page, graph, run, random, trims) {
@@ -51,7 +30,7 @@ function withCommands(page, graph, run, random, trims) {
 }
 
 function main(path, unibench, walks) {
-  const { graph, page } = read(path);
+  const [graph, page] = [graphOf(path), playerOf(path, ["randomRun", "scriptOf", "commanded"])];
   for (let seed = 1; seed <= walks; seed++) {
     const random = randomFrom(seed);
     const stopped = seed % 2 === 0 ? Math.floor(random() * graph.processes) : null;
