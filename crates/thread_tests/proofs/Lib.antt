@@ -1,1 +1,2 @@
 mod Before
+mod InTurn

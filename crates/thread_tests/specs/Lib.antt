@@ -1,1 +1,2 @@
 pub mod Account
+pub mod Apart

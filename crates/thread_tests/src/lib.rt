@@ -3,8 +3,13 @@
 #![tactic(auto)]
 
 mod account;
+mod apart;
 
 pub use account::{Account, AccountObject};
+pub use apart::{
+    small_calls_apart_are_answered_in_turn, stale_read_is_not_in_turn,
+    word_calls_apart_are_answered_in_turn,
+};
 
 #[cfg(test)]
 mod follows;
