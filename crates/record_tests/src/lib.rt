@@ -23,6 +23,8 @@ mod objects;
 #[cfg(test)]
 mod records;
 #[cfg(test)]
+mod rows;
+#[cfg(test)]
 mod seat_calls;
 #[cfg(test)]
 mod seats;
