@@ -3,3 +3,4 @@ pub mod Counting
 pub mod Closing
 pub mod Differing
 pub mod Holding
+pub mod HoldsInOrder
