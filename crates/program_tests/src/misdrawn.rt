@@ -61,6 +61,16 @@ enum Wrong {
     BoxesExchanged,
     /// A text of a box is left out.
     BoxTextLeftOut,
+    /// A bar ends before the column in which it is to end.
+    BarEndsEarly,
+    /// A bar has no width.
+    BarIsEmpty,
+    /// All rows lie on one spot.
+    RowsOnOneSpot,
+    /// Paper lies over the strip.
+    StripUnderPaper,
+    /// Paper lies over the whole picture.
+    AllUnderPaper,
     /// A shape passes the right edge.
     Outside,
     /// The title is another.
@@ -96,6 +106,9 @@ fn spoil_shape(alloc: Global, wrong: Wrong, shape: &mut Shape) -> Result<(), All
             *other = other.back(0, LANE);
         }
         (Wrong::BarEndsLate, Shape::Rect(_, width, _, _)) => *width = width.saturating_add(20),
+        (Wrong::BarEndsEarly, Shape::Rect(_, width, _, Paint::Frame)) => *width /= 2,
+        (Wrong::BarIsEmpty, Shape::Rect(_, width, _, Paint::Frame)) => *width = 0,
+        (Wrong::RowsOnOneSpot, Shape::View(at, _, _, _)) => at.y = 0,
         (Wrong::LabelLies, Shape::Text(_, _, _, text)) => *text = lie(alloc)?,
         (Wrong::StepBefore, Shape::Titled(at, _, _, _, _)) => *at = at.back(20, 0),
         (Wrong::RefusalLate, Shape::Line(from, to, Paint::Cross)) => {
@@ -123,6 +136,11 @@ fn spoil(alloc: Global, wrong: Wrong, drawn: &mut Drawn) -> Result<(), AllocErro
     spoil_order(alloc, wrong, drawn)
 }
 
+/// Paper of this size, from the left upper corner on.
+fn paper(width: u64, height: u64) -> Shape {
+    Shape::Rect(Spot { x: 0, y: 0 }, width, height, Paint::Paper)
+}
+
 /// Makes a drawing wrong where no single shape is.
 fn spoil_order(alloc: Global, wrong: Wrong, drawn: &mut Drawn) -> Result<(), AllocError> {
     let first = drawn.boxes.0;
@@ -141,6 +159,14 @@ fn spoil_order(alloc: Global, wrong: Wrong, drawn: &mut Drawn) -> Result<(), All
             drawn.drawing.shapes.swap(first + 2, first + 3);
         }
         Wrong::BoxTextLeftOut => drawn.boxes.1 = drawn.boxes.1.saturating_sub(1),
+        Wrong::StripUnderPaper => {
+            let over = paper(drawn.layout.width, drawn.layout.height);
+            drawn.drawing.strip.push(over)?;
+        }
+        Wrong::AllUnderPaper => {
+            let over = paper(drawn.drawing.width, drawn.drawing.height);
+            drawn.drawing.shapes.push(over)?;
+        }
         Wrong::Outside => drawn.drawing.width = 500,
         Wrong::Title => drawn.drawing.title = lie(alloc)?,
         _ => {}
@@ -160,7 +186,7 @@ fn is_misdrawn(alloc: Global, wrong: Wrong) -> Result<bool, Fail> {
 }
 
 /// Each way in which a drawing is made wrong.
-const ALL: [Wrong; 17] = [
+const ALL: [Wrong; 22] = [
     Wrong::DotInAnotherLane,
     Wrong::DotTwice,
     Wrong::LeftOut,
@@ -176,6 +202,11 @@ const ALL: [Wrong; 17] = [
     Wrong::RowEndsEarly,
     Wrong::BoxesExchanged,
     Wrong::BoxTextLeftOut,
+    Wrong::BarEndsEarly,
+    Wrong::BarIsEmpty,
+    Wrong::RowsOnOneSpot,
+    Wrong::StripUnderPaper,
+    Wrong::AllUnderPaper,
     Wrong::Outside,
     Wrong::Title,
 ];
@@ -198,6 +229,8 @@ fn spoil_stroke(alloc: Global, wrong: Wrong, stroke: &mut Stroke) -> Result<(), 
         }
         (Wrong::TipOfTheHelper, Ink::Arrow) => stroke.bottom = stroke.bottom.saturating_add(4),
         (Wrong::BarEndsLate, Ink::Bar(width)) => *width = width.saturating_add(1),
+        (Wrong::BarIsEmpty, Ink::Bar(width)) => *width = 0,
+        (Wrong::BarEndsEarly, Ink::Bar(width)) => *width /= 2,
         (Wrong::LabelLies, Ink::Text(text)) => *text = lie(alloc)?,
         (Wrong::StepBefore, Ink::Text(text)) if text.as_slice() == b"h".as_slice() => {
             stroke.column = stroke.column.saturating_sub(1);
@@ -248,7 +281,7 @@ fn is_misdrawn_in_lines(alloc: Global, wrong: Wrong) -> Result<bool, Fail> {
 }
 
 /// Each way in which rows are made wrong.
-const IN_LINES: [Wrong; 11] = [
+const IN_LINES: [Wrong; 13] = [
     Wrong::DotInAnotherLane,
     Wrong::LeftOut,
     Wrong::ColumnsChangedOver,
@@ -260,6 +293,8 @@ const IN_LINES: [Wrong; 11] = [
     Wrong::RefusalLate,
     Wrong::RowBeginsLate,
     Wrong::RowEndsEarly,
+    Wrong::BarEndsEarly,
+    Wrong::BarIsEmpty,
 ];
 
 #[test]

@@ -106,6 +106,7 @@ fn marks_of_events<O: Spoken>(
     ensures many { IsErrOf result PictureFault.TooManyEvents
         → 2000 < count_in range (length (events_shown recorded.now.events)) }
     ensures memory { (e : Fault) → IsErrOf result (PictureFault.Script e) → e ≡ Fault.Memory }
+    ensures drawn { IsErrOf result PictureFault.Misdrawn → ⊥ }
 {
     if range.count(recorded.events().len() as u64) > MOST_EVENTS {
         return Err(PictureFault::TooManyEvents);
@@ -124,6 +125,7 @@ fn marks_of_record(
     ensures marks { IfOk result (λ marks. marks_shown marks ≡ marks_of_record stored.now) }
     ensures many { IsErrOf result PictureFault.TooManyEvents → 2000 < count_in range (events_of_record stored.now) }
     ensures memory { (e : Fault) → IsErrOf result (PictureFault.Script e) → e ≡ Fault.Memory }
+    ensures drawn { IsErrOf result PictureFault.Misdrawn → ⊥ }
 {
     match stored {
         ScriptRecord::Queue(run) => marks_of_events(alloc, range, "queue", QueueObject, run),
@@ -151,6 +153,7 @@ pub fn subject_of<I: TextIn>(
     ensures many { IsErrOf result PictureFault.TooManyEvents → HasTooManyEvents range (I.remaining reader.old) }
     ensures fault { (e : Fault) → IsErrOf result (PictureFault.Script e) → IsFaultOfScript e
         → HasFault (scripts_of 1048576) (I.remaining reader.old) e }
+    ensures drawn { IsErrOf result PictureFault.Misdrawn → ⊥ }
 {
     let run = run_of_script(alloc, reader, &Options::default())?;
     let marks = marks_of_record(alloc, range, &run.record)?;
@@ -182,6 +185,7 @@ pub fn subject_of_object<O: Spoken + Copy, I: TextIn>(
     ensures fault { (e : Fault) → IsErrOf result (PictureFault.Script e) → IsFaultOfScript e
         → HasFault (own_scripts_of (spoken O.sequential O.language object) name.now 1048576)
         (I.remaining reader.old) e }
+    ensures drawn { IsErrOf result PictureFault.Misdrawn → ⊥ }
 {
     let run = run_of_object(alloc, object, name, reader, &Options::default())?;
     let marks = marks_of_events(alloc, range, name, object, &run.record)?;

@@ -132,6 +132,10 @@ impl Seen for Stroke {
         }
     }
 
+    fn reach(&self) -> Option<(u64, u64)> {
+        Some((self.column, self.right()?))
+    }
+
     fn is_within(&self, wide: Span, high: Span) -> bool {
         match self.right() {
             Some(right) => {

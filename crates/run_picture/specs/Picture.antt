@@ -1,16 +1,18 @@
 -- What a picture of marks shows, and the picture of a script.
 use Rattle.std.specs.Prelude.{◌≡◌, ℕ, [], List, map, take, drop, Option}
-use Rattle.run_picture.specs.Vocabulary.{flat_map, Drawing, svg_text, Places, AreApart, AreShown, AreWithin, Fills, Meaning, outline_of, PlacedRemark, RunMarks, signs_of, title_text, Kind, scripts_of, Range, chosen, chosen_remarks, marks_of_session, IsSubjectOf}
+use Rattle.run_picture.specs.Vocabulary.{flat_map, Drawing, svg_text, Places, AreApart, AreInSight, AreShown, AreWithin, Fills, Meaning, outline_of, PlacedRemark, RunMarks, signs_of, title_text, Kind, scripts_of, Range, chosen, chosen_remarks, marks_of_session, IsSubjectOf}
 use Rattle.run_picture.specs.Parts.{parts_of, eras_from}
 
 -- the strip of a picture has these shapes, each once and in order, in the columns of its events and the lanes of its processes, and
--- no other that tells something; none passes its edges, and the views show all of it, one part after the other
+-- no other that tells something; none is hidden or passes its edges, and the views show all of it, one part after the other, each below the
+-- one before it
 pub record IsStripOf (places : Places) (parts : List Meaning) (picture : Drawing) : Type 0 where
   pub apart : AreApart places
   pub shown : AreShown places parts (map outline_of picture.strip.items)
+  pub in_sight : AreInSight picture.strip.items
   pub inside : AreWithin places.width places.height picture.strip.items
   pub start : ℕ
-  pub rows : Fills start places.width picture.shapes.items
+  pub rows : Fills start 0 places.width picture.shapes.items
 
 -- these shapes stand in it below the rows, one after the other
 pub record HasBoxes (parts : List Meaning) (picture : Drawing) : Type 0 where
@@ -19,13 +21,14 @@ pub record HasBoxes (parts : List Meaning) (picture : Drawing) : Type 0 where
   pub shown : AreShown (record { columns = []; lanes = []; width = picture.width; height = picture.height }) parts
       (map outline_of (take count (drop from picture.shapes.items)))
 
--- a picture of marks, with what is told beside them: its strip shows the signs of both, and its boxes the cells; no shape passes its
--- edges
+-- a picture of marks, with what is told beside them: its strip shows the signs of both, and its boxes the cells; no shape is hidden or
+-- passes its edges
 pub record IsDrawingOf (marks : RunMarks) (remarks : List PlacedRemark) (picture : Drawing) : Type 0 where
   pub title : picture.title.items ≡ title_text marks
   pub places : Places
   pub strip : IsStripOf places (flat_map parts_of (signs_of marks remarks)) picture
   pub boxes : HasBoxes (eras_from marks.dots 0 marks.eras) picture
+  pub in_sight : AreInSight picture.shapes.items
   pub within : AreWithin picture.width picture.height picture.shapes.items
 
 -- the text of such a picture

@@ -11,7 +11,7 @@ use crate::sheet::{Drawn, draw};
 use ready_objects::Spoken;
 use run_layout::{PictureFault, Range, Subject, signs_of, subject_of, subject_of_object, title_of};
 use run_replay::Marks;
-use signs::{Layout, Part, are_shown, are_within, fill};
+use signs::{Layout, Part, are_in_sight, are_shown, are_within, fill};
 use std::alloc::Global;
 use svg_text::{Drawing, svg_of};
 use uni_script::{PlacedRemark, TextIn};
@@ -22,6 +22,7 @@ fn is_strip(layout: &Layout, start: u64, parts: &[Part], drawing: &Drawing) -> b
 {
     layout.is_apart()
         && are_shown(layout, parts, &drawing.strip)
+        && are_in_sight(&drawing.strip)
         && are_within(layout.width, layout.height, &drawing.strip)
         && fill(start, layout.width, &drawing.shapes)
 }
@@ -67,6 +68,7 @@ pub fn tried(
     if drawing.title.as_slice() != title.as_slice()
         || !is_strip(&layout, start, &parts, &drawing)
         || !has_boxes(alloc, boxes.0, boxes.1, &cells, &drawing)
+        || !are_in_sight(&drawing.shapes)
         || !are_within(drawing.width, drawing.height, &drawing.shapes)
     {
         return Err(PictureFault::Misdrawn);

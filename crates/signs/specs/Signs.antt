@@ -1,6 +1,7 @@
 -- What a drawing has to show of marks, without a number of pixels.
-use Rattle.std.specs.Prelude.{◌≡◌, ℕ, ◌+◌, ◌<◌, ◌≤◌, List, [], ◌∷◌, Option, Some, None, ⊤, slice_index_or, refl}
+use Rattle.std.specs.Prelude.{◌≡◌, ℕ, ◌+◌, ◌<◌, ◌≤◌, List, [], ◌∷◌, Option, Some, None, ⊤, IfSome, IsSomeAnd, slice_index_or, refl}
 use Rattle.std.specs.List.{All}
+use Rattle.std.proofs.Common.{arith}
 use Rattle.svg_text.specs.declared.paint.Paint.{Paint}
 use Rattle.svg_text.specs.declared.paint.Paint.TheVariants.{Paper, Faint, Edge, Broken, Thick, Pale}
 use Rattle.svg_text.specs.declared.shape.Shape.{Shape}
@@ -119,6 +120,17 @@ abbrev pub AreWithin : (width height : ℕ) → List Shape → Type 0
 AreWithin width height shapes =
     All (λ shape. IsWithin (record { from = 0; to = width }) (record { from = 0; to = height }) (outline_of shape)) shapes
 
+-- paper lies over all of a shape
+abbrev pub Hides : (paper shape : Shape) → Type 0
+Hides (Rect at width height Paper) shape =
+    IsWithin (record { from = at.x; to = at.x + width }) (record { from = at.y; to = at.y + height }) (outline_of shape)
+Hides _ shape = ⊥
+
+-- no shape that tells something is hidden by one that is drawn after it
+abbrev pub AreInSight : List Shape → Type 0
+AreInSight [] = ⊤
+AreInSight (shape ∷ shapes) = IfSome (look_of shape) (λ _. All (λ later. ¬ (Hides later shape)) shapes) × AreInSight shapes
+
 -- ---- what it shows
 
 -- a shape that a mark is to have: its looks, its columns, its lanes, and what it says
@@ -128,11 +140,36 @@ pub record Meaning : Type 0 where
   pub lanes : Option (ℕ × ℕ)
   pub text : List ℕ
 
--- this is such a shape
+-- The furthest right that a bar begins, and the furthest left that it ends: in the columns of its first and its last event. One that began
+-- before all, or goes on to the end, has no such place.
+abbrev pub latest_start : Places → Side → ℕ
+latest_start places (Before event) = (span_at places.columns event).to
+latest_start places _ = places.width
+
+abbrev pub earliest_end : Places → Side → ℕ
+earliest_end places (After event) = (span_at places.columns event).from
+earliest_end places _ = 0
+
+-- from where to where a shape reaches, from left to right
+abbrev pub reach_of : List (ℕ × ℕ) → Option (ℕ × ℕ)
+reach_of (one ∷ other ∷ _) = Some (one.0, other.0)
+reach_of _ = None
+
+-- a shape isn't empty, and reaches from the one column to the other
+abbrev pub Reaches : Places → Side × Side → Outline → Type 0
+Reaches places columns outline =
+    IsSomeAnd (reach_of outline.corners) (λ reach.
+    (reach.0 ≤ latest_start places columns.0) × (earliest_end places columns.1 ≤ reach.1) × (reach.0 < reach.1))
+
+abbrev pub IsBar : Look → Type 0
+IsBar l = l ≡ look.Bar
+
+-- this is such a shape; a bar has both its ends in their columns
 pub record Shows (places : Places) (part : Meaning) (outline : Outline) : Type 0 where
   pub look : outline.look ≡ Some part.look
   pub text : outline.text ≡ part.text
   pub place : IsWithin (wide_of places part.columns) (high_of places part.lanes) outline
+  pub ends : IsBar part.look → Reaches places part.columns outline
 
 -- the shapes that tell something are these, in order: each is drawn once, and no other
 pub data AreShown (places : Places) : List Meaning → List Outline → Type 0 where
@@ -144,11 +181,11 @@ pub data AreShown (places : Places) : List Meaning → List Outline → Type 0 w
 
 -- ---- the rows
 
--- the views of a strip show all of it, from a place to another: each begins where the one before it ends
-abbrev pub Fills : (from to : ℕ) → List Shape → Type 0
-Fills from to [] = from ≡ to
-Fills from to (View _ width _ left ∷ shapes) = (left ≡ from) × Fills (left + width) to shapes
-Fills from to (_ ∷ shapes) = Fills from to shapes
+-- the views of a strip show all of it, from a place to another: each begins where the one before it ends, and lies below it
+abbrev pub Fills : (from top to : ℕ) → List Shape → Type 0
+Fills from top to [] = from ≡ to
+Fills from top to (View at width height left ∷ shapes) = (left ≡ from) × (top ≤ at.y) × Fills (left + width) (at.y + height) to shapes
+Fills from top to (_ ∷ shapes) = Fills from top to shapes
 
 -- ---- what the code has
 
@@ -171,3 +208,17 @@ lane_of_first = refl
 
 dot_shown : outline_of (Dot (record { x = 35; y = 50 })) ≡ record { look = Some look.Dot; text = []; corners = (35, 50) ∷ [] }
 dot_shown = refl
+
+-- a bar of both events begins in the first one's column and ends in the second one's; one that ends in the first one's doesn't
+bar_of_both : reach_of (outline_of (Rect (record { x = 2; y = 20 }) 46 9 Edge)).corners ≡ Some (2, 48)
+bar_of_both = refl
+
+latest_of_both : latest_start two_of_one (Before 0) ≡ 20
+latest_of_both = refl
+
+earliest_of_both : earliest_end two_of_one (After 1) ≡ 20
+earliest_of_both = refl
+
+-- two views show a strip of 40, the second one below the first
+two_views : Fills 0 0 40 (View (record { x = 0; y = 0 }) 20 90 0 ∷ View (record { x = 0; y = 90 }) 20 90 20 ∷ [])
+two_views = (refl, omega arith, (refl, omega arith, refl))

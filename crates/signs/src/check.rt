@@ -1,17 +1,18 @@
 //! Whether a drawing shows what it is to show.
 
-ghost use Rattle.std.specs.Prelude.{◌≡◌, ◌∷◌, ℕ, IsTrue, IfSome, Some, List, drop, map};
+ghost use Rattle.std.specs.Prelude.{◌≡◌, ◌∷◌, ℕ, All, IsTrue, IfSome, Some, List, drop, false, map};
 ghost use Rattle.svg_text.specs.declared.shape.Shape.{Shape};
-ghost use Rattle.signs.specs.Signs.{AreApart, AreApartFrom, AreShown, AreWithin, Fills, IsWithin, Outline, Shows};
-ghost use Rattle.signs.specs.Signs.{meaning, places_shown};
+ghost use Rattle.signs.specs.Signs.{AreApart, AreApartFrom, AreInSight, AreShown, AreWithin, Fills, Hides, IsWithin};
+ghost use Rattle.signs.specs.Signs.{Outline, Reaches, Shows, meaning, places_shown};
 
-use crate::sign::{Layout, Look, Part, Span};
+use crate::shape::hides;
+use crate::sign::{Edge, Layout, Look, Part, Span};
 use svg_text::Shape;
 
 /// A shape that can be looked at.
 pub trait Seen {
-    ghost use Rattle.std.specs.Prelude.{◌≡◌, IsTrue};
-    ghost use Rattle.signs.specs.Signs.{IsWithin, Outline};
+    ghost use Rattle.std.specs.Prelude.{◌≡◌, IfSome, IsTrue, Some};
+    ghost use Rattle.signs.specs.Signs.{IsWithin, Outline, reach_of};
 
     /// What is looked at of it.
     ghost seen: { Self → Outline };
@@ -23,6 +24,10 @@ pub trait Seen {
     /// Whether it says this.
     fn says(&self, text: &[u8]) -> bool
         ensures { IsTrue result → (seen self.now).text ≡ text.now };
+
+    /// From where to where it reaches, from left to right; `None` where that isn't known.
+    fn reach(&self) -> Option<(u64, u64)>
+        ensures { IfSome result (λ reach. reach_of (seen self.now).corners ≡ Some reach) };
 
     /// Whether it is in a span from left to right, and in one from the top down.
     fn is_within(&self, wide: Span, high: Span) -> bool
@@ -64,12 +69,48 @@ pub fn are_within(width: u64, height: u64, shapes: &[Shape]) -> bool
     shapes.iter().all(|shape| shape.is_within(wide, high))
 }
 
+/// Whether a shape is hidden by one of those that are drawn after it.
+fn is_hidden(shape: &Shape, later: &[Shape]) -> bool
+    ensures { result ≡ false → All (λ paper. ¬ (Hides paper shape.now)) later.now }
+{
+    later.iter().any(|paper| hides(paper, shape))
+}
+
+/// Whether no shape that tells something is hidden by one that is drawn after it.
+pub fn are_in_sight(shapes: &[Shape]) -> bool
+    ensures { IsTrue result → AreInSight shapes.now }
+{
+    for i in 0..shapes.len() {
+        if shapes[i].look().is_some() && is_hidden(&shapes[i], &shapes[i + 1..]) {
+            return false;
+        }
+    }
+    true
+}
+
+/// Whether a shape isn't empty, and reaches from the one column to the other.
+fn reaches<S: Seen>(layout: &Layout, columns: (Edge, Edge), shape: &S) -> bool
+    ensures { IsTrue result → Reaches (places_shown layout.now) columns (S.seen shape.now) }
+{
+    match shape.reach() {
+        Some((from, to)) => {
+            from <= layout.latest_start(columns.0)
+                && layout.earliest_end(columns.1) <= to
+                && from < to
+        }
+        None => false,
+    }
+}
+
 /// Whether a shape of these looks is one that a mark is to have.
 fn shows<S: Seen>(layout: &Layout, part: &Part, shape: &S, look: Look) -> bool
     requires { (S.seen shape.now).look ≡ Some look }
     ensures { IsTrue result → Shows (places_shown layout.now) (meaning part.now) (S.seen shape.now) }
 {
     if look != part.look || !shape.says(&part.text) {
+        return false;
+    }
+    if look == Look::Bar && !reaches(layout, part.columns, shape) {
         return false;
     }
     shape.is_within(layout.wide(part.columns), layout.high(part.lanes))
@@ -109,27 +150,30 @@ pub fn are_shown<S: Seen>(layout: &Layout, parts: &[Part], shapes: &[S]) -> bool
     next >= parts.len()
 }
 
-/// Up to where a strip is shown by a shape and those before it, which show it up to a place; `None` where it
-/// leaves a gap.
-fn filled(end: u64, shape: &Shape) -> Option<u64>
+/// Up to where a strip is shown by a shape and those before it, which show it up to a place: how far from left to
+/// right, and where the next view may begin, from the top down. `None` where it leaves a gap, or lies over one.
+fn filled(end: u64, top: u64, shape: &Shape) -> Option<(u64, u64)>
     ensures { IfSome result (λ after. (to : ℕ) (rest : List Shape)
-        → Fills after to rest → Fills end to (shape.now ∷ rest)) }
+        → Fills after.0 after.1 to rest → Fills end top to (shape.now ∷ rest)) }
 {
     match shape {
-        Shape::View(_, width, _, left) if *left == end => end.checked_add(*width),
+        Shape::View(at, width, height, left) if *left == end && top <= at.y => {
+            Some((end.checked_add(*width)?, at.y.checked_add(*height)?))
+        }
         Shape::View(..) => None,
-        _ => Some(end),
+        _ => Some((end, top)),
     }
 }
 
-/// Whether the views of a strip show all of it, from a place to another.
+/// Whether the views of a strip show all of it, from a place to another, each below the one before it.
 pub fn fill(from: u64, to: u64, shapes: &[Shape]) -> bool
-    ensures { IsTrue result → Fills from to shapes.now }
+    ensures { IsTrue result → Fills from 0 to shapes.now }
 {
     let mut end = from;
+    let mut top = 0;
     for shape in shapes {
-        match filled(end, shape) {
-            Some(after) => end = after,
+        match filled(end, top, shape) {
+            Some(after) => (end, top) = after,
             None => return false,
         }
     }

@@ -5,6 +5,6 @@ mod check;
 mod shape;
 mod sign;
 
-pub use check::{Seen, are_shown, are_within, fill};
+pub use check::{Seen, are_in_sight, are_shown, are_within, fill};
 pub use shape::holds;
 pub use sign::{Edge, Layout, Look, Part, Span};

@@ -1,7 +1,7 @@
 //! The shapes that marks are to have, and where events and processes stand.
 
 ghost use Rattle.std.specs.Prelude.{◌≡◌};
-ghost use Rattle.signs.specs.Signs.{edge_at, high_of, places_shown, span_at, wide_of};
+ghost use Rattle.signs.specs.Signs.{earliest_end, edge_at, high_of, latest_start, places_shown, span_at, wide_of};
 
 /// What a shape tells by its looks.
 #[derive(Clone, Copy, Debug, PartialEq, Eq)]
@@ -83,6 +83,26 @@ impl Layout {
             Edge::Before(event) => span_at(&self.columns, event).from,
             Edge::After(event) => span_at(&self.columns, event).to,
             Edge::End => self.width,
+        }
+    }
+
+    /// The furthest right that a bar begins whose left end is to be at an edge.
+    pub fn latest_start(&self, edge: Edge) -> u64
+        ensures { result ≡ latest_start (places_shown self.now) edge }
+    {
+        match edge {
+            Edge::Before(event) => span_at(&self.columns, event).to,
+            _ => self.width,
+        }
+    }
+
+    /// The furthest left that a bar ends whose right end is to be at an edge.
+    pub fn earliest_end(&self, edge: Edge) -> u64
+        ensures { result ≡ earliest_end (places_shown self.now) edge }
+    {
+        match edge {
+            Edge::After(event) => span_at(&self.columns, event).from,
+            _ => 0,
         }
     }
 
