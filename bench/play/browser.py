@@ -71,7 +71,7 @@ def lose_nothing(page, checks):
         "": "The script has no line.",
         "universal 1 queue 3 8": "Line 1: this page plays scripts that begin with “universal 1 queue 2 8”.",
         "# a note\r\nuniversal 1 queue 2 8\r\ncall 0 enq 7\r\n": "Line 3: here the next call of P0 is “enq 6”.",
-        "universal 1 queue 2 8\nheads": "Line 2: “heads” isn't played here.",
+        "universal 1 queue 2 8\nreshape 3": "Line 2: “reshape 3” isn't played here.",
     }.items():
         had = page.state()
         page.set("script", text)

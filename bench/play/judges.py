@@ -1,9 +1,11 @@
 """Compares who judges goals: a page, the program `goal` and oracle.py: python3 judges.py UNIPLAY GOAL [GOALFILE SCRIPT ..]
 
 Of each exercise and each of its scripts (or of those that are named) a page is made of the script's calls, and the script is played
-in it, in Chromium: all three have to name the same first line that isn't met, or to say `met`. What a page can't play is told: it
-ends with a trim, and has at most 20,000 worlds."""
+in it, in Chromium. `goal` and oracle.py have to say the same of the script; and of the page's own script, in which each step has a
+line, all three have to name the same first line that isn't met, or to say `met`. What a page can't play is told: it ends with a
+trim, and has at most 20,000 worlds."""
 
+import importlib.machinery
 import importlib.util
 import json
 import pathlib
@@ -27,12 +29,12 @@ JUDGED = """(() => {
   document.getElementById("script").value = SCRIPT;
   document.getElementById("paste").click();
   const lines = [...document.querySelectorAll("#wishes li")].map((one) => one.textContent);
-  return JSON.stringify({ said: document.getElementById("pasted").textContent, met: document.getElementById("met").textContent, lines });
+  return JSON.stringify({ said: document.getElementById("pasted").textContent, script: document.getElementById("script").value, lines });
 })()"""
 
 
 def calls_of(script):
-    """A script of the accepted calls alone, one after another."""
+    """A script of the accepted calls of the first era alone, one after another."""
     lines = [line for line in script.splitlines() if line and not line.startswith("#")]
     world, calls = None, []
     for line in lines:
@@ -42,15 +44,16 @@ def calls_of(script):
             world = oracle.World(oracle.OBJECTS[header[1]], header[2], header[3])
             continue
         said = oracle.command_lines(world, words)
+        if said and said[0].startswith("trimmed"):
+            break
         if words[0] == "call" and said[0].startswith("called"):
             calls += [line, f"finish {words[1]}"]
-    row = max(header[3], 1)
-    return "\n".join([f"universal 1 {header[1]} {header[2]} {row}", *calls]) + "\n", row
+    return "\n".join([f"universal 1 {header[1]} {header[2]} {header[3]}", *calls]) + "\n"
 
 
 def page_of(uniplay, goal, script):
     """A page of the script's calls, or why there is none."""
-    run = subprocess.run([uniplay, "--goal", str(goal)], input=calls_of(script)[0], capture_output=True, text=True, timeout=300)
+    run = subprocess.run([uniplay, "--goal", str(goal)], input=calls_of(script), capture_output=True, text=True, timeout=300)
     if run.returncode:
         return None, run.stderr.strip()
     data = run.stdout.split('id="data">\n')[1].split("</script>")[0]
@@ -65,6 +68,12 @@ def judged(shown, goal):
         if one.startswith("\u25cb"):
             return f"line {number} is not met: {lines[number - 1]}"
     return "met"
+
+
+def judged_by_programs(program, goal, script):
+    """What `goal` and oracle.py say of a script."""
+    said = subprocess.run([program, str(goal)], input=script, capture_output=True, text=True)
+    return (said.stdout or said.stderr).strip(), oracle.told(oracle.judgement, goal.read_text(), script.encode())[0].strip()
 
 
 def up_to_trim(script):
@@ -84,25 +93,22 @@ def main(uniplay, goal_program, *named):
             shutil.copy(TOP / "docs/pages" / name, folder)
         for goal, file in ((pathlib.Path(one), pathlib.Path(other)) for one, other in pairs):
             script = up_to_trim(file.read_text())
-            said = subprocess.run([goal_program, str(goal)], input=script, capture_output=True, text=True)
-            by_goal = (said.stdout or said.stderr).strip()
-            by_oracle = oracle.told(oracle.judgement, goal.read_text(), script.encode())[0].strip()
+            by_goal, by_oracle = judged_by_programs(goal_program, goal, script)
+            is_same = by_goal == by_oracle
             text, why = page_of(uniplay, goal, script)
-            by_page = f"no page: {why}"
+            by_page = f"plays none: {why}"
             if text:
                 (pathlib.Path(folder) / "page.html").write_text(text)
                 browser.open(pathlib.Path(folder) / "page.html", 0)
                 shown = browser.found(JUDGED.replace("SCRIPT", json.dumps(script)))
-                by_page = judged(shown, goal) if shown["said"].startswith("Played") else f"not played: {shown['said']}"
-            is_same = by_goal == by_oracle
-            if by_page.startswith("no"):
+                by_page = judged(shown, goal) if shown["said"].startswith("Played") else f"plays none: {shown['said']}"
+            if by_page.startswith("plays none"):
                 unplayed += 1
             else:
-                is_same = is_same and by_goal == by_page
+                is_same = is_same and {by_page} == set(judged_by_programs(goal_program, goal, shown["script"]))
             differ += not is_same
-            if named or not is_same or by_page.startswith("no"):
-                print(f"{file.name}: goal says {by_goal}; oracle.py {'the same' if by_oracle == by_goal else by_oracle}; "
-                      f"the page {'the same' if by_page == by_goal else by_page}")
+            if named or not is_same or by_page.startswith("plays none"):
+                print(f"{'' if is_same else 'DIFFERS: '}{file.name}: goal and oracle.py say {by_goal}; the page {by_page}")
     browser.close()
     print(f"{len(pairs)} scripts, {unplayed} not played in a page, {differ} differ")
     return 1 if differ else 0

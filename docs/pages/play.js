@@ -229,12 +229,13 @@ function classroom() {
   function readRun(text) {
     const other = [opening(graph)];
     for (const word of text.split(".").filter((one) => one !== "")) {
-      const [, by, process, count = "1"] = /^(call|step|log|trim)?(\d*)(?:x(\d{1,4}))?$/.exec(word) ?? [];
+      const [, by, process, count = "1"] = /^(call|step|log|trim|heads)?(\d*)(?:x(\d{1,4}))?$/.exec(word) ?? [];
       if (process === undefined || (by === undefined) !== /^\d+$/.test(process) && !/^(call|step)$/.test(by)) throw Error(word);
       for (let k = 0; k < Number(count); k++) {
         const here = other.at(-1);
         if (by === undefined && Number(process) >= graph.processes) throw Error(word);
-        const next = by === undefined ? follow(graph, here, Number(process)) : commanded(graph, here, by, Number(process));
+        const next = by === undefined ? follow(graph, here, Number(process))
+          : by === "heads" ? headsAt(here) : commanded(graph, here, by, Number(process));
         if (next === null) throw Error(word);
         other.push(next);
       }
@@ -274,12 +275,19 @@ function classroom() {
 
   class Unplayable extends Error {}
 
+  // the numbers of the cells that the heads name
+  function headsAt(here) {
+    const said = `heads ${numbersOf(graph).map((p) => here.memory.get(`${here.memory.get(`head[${p}]`)}.seq`)).join(" ")}`;
+    return told(here, `${said}.`, "?", "heads", [said]);
+  }
+
   // what is told after a line of a script that is no note
   function playedBy(here, line) {
     const [word, second, ...words] = line.split(" ");
     const p = Number(second);
     const isNumber = /^(0|[1-9]\d{0,11})$/.test(second ?? "");
     if (line === "log" || line === "trim") return [commanded(graph, here, line, 0)];
+    if (line === "heads") return [headsAt(here)];
     if (!["call", "step", "finish"].includes(word) || !isNumber) throw new Unplayable(`\u201c${line}\u201d isn't played here`);
     const refusal = refusalOf(graph, here, word === "call" ? "call" : "step", p);
     if (refusal !== null) {
@@ -288,7 +296,7 @@ function classroom() {
     }
     if (word !== "call") return stepsBy(here, p, word === "finish" ? Infinity : Number(words[0] ?? 1));
     const edge = edgeOf(graph, here.node, p);
-    if (here.node === null && graph.edges.some((one) => one?.words === words.join(" ")))
+    if (here.node === null && /^[a-z]+( [a-z0-9]+)*$/.test(words.join(" ")))
       return [after(here, { to: null, call: `${p}.${begunOf(here, p)}`, words: words.join(" ") }, p)];
     if (edge === null) throw new Unplayable(`here P${p} has no call left to make`);
     if (edge.words !== words.join(" ")) throw new Unplayable(`here the next call of P${p} is \u201c${edge.words}\u201d`);
