@@ -94,17 +94,19 @@ pub(crate) fn has_step(pattern: &[u8], steps: &[&[u8]]) -> bool
 pub(crate) fn come_in_order(patterns: &[&[u8]], lines: &[&[u8]]) -> bool
     ensures { result ≡ come_in_order (bytes_of patterns.now) (bytes_of lines.now) }
 {
-    let mut rest = patterns;
+    let [first, later @ ..] = patterns else {
+        return true;
+    };
+    let mut wanted = *first;
+    let mut others = later;
     for line in lines {
-        let [pattern, others @ ..] = rest else {
-            return true;
-        };
-        if is_like(pattern, line) {
-            rest = others;
+        if is_like(wanted, line) {
+            let [next, left @ ..] = others else {
+                return true;
+            };
+            wanted = *next;
+            others = left;
         }
     }
-    match rest {
-        [] => true,
-        [_, ..] => false,
-    }
+    false
 }
