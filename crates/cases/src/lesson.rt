@@ -123,7 +123,13 @@ pub fn is_about(
             let (steps, others) = (steps_of(alloc, script)?, steps_of(alloc, beside)?);
             Ok(
                 has_goal(alloc, text, script, steps.as_slice(), b"met\n")?
-                    && has_goal(alloc, text, beside, others.as_slice(), goal.missing.as_slice())?,
+                    && has_goal(
+                        alloc,
+                        text,
+                        beside,
+                        others.as_slice(),
+                        goal.missing.as_slice(),
+                    )?,
             )
         }
         Lesson::Flaw(flawed) => has_flawed(alloc, flawed.flaw, script, flawed.text.as_slice()),

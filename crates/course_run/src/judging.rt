@@ -57,12 +57,7 @@ pub fn steps_of(alloc: Global, script: &[u8]) -> Result<Vec<u8>, BenchFault>
     ensures { IfOk result (λ steps. AreStepsOf script.now steps.items) }
 {
     let mut steps = Checked::new(Vec::new(alloc));
-    match tell_script::<InWords, _, _>(
-        alloc,
-        Range::all(),
-        &mut Checked::new(script),
-        &mut steps,
-    ) {
+    match tell_script::<InWords, _, _>(alloc, Range::all(), &mut Checked::new(script), &mut steps) {
         Ok(()) => Ok(Vec::from_slice(alloc, steps.end().as_slice())?),
         Err(PictureFault::TooManyEvents) => Ok(Vec::new(alloc)),
         // The writer keeps what it is given: it fails where memory is refused.
