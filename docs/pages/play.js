@@ -225,22 +225,23 @@ function classroom() {
     return groups.map(({ word, count }) => (count === 1 ? word : `${word}x${count}`)).join(".");
   }
 
-  // the run that such words say; an Error names the word that says nothing here
+  // the run that such words say, up to a word that says nothing here, which is named
   function readRun(text) {
     const other = [opening(graph)];
+    const upTo = (word) => ({ other, bad: word });
     for (const word of text.split(".").filter((one) => one !== "")) {
       const [, by, process, count = "1"] = /^(call|step|log|trim|heads)?(\d*)(?:x(\d{1,4}))?$/.exec(word) ?? [];
-      if (process === undefined || (by === undefined) !== /^\d+$/.test(process) && !/^(call|step)$/.test(by)) throw Error(word);
+      if (process === undefined || (by === undefined) !== /^\d+$/.test(process) && !/^(call|step)$/.test(by)) return upTo(word);
       for (let k = 0; k < Number(count); k++) {
         const here = other.at(-1);
-        if (by === undefined && Number(process) >= graph.processes) throw Error(word);
+        if (by === undefined && Number(process) >= graph.processes) return upTo(word);
         const next = by === undefined ? follow(graph, here, Number(process))
           : by === "heads" ? headsAt(here) : commanded(graph, here, by, Number(process));
-        if (next === null) throw Error(word);
+        if (next === null) return upTo(word);
         other.push(next);
       }
     }
-    return other;
+    return upTo(null);
   }
 
   let waiting = null;
@@ -255,20 +256,17 @@ function classroom() {
   // the run and the place that the address names
   fromAddress = () => {
     const named = new URLSearchParams(location.hash.slice(1));
-    let note = "";
+    let fault = null;
     if (named.has("run") && named.get("run") !== spelled()) {
-      try {
-        const other = readRun(named.get("run"));
-        if (run.length > 1) takePlace(other);
-        else [run, at] = [other, other.length - 1];
-      } catch (error) {
-        note = `The address says \u201c${error.message}\u201d, which isn't played here.`;
-      }
+      const { other, bad } = readRun(named.get("run"));
+      fault = bad;
+      if (run.length > 1) takePlace(other);
+      else [run, at] = [other, other.length - 1];
     }
     const place = named.has("e") ? run.findLastIndex(({ event }) => event === Number(named.get("e"))) : run.length - 1;
     at = place < 0 ? run.length - 1 : place;
     show();
-    if (note) put("sentence", note);
+    if (fault !== null) put("sentence", `The address says \u201c${fault}\u201d, which isn't played here.`);
   };
 
   // ---- a script that is pasted
