@@ -186,6 +186,30 @@ def lose_nothing(page, checks):
     checks.that("a bad link is told", "sofa" in page.text("verdict"), page.text("verdict"))
 
 
+def paste(page, checks):
+    """The script of a run of six processes brings it back; what isn't played is told by line."""
+    page.go(PAGE, "#object=book&calls=deposit+1+5/deposit+2+7/move+1+2+3/total/withdraw+1+2/total&flaw=none&run=")
+    page.press_all("rr")
+    run, script = page.run("JSON.stringify(now.run)"), page.run("document.getElementById('script').value")
+    page.go(PAGE)
+    page.set("script", script)
+    page.click("paste")
+    page.settle()
+    checks.that("a script brings the run back", page.run("JSON.stringify(now.run)") == run, page.text("pasted"))
+    page.press_all("u")
+    for text, wanted in {
+        "": "The script has no line.",
+        "# so\r\nuniversal 1 queue 7 4\r\n": "Line 2: this page plays scripts that begin with \u201cuniversal 1 OBJECT N K\u201d, N from 1 to 6.",
+        "universal 1 queue 2 4\ncall 0 deq\ntrim": "Line 3: \u201ctrim\u201d isn't played here, where there is one era.",
+        "universal 1 queue 2 4\nstep 1": "Line 2: P1 has no call pending; commands that are refused aren't played here.",
+        "universal 1 queue 2 4\ncall 0 put": "Scripts know no call `put` of a queue.",
+    }.items():
+        had = page.run("JSON.stringify(now.run)")
+        page.set("script", text)
+        page.click("paste")
+        checks.that(f"told of {text!r}", page.text("pasted") == wanted and page.run("JSON.stringify(now.run)") == had, page.text("pasted"))
+
+
 def judge_histories(page, checks):
     """The page of histories judges its examples, and what is pasted."""
     page.go(HISTORIES)
@@ -231,7 +255,7 @@ def shoot(page, folder):
 def main():
     page, checks = Page(), Checks()
     try:
-        for part in (find_flaws, tell_faults, break_by_hand, foresee, lose_nothing, judge_histories):
+        for part in (find_flaws, tell_faults, break_by_hand, foresee, lose_nothing, paste, judge_histories):
             part(page, checks)
         if os.environ.get("SHOTS"):
             shoot(page, os.environ["SHOTS"])

@@ -2,6 +2,7 @@
 // The program of a page, without its view: what its scripts of these names define, for tests.
 
 const fs = require("fs");
+const path = require("path");
 const vm = require("vm");
 
 // what a program defines under these names
@@ -23,9 +24,10 @@ function programOf(path, ids, names, change = null) {
   return defined(text, names);
 }
 
-// what the program of a page of `uniplay` defines under these names
+// what the program of a page of `uniplay` defines under these names; that of the pages of docs stands in viewer.js beside them
 function playerOf(file, names) {
-  const [, program] = /<\/script>\s*<script>([^]*?)<\/script>/.exec(fs.readFileSync(file, "utf8"));
+  const own = /<\/script>\s*<script>([^]*?)<\/script>/.exec(fs.readFileSync(file, "utf8"));
+  const [, program] = own ?? /function viewer\(\) \{\n([^]*)\}\n$/.exec(fs.readFileSync(path.join(path.dirname(file), "viewer.js"), "utf8"));
   return defined(program, names);
 }
 
@@ -40,10 +42,14 @@ function randomFrom(seed) {
   };
 }
 
-// the graph of a page of `uniplay`; null where a page has none
+// the graph of a page of `uniplay`, which play.js unfolds where it is folded; null where a page has none
 function graphOf(file) {
-  const found = /<script type="text\/plain" id="data">([^]*?)<\/script>/.exec(fs.readFileSync(file, "utf8"));
-  return found === null ? null : JSON.parse(found[1]);
+  const found = /<script type="text\/plain" id="data">\n([^]*?)<\/script>/.exec(fs.readFileSync(file, "utf8"));
+  if (found === null) return null;
+  const stored = JSON.parse(found[1]);
+  if (stored.steps === undefined) return stored;
+  const [unfolded] = /  function unfolded[^]*?\n  \}\n/.exec(fs.readFileSync(path.join(path.dirname(file), "play.js"), "utf8"));
+  return defined(unfolded, ["unfolded"]).unfolded(stored);
 }
 
 // the calls of each process, in their order

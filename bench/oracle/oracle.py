@@ -93,6 +93,31 @@ FLAWS = {
 }
 
 
+# What a step does with its place, and what that is to its process; those that propose aren't here.
+ROLES = {
+    "A": ("writes", "its own cell"),
+    "H": ("reads", "in its scan"),
+    "S": ("reads", "the number of that head"),
+    "G": ("writes", "the greatest of the heads"),
+    "T": ("reads", "the number of its own cell"),
+    "R": ("reads", "whose turn it is"),
+    "N": ("reads", "the number of that cell"),
+    "B": ("writes", "the way back"),
+    "W": ("writes", "the number of that cell"),
+    "U": ("writes", "and moves on"),
+}
+
+
+def named(cell):
+    """A cell's name."""
+    return ANCHOR if cell[0] == ANCHOR else "%d.%d" % cell
+
+
+def counted(count, word):
+    """A number of things."""
+    return f"{count} {word}" if count == 1 else f"{count} {word}s"
+
+
 class World:
     """Processes that share an object. A cell is the anchor, or a pair: a process and the number of its call."""
 
@@ -103,6 +128,7 @@ class World:
         self.steps, self.turns, self.most = {}, {}, {}
         self.inv, self.seq, self.after, self.before, self.new = {}, {}, {}, {}, {}
         self.eras, self.events, self.ended, self.returns, self.broken = 0, 0, [], [], []
+        self.told = []  # the steps, as `unidraw --steps` tells them, but for their numbers and those that settle a reply
         self.open(None, 1)
 
     def open(self, state, number):
@@ -122,47 +148,51 @@ class World:
         self.most[p] = 10 * self.processes + 12
         mine = (p, nth)
         self.inv[mine] = words
+        self.told.append(f"P{p}  calls {' '.join(words)}: its cell is {named(mine)}.")
         self.calls[p] = (mine, self.call(p, mine))
         return mine
 
     def call(self, p, mine):
-        """The steps of a call, one at each `yield`; a letter stands at each."""
+        """The steps of a call, one at each `yield`: its letter, its place, and what that holds."""
         self.announce[p] = mine
         best, best_seq = self.anchor, 0
-        yield "A"
+        yield "A", f"announce[{p}]", named(mine)
         q = 0
         while True:  # no `range`: with a flaw the number of processes can change meanwhile
             h = self.head.get(q, self.anchor)
-            yield "H"
+            yield "H", f"head[{q}]", named(h)
             number = self.seq.get(h, 0)
             if number > best_seq:
                 best, best_seq = h, number
             q += 1
             is_last = q >= self.processes
-            yield "S"
+            yield "S", f"{named(h)}.seq", number
             if is_last:
                 break
         self.head[p], c, c_seq = best, best, best_seq
-        yield "G"
+        yield "G", f"head[{p}]", named(best)
         while self.seq.get(mine, 0) == 0:
             self.turns[p] += 1
-            yield "T"
-            helped = self.announce.get(c_seq % self.processes, self.anchor)
-            yield "R"
+            yield "T", f"{named(mine)}.seq", 0
+            turn = c_seq % self.processes
+            helped = self.announce.get(turn, self.anchor)
+            yield "R", f"announce[{turn}]", named(helped)
             prefer = self.preferred(mine, helped)
-            yield "N"
+            yield "N", f"{named(helped)}.seq", self.seq.get(helped, 0)
+            won = self.after.get(c) is None
             d = self.decide(self.after, c, prefer)
-            yield "L"
+            what = "won." if won else f"{named(d)} is there already: lost."
+            yield "L", f"{named(c)}.after", f"proposes {named(prefer)} for {named(c)}.after{':' if won else ';'} {what}"
             yield from self.thread_early(c, c_seq, d) if self.flaw == "number-first" else self.thread(c, c_seq, d)
             self.head[p], c, c_seq = d, d, c_seq + 1
-            yield "U"
+            yield "U", f"head[{p}]", named(d)
         found = self.seq[mine]
-        yield "T"
+        yield "T", f"{named(mine)}.seq", found
         newest = c
         if c_seq < found:
             self.head[p] = newest = mine
         self.give(p, mine, newest if self.flaw == "newest-reply" else mine)
-        yield "F"
+        yield "F", f"head[{p}]", named(self.head[p])
 
     def preferred(self, mine, helped):
         """The cell that is proposed by a process that could help another one."""
@@ -186,20 +216,20 @@ class World:
     def thread(self, c, c_seq, d):
         """The steps from the state on to the number."""
         self.settle(c, d)
-        yield "V"
+        yield "V", named(d), None
         self.before[d] = c
-        yield "B"
+        yield "B", f"{named(d)}.before", named(c)
         self.seq[d] = c_seq + 1
-        yield "W"
+        yield "W", f"{named(d)}.seq", self.seq[d]
 
     def thread_early(self, c, c_seq, d):
         """The same, but the number comes first."""
         self.seq[d] = c_seq + 1
-        yield "W"
+        yield "W", f"{named(d)}.seq", self.seq[d]
         self.settle(c, d)
-        yield "V"
+        yield "V", named(d), None
         self.before[d] = c
-        yield "B"
+        yield "B", f"{named(d)}.before", named(c)
 
     def give(self, p, mine, cell):
         """A call returns the reply that is settled in a cell."""
@@ -216,7 +246,15 @@ class World:
         mine, steps = self.calls[p]
         self.events += 1
         self.steps[p] += 1
-        if next(steps) == "F":
+        letter, place, text = next(steps)
+        if letter in ROLES:
+            does, role = ROLES[letter]
+            self.told.append(f"P{p}  {letter}  {does} {place}: {text}, {role}.")
+        elif letter == "L":
+            self.told.append(f"P{p}  L  {text}")
+        elif letter == "F":
+            spent = f"{counted(self.steps[p], 'step')} and {counted(self.turns[p], 'turn')}"
+            self.told.append(f"P{p}  F  returns {self.reply} after {spent}; {place} is {text}.")
             del self.calls[p]
             return self.reply or "?"
         return None
@@ -340,12 +378,21 @@ def log_lines(world):
         yield "%d %d.%d %s -> %s" % (number, *call, " ".join(inv), "?" if reply is None else reply)
 
 
-class Fault(Exception):
-    """The first fault of a script, as its line says it, and the answers to the lines before it."""
+def reason_of(line):
+    """Why a line has a bad byte."""
+    byte = next(byte for byte in line if not 32 <= byte <= 126)
+    if byte == 13:
+        return "a carriage return: the file has Windows line ends"
+    return "a tab: between two words there is one space" if byte == 9 else f"byte {byte} isn't from 32 to 126"
 
-    def __init__(self, line, answered):
+
+class Fault(Exception):
+    """The first fault of a script, as its line says it, the answers to the lines before it, and the reason, if it is told."""
+
+    def __init__(self, line, answered, reason=None):
         super().__init__(line)
         self.answered = "".join(f"{answer}\n" for answer in answered)
+        self.reason = "" if reason is None else f"{reason}\n"
 
 
 def is_field(field, word):
@@ -406,6 +453,12 @@ def lines_of(script):
 
 def answers(script, flaw="nothing"):
     """The answers to a script, and what broke at its end."""
+    world, said = played(script, flaw)
+    return "".join(f"{line}\n" for line in [*said, *broken(world)])
+
+
+def played(script, flaw="nothing"):
+    """The world of a script, and the answers to it."""
     header, world, said = None, None, []
     for number, line in enumerate(lines_of(script), 1):
         if number > MOST_LINES:
@@ -413,7 +466,7 @@ def answers(script, flaw="nothing"):
         if len(line) > MOST_BYTES:
             raise Fault(f"line {number}: too long", said)
         if not all(32 <= byte <= 126 for byte in line):
-            raise Fault(f"line {number}: bad byte", said)
+            raise Fault(f"line {number}: bad byte", said, reason_of(line))
         text = line.decode()
         if is_note(text):
             continue
@@ -430,7 +483,7 @@ def answers(script, flaw="nothing"):
             raise Fault(f"line {number}: more events than a history has by default: not answered here", said)
     if world is None:
         raise Fault(f"line {len(lines_of(script)) + 1}: no header", said)
-    return "".join(f"{line}\n" for line in [*said, *broken(world)])
+    return world, said
 
 
 def flawed(script, flaw):
@@ -451,9 +504,28 @@ def is_like(pattern, text):
     return len(text) >= len(prefix) + len(back) and text.startswith(prefix) and text.endswith(back)
 
 
-def is_met(line, script, lines):
-    """A line of a goal is met by the lines of a script and of its answers."""
+def come_in_order(patterns, lines):
+    """A line is like the first pattern, one after it like the second, and so on."""
+    rest = iter(lines)
+    return all(any(is_like(pattern, line) for line in rest) for pattern in patterns)
+
+
+def has_step(pattern, steps):
+    """A step of the run is like the pattern. The sentence of a step that settles a reply isn't known here."""
+    if re.match(r"P[0-9]+  V", pattern):
+        raise Fault(f"only the program goal judges: {pattern}", [])
+    return any(is_like(pattern, step) for step in steps)
+
+
+def is_met(line, script, lines, steps):
+    """A line of a goal is met by the lines of a script, of its answers, and of its steps."""
     words = line.split(" ")
+    if line.startswith("order "):
+        return come_in_order(line[len("order ") :].split("|"), lines)
+    if line.startswith("P"):
+        return has_step(line, steps)
+    if line.startswith("no P"):
+        return not has_step(line[len("no ") :], steps)
     if line.startswith("script "):
         return any(is_like(line[len("script ") :], said) for said in script)
     if words == ["no", "refusals"]:
@@ -470,19 +542,21 @@ def is_met(line, script, lines):
 
 def judgement(goal, script):
     """`met`, or the first line of a goal that a script doesn't meet."""
-    lines, script_lines = answers(script).splitlines(), script.decode().splitlines()
+    world, said = played(script)
+    lines, script_lines = [*said, *broken(world)], script.decode().splitlines()
+    steps = world.told if world.events <= 2000 else []
     for number, line in enumerate((line.rstrip() for line in goal.splitlines()), 1):
-        if not is_note(line) and not is_met(line, script_lines, lines):
+        if not is_note(line) and not is_met(line, script_lines, lines, steps):
             return f"line {number} is not met: {line}\n"
     return "met\n"
 
 
 def told(tell, *said):
-    """What is told of a script: the text, or what is answered before its fault, and the fault's line."""
+    """What is told of a script: the text, or what is answered before its fault, and the fault's line, with the reason."""
     try:
         return tell(*said), ""
     except Fault as fault:
-        return fault.answered, f"{fault}\n"
+        return fault.answered, f"{fault}\n{fault.reason}"
 
 
 def pairs_of(script):
@@ -490,7 +564,7 @@ def pairs_of(script):
     text = script.read_bytes()
     said, fault = told(answers, text)
     yield said, script.with_suffix(".answers")
-    yield fault, script.with_suffix(".fault")
+    yield fault[: fault.find("\n") + 1], script.with_suffix(".fault")
     flaw, goal = script.with_suffix(".flaw"), script.with_suffix(".goal")
     if flaw.exists():
         yield flawed(text, flaw.read_text().strip()), script.with_suffix(".flawed")

@@ -5,7 +5,7 @@ ghost use Rattle.course_run.specs.Goals.{judgement_text, missing_of};
 ghost use Rattle.course_run.specs.Flaws.{BeginsWithBanner};
 
 use crate::files::{file, file_if_any};
-use course_run::{Flaw, flawed_text, judge, judgement_text};
+use course_run::{Flaw, flawed_text, judge, judgement_text, steps_of};
 use std::alloc::Global;
 use std::fs::Files;
 use std::io;
@@ -67,14 +67,20 @@ pub fn lesson_of<R: Files + Alloc<A = Global>>(rt: &R, case: &str) -> io::Result
     }
 }
 
-/// Whether this is told of a goal and a script.
+/// Whether this is told of a goal and a script, whose steps are these.
 ///
 /// An `Err` is the first fault of the script, or `Memory`.
-fn has_goal(alloc: Global, goal: &[u8], script: &[u8], wanted: &[u8]) -> Result<bool, BenchFault>
+fn has_goal(
+    alloc: Global,
+    goal: &[u8],
+    script: &[u8],
+    steps: &[u8],
+    wanted: &[u8],
+) -> Result<bool, BenchFault>
     ensures { IfOk result (λ same. (same ≡ true)
-        ↔ (wanted.now ≡ judgement_text goal.now (missing_of goal.now script.now))) }
+        ↔ (wanted.now ≡ judgement_text goal.now (missing_of goal.now script.now steps.now))) }
 {
-    let judgement = judge(alloc, goal, script)?;
+    let judgement = judge(alloc, goal, script, steps)?;
     Ok(judgement_text(alloc, goal, judgement)?.as_slice() == wanted)
 }
 
@@ -113,9 +119,17 @@ pub fn is_about(
     match lesson {
         Lesson::Goal(goal) => {
             let text = goal.text.as_slice();
+            let beside = goal.beside.as_slice();
+            let (steps, others) = (steps_of(alloc, script)?, steps_of(alloc, beside)?);
             Ok(
-                has_goal(alloc, text, script, b"met\n")?
-                    && has_goal(alloc, text, goal.beside.as_slice(), goal.missing.as_slice())?,
+                has_goal(alloc, text, script, steps.as_slice(), b"met\n")?
+                    && has_goal(
+                        alloc,
+                        text,
+                        beside,
+                        others.as_slice(),
+                        goal.missing.as_slice(),
+                    )?,
             )
         }
         Lesson::Flaw(flawed) => has_flawed(alloc, flawed.flaw, script, flawed.text.as_slice()),

@@ -1,7 +1,7 @@
 -- What the lines of a goal ask of a script and of the answers to it.
 use Rattle.std.specs.Prelude.{◌≡◌, ℕ, ◌+◌, ◌-◌, ◌==◌, nat_le, nat_lt, nat_eq, not, ◌&&◌, ◌||◌}
 use Rattle.std.specs.Prelude.{if◌then◌else◌, Bool, true, false, List, [], ◌∷◌, ◌++◌, drop, length, Option, None, Some}
-use Rattle.std.specs.Prelude.{codes, decimal, flat_map, slice_index_or, take, refl}
+use Rattle.std.specs.Prelude.{codes, decimal, flat_map, slice_index_or, take, refl, ◌⊎◌}
 use Rattle.std.specs.Option.{option_map_or}
 use Rattle.std.specs.List.{list_any, starts_with, ends_with, slice_split, suffix_len}
 use Rattle.std.specs.Str.{bytes_eq}
@@ -12,6 +12,10 @@ use Rattle.ready_objects.specs.Words.{words_of_text}
 use Rattle.uni_script.specs.Scripts.{scripts_of}
 use Rattle.uni_script.specs.Grammar.{is_note, is_plain_byte}
 use Rattle.uni_script.specs.Replay.{text_of_script}
+use Rattle.run_layout.specs.Choice.{all_events}
+use Rattle.run_layout.specs.Subject.{HasTooManyEvents}
+use Rattle.run_tell.specs.Sentences.{steps_wording}
+use Rattle.run_tell.specs.Told.{IsTold}
 use Rattle.course_run.specs.declared.judging.Judgement.{Judgement}
 use Rattle.course_run.specs.declared.judging.Judgement.TheVariants.{Met, Missing}
 
@@ -44,6 +48,26 @@ is_like (b ∷ pattern) text =
 abbrev pub has_like : (pattern : List ℕ) → (lines : List (List ℕ)) → Bool
 has_like pattern lines = list_any (is_like pattern) lines
 
+-- a line of a run that is told in steps, without its event's number and the blanks before and after that
+abbrev pub after_number : (line : List ℕ) → List ℕ
+after_number [] = []
+after_number (b ∷ line) = if is_ascii_digit b || b == 32 then after_number line else b ∷ line
+
+-- one of some lines of such a run is like a pattern
+abbrev pub has_step : (pattern : List ℕ) → (steps : List (List ℕ)) → Bool
+has_step pattern steps = list_any (λ line. is_like pattern (after_number line)) steps
+
+-- a line is like the first of some patterns, one after it like the second, and so on
+abbrev pub come_in_order : (patterns lines : List (List ℕ)) → Bool
+come_in_order [] lines = true
+come_in_order (pattern ∷ patterns) [] = false
+come_in_order (pattern ∷ patterns) (line ∷ lines) =
+    if is_like pattern line then come_in_order patterns lines else come_in_order (pattern ∷ patterns) lines
+
+-- the patterns in a text, cut at each bar
+abbrev pub patterns_in : List ℕ → List (List ℕ)
+patterns_in text = slice_split (λ b. b == 124) text
+
 -- the second of some words is this one
 abbrev pub is_second : (word : List ℕ) → (words : List (List ℕ)) → Bool
 is_second word [] = false
@@ -75,10 +99,11 @@ abbrev pub said_in : List (List ℕ) → ℕ
 said_in [] = 0
 said_in (line ∷ lines) = if is_note line then said_in lines else said_in lines + 1
 
--- a script, and the answers to it, cut into lines
+-- a script, the answers to it, and its run, told in steps, cut into lines
 pub record Deed : Type 0 where
   pub script : List (List ℕ)
   pub answers : List (List ℕ)
+  pub steps : List (List ℕ)
 
 -- some lines, notes aside, are at most as many as a word says; no word but a number says so
 abbrev pub is_at_most : (lines : List (List ℕ)) → (word : List ℕ) → Bool
@@ -95,20 +120,24 @@ abbrev pub asks_order : (a c : List ℕ) → Bool
 asks_order a c = bytes_eq a (codes "log") && bytes_eq c (codes "before")
 
 -- what the words of a line of a goal ask for; the line itself is a pattern of an answer, where its words are none of these forms
-abbrev pub is_met_by : Deed → (line : List ℕ) → (words : List (List ℕ)) → Bool
-is_met_by deed line (a ∷ b ∷ []) =
-    if asks_no_refusals a b then not (has_like (codes "refused ..") deed.answers) else has_like line deed.answers
-is_met_by deed line (a ∷ b ∷ c ∷ d ∷ []) =
-    if asks_at_most a b d then is_at_most deed.script c
-    else if asks_order a c then comes_before b d deed.answers
-    else has_like line deed.answers
-is_met_by deed line words = has_like line deed.answers
+abbrev pub is_met_by : (script answers : List (List ℕ)) → (line : List ℕ) → (words : List (List ℕ)) → Bool
+is_met_by script answers line (a ∷ b ∷ []) =
+    if asks_no_refusals a b then not (has_like (codes "refused ..") answers) else has_like line answers
+is_met_by script answers line (a ∷ b ∷ c ∷ d ∷ []) =
+    if asks_at_most a b d then is_at_most script c
+    else if asks_order a c then comes_before b d answers
+    else has_like line answers
+is_met_by script answers line words = has_like line answers
 
--- a line of a goal is met; `script TEXT` asks for a line of the script
+-- a line of a goal is met: `script TEXT` asks for a line of the script, `order TEXT|TEXT` for answers in this order, `P..` for a
+-- step, and `no P..` for none
 abbrev pub is_met : Deed → (line : List ℕ) → Bool
 is_met deed line =
     if starts_with nat_eq line (codes "script ") then has_like (drop 7 line) deed.script
-    else is_met_by deed line (words_of_text line)
+    else if starts_with nat_eq line (codes "order ") then come_in_order (patterns_in (drop 6 line)) deed.answers
+    else if starts_with nat_eq line (codes "P") then has_step line deed.steps
+    else if starts_with nat_eq line (codes "no P") then not (has_step (drop 3 line) deed.steps)
+    else is_met_by deed.script deed.answers line (words_of_text line)
 
 -- a line of a goal without the blanks at its end: spaces, tabs, and what ends lines elsewhere
 abbrev pub without_end : List ℕ → List ℕ
@@ -124,13 +153,19 @@ first_missing deed number [] = None
 first_missing deed number (line ∷ lines) =
     if is_note_or_met deed (without_end line) then first_missing deed (number + 1) lines else Some number
 
--- what a script did, where its answers make this text
-abbrev pub deed_of : (script text : List ℕ) → Deed
-deed_of script text = record { script = lines_in script; answers = lines_in text }
+-- what a script did, where its answers make this text, and its steps that one
+abbrev pub deed_of : (script text steps : List ℕ) → Deed
+deed_of script text steps = record { script = lines_in script; answers = lines_in text; steps = lines_in steps }
 
--- the number of the first line of a goal that a script doesn't meet
-abbrev pub missing_of : (goal script : List ℕ) → Option ℕ
-missing_of goal script = first_missing (deed_of script (text_of_script (scripts_of 1048576) script)) 1 (lines_in goal)
+-- the number of the first line of a goal that a script doesn't meet whose run is told in these steps
+abbrev pub missing_of : (goal script steps : List ℕ) → Option ℕ
+missing_of goal script steps =
+    first_missing (deed_of script (text_of_script (scripts_of 1048576) script) steps) 1 (lines_in goal)
+
+-- a script's run is told in these steps; or it has more than 2,000 events, and they are none
+abbrev pub AreStepsOf : (script steps : List ℕ) → Type 0
+AreStepsOf script steps =
+    IsTold steps_wording all_events (Some script) steps ⊎ (HasTooManyEvents all_events (Some script) × (steps ≡ []))
 
 -- the line that is missing, if one is
 abbrev pub missing_in : Judgement → Option ℕ
@@ -167,6 +202,29 @@ a_pattern_without_a_gap_is_the_text = refl
 
 a_gap_takes_no_byte_twice : is_like (codes "ab..bc") (codes "abc") ≡ false
 a_gap_takes_no_byte_twice = refl
+
+a_step_has_no_number : after_number (codes "12  P1  L  proposes 1.0") ≡ codes "P1  L  proposes 1.0"
+a_step_has_no_number = refl
+
+a_step_is_found : has_step (codes "P1  L  ..: lost.") (codes "9  P1  L  proposes 1.0 for anchor.after; 0.0 is there already: lost." ∷ [])
+    ≡ true
+a_step_is_found = refl
+
+another_process_is_not : has_step (codes "P1  L  ..: won.") (codes "9  P0  L  proposes 0.0 for anchor.after: won." ∷ []) ≡ false
+another_process_is_not = refl
+
+bars_part_patterns : patterns_in (codes "called 0.0|trimmed ..") ≡ codes "called 0.0" ∷ codes "trimmed .." ∷ []
+bars_part_patterns = refl
+
+a_trim_after_a_call : come_in_order (codes "called 0.0" ∷ codes "trimmed .." ∷ []) (codes "called 0.0" ∷ codes "x" ∷ codes "trimmed 2" ∷ [])
+    ≡ true
+a_trim_after_a_call = refl
+
+a_trim_before_a_call : come_in_order (codes "called 0.0" ∷ codes "trimmed .." ∷ []) (codes "trimmed 1" ∷ codes "called 0.0" ∷ []) ≡ false
+a_trim_before_a_call = refl
+
+one_line_is_no_two : come_in_order (codes "called .." ∷ codes "called .." ∷ []) (codes "called 0.0" ∷ []) ≡ false
+one_line_is_no_two = refl
 
 abbrev a_log : List (List ℕ)
 a_log = codes "called 1.0" ∷ codes "2 0.0 enq 6 -> ok" ∷ codes "3 1.0 enq 5 -> ok" ∷ []

@@ -7,11 +7,13 @@ ghost use Rattle.std.specs.Io.KnownBytes.{Appends};
 ghost use Rattle.uni_script.specs.Scripts.{scripts_of};
 ghost use Rattle.uni_script.specs.Replay.{IsFaultOfScript, fault_of_script, text_of_script};
 ghost use Rattle.ready_objects.specs.Words.{bytes_of};
-ghost use Rattle.course_run.specs.Goals.{judgement_text, missing_in, missing_of, told_byte, told_line};
+ghost use Rattle.course_run.specs.Goals.{AreStepsOf, judgement_text, missing_in, missing_of, told_byte, told_line};
 
 use crate::lines::{lines_in, without_end};
 use crate::wish::first_missing;
 use ready_objects::push_number;
+use run_layout::{PictureFault, Range};
+use run_tell::{InWords, tell_script};
 use std::alloc::{AllocError, Global};
 use uni_script::{
     BenchFault, Checked, Echo, Failed, Options, TextOut, bench, report_fault, write_all,
@@ -48,23 +50,48 @@ pub fn answers_to(alloc: Global, script: &[u8]) -> Result<Vec<u8>, BenchFault>
     }
 }
 
-/// Judges a script by a goal.
+/// The run of a script, told in steps, as `unidraw --steps` tells it; nothing of one with more than 2,000 events.
+///
+/// An `Err` is its first fault, or `Memory`.
+pub fn steps_of(alloc: Global, script: &[u8]) -> Result<Vec<u8>, BenchFault>
+    ensures { IfOk result (λ steps. AreStepsOf script.now steps.items) }
+{
+    let mut steps = Checked::new(Vec::new(alloc));
+    match tell_script::<InWords, _, _>(alloc, Range::all(), &mut Checked::new(script), &mut steps) {
+        Ok(()) => Ok(Vec::from_slice(alloc, steps.end().as_slice())?),
+        Err(PictureFault::TooManyEvents) => Ok(Vec::new(alloc)),
+        // The writer keeps what it is given: it fails where memory is refused.
+        Err(PictureFault::Script(BenchFault::Write) | PictureFault::Misdrawn) => {
+            Err(BenchFault::Memory)
+        }
+        Err(PictureFault::Script(fault)) => Err(fault),
+    }
+}
+
+/// Judges a script by a goal; `steps` is its run, told in steps.
 ///
 /// An `Err` is the first fault of the script, or `Memory`.
-pub fn judge(alloc: Global, goal: &[u8], script: &[u8]) -> Result<Judgement, BenchFault>
+pub fn judge(
+    alloc: Global,
+    goal: &[u8],
+    script: &[u8],
+    steps: &[u8],
+) -> Result<Judgement, BenchFault>
     ensures good { OnOk result (fault_of_script (scripts_of 1048576) script.now ≡ None) }
-    ensures judged { IfOk result (λ judgement. missing_in judgement ≡ missing_of goal.now script.now) }
+    ensures judged { IfOk result (λ judgement. missing_in judgement ≡ missing_of goal.now script.now steps.now) }
     ensures fault { IfErr result (λ e. IsFaultOfScript e
         → fault_of_script (scripts_of 1048576) script.now ≡ Some e) }
 {
     let text = answers_to(alloc, script)?;
     let script = lines_in(alloc, script)?;
     let answers = lines_in(alloc, text.as_slice())?;
+    let steps = lines_in(alloc, steps)?;
     let goal = lines_in(alloc, goal)?;
     match first_missing(
         alloc,
         script.as_slice(),
         answers.as_slice(),
+        steps.as_slice(),
         goal.as_slice(),
     )? {
         None => Ok(Judgement::Met),
@@ -156,14 +183,20 @@ fn line_at<'a>(lines: &[&'a [u8]], place: u64) -> &'a [u8]
 /// A judgement, and the text that tells it.
 ///
 /// An `Err` is the first fault of the script, or `Memory`.
-fn told(alloc: Global, goal: &[u8], script: &[u8]) -> Result<(Judgement, Vec<u8>), BenchFault>
+fn told(
+    alloc: Global,
+    goal: &[u8],
+    script: &[u8],
+    steps: &[u8],
+) -> Result<(Judgement, Vec<u8>), BenchFault>
     ensures good { OnOk result (fault_of_script (scripts_of 1048576) script.now ≡ None) }
-    ensures judged { IfOk result (λ told. missing_in told.0 ≡ missing_of goal.now script.now) }
-    ensures text { IfOk result (λ told. told.1.items ≡ judgement_text goal.now (missing_of goal.now script.now)) }
+    ensures judged { IfOk result (λ told. missing_in told.0 ≡ missing_of goal.now script.now steps.now) }
+    ensures text { IfOk result (λ told. told.1.items
+        ≡ judgement_text goal.now (missing_of goal.now script.now steps.now)) }
     ensures fault { IfErr result (λ e. IsFaultOfScript e
         → fault_of_script (scripts_of 1048576) script.now ≡ Some e) }
 {
-    let judgement = judge(alloc, goal, script)?;
+    let judgement = judge(alloc, goal, script, steps)?;
     let text = judgement_text(alloc, goal, judgement)?;
     Ok((judgement, text))
 }
@@ -180,7 +213,8 @@ fn status_of(judgement: Judgement) -> u8
     }
 }
 
-/// Judges a script by a goal, and tells it on `output`; the answer is the status that a program ends with.
+/// Judges a script by a goal, and tells it on `output`; `steps` is its run, told in steps. The answer is the status
+/// that a program ends with.
 ///
 /// The status is 0 where the goal is met, and 1 where a line of it isn't; 2 where the script has a fault; 3 where
 /// `output` failed; and 4 where memory was refused. The text that says so of the last three goes to `faults`, as far as
@@ -189,19 +223,20 @@ pub fn run_goal<O: TextOut, F: TextOut>(
     alloc: Global,
     goal: &[u8],
     script: &[u8],
+    steps: &[u8],
     output: &mut O,
     faults: &mut F,
 ) -> u8
     requires output { O.has_failed output.old ≡ false }
-    ensures met { result ≡ 0 → missing_of goal.now script.now ≡ None }
-    ensures missing { result ≡ 1 → IsSome (missing_of goal.now script.now) }
+    ensures met { result ≡ 0 → missing_of goal.now script.now steps.now ≡ None }
+    ensures missing { result ≡ 1 → IsSome (missing_of goal.now script.now steps.now) }
     ensures told { result ≤ 1 → Appends (O.contents output.old) (O.contents output.new)
-        (judgement_text goal.now (missing_of goal.now script.now)) }
+        (judgement_text goal.now (missing_of goal.now script.now steps.now)) }
     ensures good { result ≤ 1 → fault_of_script (scripts_of 1048576) script.now ≡ None }
     ensures fault { result ≡ 2 → IsSome (fault_of_script (scripts_of 1048576) script.now)
         × (output.new ≡ output.old) }
 {
-    match told(alloc, goal, script) {
+    match told(alloc, goal, script, steps) {
         Ok((judgement, text)) => match write_all(output, text.as_slice()) {
             Ok(()) => status_of(judgement),
             Err(Failed) => report_fault(alloc, BenchFault::Write, faults),

@@ -21,5 +21,5 @@ mod world;
 
 pub use flaw::Flaw;
 pub use flawed::{flawed_text, run_flawed};
-pub use judging::{Judgement, answers_to, judge, judgement_text, run_goal};
+pub use judging::{Judgement, answers_to, judge, judgement_text, run_goal, steps_of};
 pub use reading::{goal_in, read_text};

@@ -4,7 +4,7 @@ ghost use Rattle.std.specs.Prelude.{◌≡◌, IfOk};
 ghost use Rattle.ready_objects.specs.Words.{bytes_of, words_of_text};
 ghost use Rattle.uni_script.specs.Grammar.{is_note};
 ghost use Rattle.course_run.specs.Goals.{comes_before, is_less, is_second, lines_in, names_call, place_from, said_in};
-ghost use Rattle.course_run.specs.Goals.{without_end};
+ghost use Rattle.course_run.specs.Goals.{patterns_in, without_end};
 
 use std::alloc::{AllocError, Global};
 use uni_script::{is_note, words_of};
@@ -16,6 +16,15 @@ pub(crate) fn lines_in(alloc: Global, text: &[u8]) -> Result<Vec<&[u8]>, AllocEr
     ensures { IfOk result (λ lines. bytes_of lines.items ≡ lines_in text.now) }
 {
     text.split(|byte| *byte == b'\n').collect(alloc)
+}
+
+/// The patterns in a text, cut at each bar.
+///
+/// An `Err` says that memory was refused.
+pub(crate) fn patterns_in(alloc: Global, text: &[u8]) -> Result<Vec<&[u8]>, AllocError>
+    ensures { IfOk result (λ patterns. bytes_of patterns.items ≡ patterns_in text.now) }
+{
+    text.split(|byte| *byte == b'|').collect(alloc)
 }
 
 /// A line of a goal without the blanks at its end.

@@ -3,7 +3,8 @@
 ghost use Rattle.std.specs.Prelude.{◌≡◌};
 ghost use Rattle.std.specs.Option.{option_copied};
 ghost use Rattle.ready_objects.specs.Words.{bytes_of};
-ghost use Rattle.course_run.specs.Goals.{after_gap, ends_in, has_like, is_like, without_first};
+ghost use Rattle.course_run.specs.Goals.{after_gap, after_number, come_in_order, ends_in, has_like, has_step, is_like};
+ghost use Rattle.course_run.specs.Goals.{without_first};
 
 /// What follows `..`, where a pattern begins with it.
 fn after_gap(pattern: &[u8]) -> Option<&[u8]>
@@ -58,6 +59,53 @@ pub(crate) fn has_like(pattern: &[u8], lines: &[&[u8]]) -> bool
     for line in lines {
         if is_like(pattern, line) {
             return true;
+        }
+    }
+    false
+}
+
+/// A line of a run that is told in steps, without its event's number and the blanks before and after that.
+fn after_number(line: &[u8]) -> &[u8]
+    ensures { result.now ≡ after_number line.now }
+{
+    let mut rest = line;
+    while let [byte, others @ ..] = rest {
+        if !byte.is_ascii_digit() && *byte != b' ' {
+            return rest;
+        }
+        rest = others;
+    }
+    rest
+}
+
+/// Tells whether one of the lines of a run that is told in steps is like a pattern, without its event's number.
+pub(crate) fn has_step(pattern: &[u8], steps: &[&[u8]]) -> bool
+    ensures { result ≡ has_step pattern.now (bytes_of steps.now) }
+{
+    for line in steps {
+        if is_like(pattern, after_number(line)) {
+            return true;
+        }
+    }
+    false
+}
+
+/// Tells whether a line is like the first of some patterns, one after it like the second, and so on.
+pub(crate) fn come_in_order(patterns: &[&[u8]], lines: &[&[u8]]) -> bool
+    ensures { result ≡ come_in_order (bytes_of patterns.now) (bytes_of lines.now) }
+{
+    let [first, later @ ..] = patterns else {
+        return true;
+    };
+    let mut wanted = *first;
+    let mut others = later;
+    for line in lines {
+        if is_like(wanted, line) {
+            let [next, left @ ..] = others else {
+                return true;
+            };
+            wanted = *next;
+            others = left;
         }
     }
     false

@@ -6,8 +6,8 @@ ghost use Rattle.ready_objects.specs.Words.{bytes_of};
 ghost use Rattle.course_run.specs.Goals.{asks_at_most, asks_no_refusals, asks_order, first_missing, is_at_most, is_met};
 ghost use Rattle.course_run.specs.Goals.{is_met_by, is_note_or_met};
 
-use crate::lines::{comes_before, said_in, without_end};
-use crate::pattern::has_like;
+use crate::lines::{comes_before, patterns_in, said_in, without_end};
+use crate::pattern::{come_in_order, has_like, has_step};
 use ready_objects::Amount;
 use std::alloc::{AllocError, Global};
 use uni_script::{is_note, words_of};
@@ -60,8 +60,8 @@ fn is_met_by(
     line: &[u8],
     words: &[&[u8]],
 ) -> Result<bool, AllocError>
-    ensures { IfOk result (λ met. met ≡ is_met_by
-        (record { script = bytes_of script.now; answers = bytes_of answers.now }) line.now (bytes_of words.now)) }
+    ensures { IfOk result (λ met. met
+        ≡ is_met_by (bytes_of script.now) (bytes_of answers.now) line.now (bytes_of words.now)) }
 {
     match words {
         [a, b] => {
@@ -84,20 +84,32 @@ fn is_met_by(
     }
 }
 
-/// Tells whether a line of a goal is met by the lines of a script and of its answers.
+/// Tells whether a line of a goal is met by the lines of a script, of its answers, and of its steps.
 ///
 /// An `Err` says that memory was refused.
 fn is_met(
     alloc: Global,
     script: &[&[u8]],
     answers: &[&[u8]],
+    steps: &[&[u8]],
     line: &[u8],
 ) -> Result<bool, AllocError>
     ensures { IfOk result (λ met. met ≡ is_met
-        (record { script = bytes_of script.now; answers = bytes_of answers.now }) line.now) }
+        (record { script = bytes_of script.now; answers = bytes_of answers.now; steps = bytes_of steps.now })
+        line.now) }
 {
     if line.starts_with(b"script ") {
         return Ok(has_like(&line[7..], script));
+    }
+    if line.starts_with(b"order ") {
+        let patterns = patterns_in(alloc, &line[6..])?;
+        return Ok(come_in_order(patterns.as_slice(), answers));
+    }
+    if line.starts_with(b"P") {
+        return Ok(has_step(line, steps));
+    }
+    if line.starts_with(b"no P") {
+        return Ok(!has_step(&line[3..], steps));
     }
     is_met_by(
         alloc,
@@ -108,41 +120,45 @@ fn is_met(
     )
 }
 
-/// Tells whether a line of a goal is a note, or met by the lines of a script and of its answers.
+/// Tells whether a line of a goal is a note, or met by the lines of a script, of its answers, and of its steps.
 ///
 /// An `Err` says that memory was refused.
 fn is_note_or_met(
     alloc: Global,
     script: &[&[u8]],
     answers: &[&[u8]],
+    steps: &[&[u8]],
     line: &[u8],
 ) -> Result<bool, AllocError>
     ensures { IfOk result (λ met. met ≡ is_note_or_met
-        (record { script = bytes_of script.now; answers = bytes_of answers.now }) line.now) }
+        (record { script = bytes_of script.now; answers = bytes_of answers.now; steps = bytes_of steps.now })
+        line.now) }
 {
     if is_note(line) {
         return Ok(true);
     }
-    is_met(alloc, script, answers, line)
+    is_met(alloc, script, answers, steps, line)
 }
 
-/// The number, from 1, of the first line of a goal that is no note and isn't met by the lines of a script and of its
-/// answers; `None` where each is met. Blanks at a line's end don't count.
+/// The number, from 1, of the first line of a goal that is no note and isn't met by the lines of a script, of its
+/// answers, and of its steps; `None` where each is met. Blanks at a line's end don't count.
 ///
 /// An `Err` says that memory was refused.
 pub(crate) fn first_missing(
     alloc: Global,
     script: &[&[u8]],
     answers: &[&[u8]],
+    steps: &[&[u8]],
     goal: &[&[u8]],
 ) -> Result<Option<u64>, AllocError>
     ensures { IfOk result (λ missing. missing
-        ≡ first_missing (record { script = bytes_of script.now; answers = bytes_of answers.now }) 1
+        ≡ first_missing
+        (record { script = bytes_of script.now; answers = bytes_of answers.now; steps = bytes_of steps.now }) 1
         (bytes_of goal.now)) }
 {
     let mut number = 1;
     for line in goal {
-        if !is_note_or_met(alloc, script, answers, without_end(line))? {
+        if !is_note_or_met(alloc, script, answers, steps, without_end(line))? {
             return Ok(Some(number));
         }
         number += 1;

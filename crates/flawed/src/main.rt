@@ -2,7 +2,8 @@
 //! broke. The first line says that this is not the proved construction.
 #![tactic(auto)]
 
-use course_run::{Flaw, read_text, run_flawed};
+use course_run::{Flaw, flawed_text, read_text, run_flawed};
+use script_advice::report_explained;
 use std::alloc::Global;
 use std::env::Env;
 use std::process::ExitCode;
@@ -64,15 +65,15 @@ fn request_of<R: Env + Alloc<A = Global>>(rt: &R) -> io::Result<Option<Request>>
 fn run(rt: &HostRuntime, flaw: Flaw) -> u8 {
     let mut output = Checked::new(rt.stdout());
     let mut faults = Checked::new(rt.stderr());
-    match read_text(rt.alloc(), rt.stdin()) {
-        Ok(script) => run_flawed(
-            rt.alloc(),
-            flaw,
-            script.as_slice(),
-            &mut output,
-            &mut faults,
-        ),
-        Err(fault) => report_fault(rt.alloc(), fault, &mut faults),
+    let script = match read_text(rt.alloc(), rt.stdin()) {
+        Ok(script) => script,
+        Err(fault) => return report_fault(rt.alloc(), fault, &mut faults),
+    };
+    let script = script.as_slice();
+    match flawed_text(rt.alloc(), flaw, script) {
+        Ok(_) => run_flawed(rt.alloc(), flaw, script, &mut output, &mut faults),
+        // The script's first fault, and the reason.
+        Err(fault) => report_explained(rt.alloc(), fault, Some(script), &mut faults),
     }
 }
 

@@ -2,7 +2,8 @@
 //! or the first line of the goal that isn't met, with status 1.
 #![tactic(auto)]
 
-use course_run::{goal_in, read_text, run_goal};
+use course_run::{goal_in, read_text, run_goal, steps_of};
+use script_advice::report_explained;
 use std::alloc::Global;
 use std::env::Env;
 use std::process::ExitCode;
@@ -21,11 +22,15 @@ other line asks for one thing:
   no refusals          no command is refused
   at most N lines      the script has at most N lines, notes aside
   log P.M before Q.L   a log that was answered has call P.M, and Q.L after it
+  order TEXT|TEXT|..   lines of the answers are these, in this order
   script TEXT          a line of the script is TEXT
+  PTEXT                a step of the run is PTEXT, as `unidraw --steps` tells it, without
+                       its number: P1  L  proposes 1.0 for anchor.after: won.
+  no PTEXT             no step is
   TEXT                 a line of the answers is TEXT
 
 The first `..` in a TEXT stands for any text, or none. Blanks at a line's end don't
-count.
+count. A run of more than 2,000 events has no steps here.
 
 Status:
   0 where the goal is met, 1 where a line of it isn't, 2 for a bad command line or a
@@ -71,15 +76,21 @@ fn judge(rt: &HostRuntime, path: &str) -> u8 {
         Ok(goal) => goal,
         Err(status) => return status,
     };
-    match read_text(rt.alloc(), rt.stdin()) {
-        Ok(script) => run_goal(
+    let script = match read_text(rt.alloc(), rt.stdin()) {
+        Ok(script) => script,
+        Err(fault) => return report_fault(rt.alloc(), fault, &mut faults),
+    };
+    match steps_of(rt.alloc(), script.as_slice()) {
+        Ok(steps) => run_goal(
             rt.alloc(),
             goal.as_slice(),
             script.as_slice(),
+            steps.as_slice(),
             &mut output,
             &mut faults,
         ),
-        Err(fault) => report_fault(rt.alloc(), fault, &mut faults),
+        // The script's first fault, and the reason.
+        Err(fault) => report_explained(rt.alloc(), fault, Some(script.as_slice()), &mut faults),
     }
 }
 
