@@ -17,9 +17,11 @@ Writes a page on which you choose which process goes next
 Usage: uniplay [--goal GOAL] < SCRIPT > PAGE
 
 PAGE is one file for a browser, without network. It has all schedules of the calls of
-the script, of which no command may be refused, and which has one era. GOAL is the
-file of an exercise's goal, as the program goal takes it: its lines stand beside the
-run, each met or not.
+the script, of which no command may be refused, and which has one era. At most 20,000
+worlds have room: those of two processes with two calls each, or of more where two call,
+but not where three make a call. To find more may take two minutes. GOAL is the file of
+an exercise's goal, as the program goal takes it: its lines stand beside the run, each
+met or not; an order and a step only goal tells.
 
 Status:
   0 where all went well, 2 for a bad command line, or a script that has no page, 3
