@@ -1,6 +1,6 @@
 -- What is linearizable, and in which no two calls overlap, is answered call by call.
 use Rattle.lin_check.proofs.Vocabulary.{AcceptsAll, Atomic, Contains, Finished, Free, Invoke, Invoked, List, None, Respond, Sequential, Some, Waiting, [], absent, ap, arith, at_start, inl, inr, invoke_own, keeps_invoke, keeps_point, keeps_respond, number_cases, observed, point_own, point_response, point_state, refl, respond_own, response_at, invs, set_at_elsewhere, state_of, subst, sym, length, ℕ, ◌<◌, ◌∙◌, ◌∷◌, ◌≡◌}
-use Rattle.seq_object.specs.Sequential.{counter}
+use Rattle.uni_words.specs.Objects.{tally}
 use Rattle.uni_model.specs.AtomicObject.{Accepts, Act}
 use Rattle.uni_model.specs.AtomicObject.Act.{Linearize}
 use Rattle.uni_model.specs.HerlihyWing.{one_by_one}
@@ -96,6 +96,6 @@ module _ {S I R : Type 0} (object : Sequential S I R) where
       → AreAnsweredInTurn object told
   answered_in_turn told acts b = answered_from told (at_start object.initial) b acts (none_called object.initial)
 
--- so a stale read of a counter is told by no history of the atomic object
-pub stale_is_not_in_turn : ¬ (AreAnsweredInTurn counter stale)
+-- so a stale read of a tally is told by no history of the atomic object
+pub stale_is_not_in_turn : ¬ (AreAnsweredInTurn tally stale)
 stale_is_not_in_turn e = absurd (cc)

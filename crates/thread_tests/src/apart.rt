@@ -7,15 +7,15 @@ ghost use Rattle.uni_small.specs.declared.sizes.Sizes.{Sizes};
 ghost use Rattle.uni_words.specs.Execution.{Execution as WordsExecution, events, opened_table};
 ghost use Rattle.uni_words.specs.Linearized.{IsNarrow};
 ghost use Rattle.uni_words.specs.Run.{opened};
-ghost use Rattle.seq_object.specs.Sequential.{counter};
+ghost use Rattle.uni_words.specs.Objects.{tally};
 ghost use Rattle.thread_tests.specs.Apart.{Answered, AreAnsweredInTurn, one_after_another, stale};
 
 use uni_small::SmallObject;
 use uni_words::WordObject;
 
-/// Where no two calls of an execution of a small object overlap, each is answered as the object answers it after
-/// those before it. So no read is stale: what closing tells, some execution has led to (`ran`), and no execution
-/// answers a call that begins once an add has returned as if that add had not been.
+/// Where all calls of an execution of a small object have returned and no two of them overlap, each is answered as the
+/// object answers it after those before it. So no execution answers a call that begins once an add has returned as if
+/// that add had not been. That of calls which overlap says `every_execution_is_linearizable`.
 pub fn small_calls_apart_are_answered_in_turn<O: SmallObject>()
     ensures { (o : O) (sizes : Sizes) → AreSizesOf (O.meaning o) sizes
         → (e : Execution (O.meaning o).object sizes (opened_moment (O.meaning o).object sizes))
@@ -32,7 +32,7 @@ pub fn word_calls_apart_are_answered_in_turn<O: WordObject>()
         → AreAnsweredInTurn (O.sequential o) told }
 {}
 
-/// A read of a counter that begins once an add of 5 has returned, and is answered 0, is not answered in turn.
+/// A read of a tally that begins once an add of 5 has returned, and is answered 0, is not answered in turn.
 pub fn stale_read_is_not_in_turn()
-    ensures { ¬ (AreAnsweredInTurn counter stale) }
+    ensures { ¬ (AreAnsweredInTurn tally stale) }
 {}

@@ -6,7 +6,7 @@ use Rattle.uni_small.specs.Execution.{Execution, Moment, Next, access_of, after_
 use Rattle.uni_small.specs.Execution.Next.{Store, Announce, Follow, Begin, Start, Copy, Look, Ask, Check, CheckOwn, Write, Bring, BringOwn, Turn, Load, Reply}
 use Rattle.uni_small.specs.Execution.Next.{Recount, Reread, Restart}
 use Rattle.uni_small.specs.Execution.Execution.{Ends, Step as Steps}
-use Rattle.uni_small.specs.Progress.{IsPending, KeepsBound, NeverBlocks, counted, steps_of_call}
+use Rattle.uni_small.specs.Progress.{IsPending, KeepsBound, NeverBlocks, StepOfCall, counted, steps_of_call}
 use Rattle.uni_small.proofs.Ending.{steps_are}
 use Rattle.uni_small.proofs.Opening as Opening
 
@@ -304,53 +304,61 @@ module _ (object : Sequential (List ℕ) (List ℕ) (List ℕ)) (sizes : Sizes) 
   stand_at_end h Ends = h
   stand_at_end h (Steps {m = m} p inside next rest) = stand_at_end (stand_after m h p inside next) rest
 
-  store_or_announce : (p : ℕ) (l : Local) (stored : List ℕ) → l.stage ≡ Idle stored → length stored ≤ sizes.invocation → length l.own < most_calls → Next object sizes p l
-  store_or_announce p l stored at standing room = ⊎_elim
-      (λ more. Store stored 0 at more.0 room)
-      (λ all. Announce stored at (let a = all.0 in omega (arith, a, standing)) room)
-      (lt_cases (length stored) sizes.invocation)
+  -- the step that stores one more word of an invocation, or announces it
+  store_or_announce : (p : ℕ) (l : Local) (y : ℕ) (stored : List ℕ) → l.stage ≡ Idle (y ∷ stored) → length (y ∷ stored) ≤ sizes.invocation → length l.own < most_calls → StepOfCall object sizes p l
+  store_or_announce p l y stored at standing room = ⊎_elim
+      (λ more. (Store (y ∷ stored) 0 at more.0 room, λ t. refl))
+      (λ all. (Announce (y ∷ stored) at (let a = all.0 in omega (arith, a, standing)) room, λ t. refl))
+      (lt_cases (length (y ∷ stored)) sizes.invocation)
+
+  -- the same of the first word, after a direct attempt that failed
+  store_or_announce_first : (p : ℕ) (l : Local) → l.stage ≡ Idle [] → length l.own < most_calls → l.direct ≡ true → StepOfCall object sizes p l
+  store_or_announce_first p l at room failed = ⊎_elim
+      (λ more. (Store [] 0 at more.0 room, λ t. ap (λ b. if b then t + 1 else 1) failed))
+      (λ all. (Announce [] at (let a = all.0 in omega (arith, a)) room, λ t. ap (λ b. if b then t + 1 else 1) failed))
+      (lt_cases 0 sizes.invocation)
 
   -- a process in the midst of a call can take a step
-  next_of : (1 ≤ sizes.processes) → (p : ℕ) (l : Local) (stage : Stage) → l.stage ≡ stage → IsStanding sizes stage → IsInMode stage l.direct (length l.own) → IsComing p l stage → IsPending stage l.direct → Next object sizes p l
+  next_of : (1 ≤ sizes.processes) → (p : ℕ) (l : Local) (stage : Stage) → l.stage ≡ stage → IsStanding sizes stage → IsInMode stage l.direct (length l.own) → IsComing p l stage → IsPending stage l.direct → StepOfCall object sizes p l
   next_of some p l (Idle []) at standing mode coming pending = ⊎_elim
       (λ none. absurd (let e : true ≡ false = sym pending ∙ none in cc))
-      (λ room. store_or_announce p l [] at standing room)
+      (λ room. store_or_announce_first p l at room pending)
       mode
-  next_of some p l (Idle (y ∷ stored)) at standing mode coming pending = store_or_announce p l (y ∷ stored) at standing mode
-  next_of some p l (Ready tries) at standing mode coming pending = ⊎_elim (λ few. Start tries at few.0) (λ two. Turn tries at two.0 mode) (lt_cases tries 2)
+  next_of some p l (Idle (y ∷ stored)) at standing mode coming pending = store_or_announce p l y stored at standing mode
+  next_of some p l (Ready tries) at standing mode coming pending = ⊎_elim (λ few. (Start tries at few.0, λ t. refl)) (λ two. (Turn tries at two.0 mode, λ t. refl)) (lt_cases tries 2)
   next_of some p l (Reading tries s copy seen) at standing mode coming pending = ⊎_elim
       (λ copying. ⊎_elim
-      (λ more. Copy tries s copy (at ∙ ap (λ x. Reading tries s copy x) copying.0) more.0)
-      (λ all. Look tries s copy [] (at ∙ ap (λ x. Reading tries s copy x) copying.0) (let a = all.0 in let b = copying.1 in omega arith) (whole_none sizes) some)
+      (λ more. (Copy tries s copy (at ∙ ap (λ x. Reading tries s copy x) copying.0) more.0, λ t. refl))
+      (λ all. (Look tries s copy [] (at ∙ ap (λ x. Reading tries s copy x) copying.0) (let a = all.0 in let b = copying.1 in omega arith) (whole_none sizes) some, λ t. refl))
       (lt_cases (length copy) (buffer_words sizes)))
       (λ scanning. ⊎_elim
       (λ whole. ⊎_elim
-      (λ more. Look tries s copy seen at scanning.0 whole.0 more.0)
+      (λ more. (Look tries s copy seen at scanning.0 whole.0 more.0, λ t. refl))
       (λ all. ⊎_elim
-      (λ announced. Check tries s copy seen at scanning.0 whole.0 (let a = all.0 in let b = whole.1 in omega arith) announced)
-      (λ own. CheckOwn s copy seen (at ∙ ap (λ k. Reading k s copy seen) own.1) scanning.0 whole.0 (let a = all.0 in let b = whole.1 in omega arith) own.0)
+      (λ announced. (Check tries s copy seen at scanning.0 whole.0 (let a = all.0 in let b = whole.1 in omega arith) announced, λ t. refl))
+      (λ own. (CheckOwn s copy seen (at ∙ ap (λ k. Reading k s copy seen) own.1) scanning.0 whole.0 (let a = all.0 in let b = whole.1 in omega arith) own.0, λ t. refl))
       mode)
       (lt_cases (length seen) sizes.processes))
-      (λ last. Ask tries s copy last.0 last.1 (at ∙ ap (λ x. Reading tries s copy x) last.2) last.4 last.5)
+      (λ last. (Ask tries s copy last.0 last.1 (at ∙ ap (λ x. Reading tries s copy x) last.2) last.4 last.5, λ t. refl))
       scanning.1)
       standing
   next_of some p l (Writing tries s image seen written) at standing mode coming pending = ⊎_elim
-      (λ more. Write tries s image seen coming.1.0 written written at coming.1.1 more.0)
+      (λ more. (Write tries s image seen coming.1.0 written written at coming.1.1 more.0, λ t. refl))
       (λ all.
       let come = coming.1.1 in
       let whole : written ≡ buffer_words sizes = (let a = all.0 in let b = coming.0 in omega (arith, a, b)) in
       let is_written : IsWritten object sizes l image coming.1.0 = subst (λ k. IsWrittenTo object sizes l image coming.1.0 k) whole come.2 in
       ⊎_elim
-      (λ announced. Bring tries s image seen written at (subst (λ x. IsWritten object sizes l image x) announced.1 is_written) announced.0)
+      (λ announced. (Bring tries s image seen written at (subst (λ x. IsWritten object sizes l image x) announced.1 is_written) announced.0, λ t. refl))
       (λ own. ⊎_elim
       (λ none. absurd (let e : true ≡ false = sym own.0 ∙ none in cc))
-      (λ room. BringOwn s image seen written own.1 (at ∙ ap (λ k. Writing k s image seen written) room.1) (subst (λ x. IsWritten object sizes l image x) own.3 is_written) own.0 own.2 room.2)
+      (λ room. (BringOwn s image seen written own.1 (at ∙ ap (λ k. Writing k s image seen written) room.1) (subst (λ x. IsWritten object sizes l image x) own.3 is_written) own.0 own.2 room.2, λ t. refl))
       mode)
       come.0)
       (lt_cases written (buffer_words sizes))
   next_of some p l (Last s loaded) at standing mode coming pending = ⊎_elim
-      (λ more. Load s loaded at more.0)
-      (λ all. Reply s loaded at (let a = all.0 in omega (arith, a, standing)))
+      (λ more. (Load s loaded at more.0, λ t. refl))
+      (λ all. (Reply s loaded at (let a = all.0 in omega (arith, a, standing)), λ t. refl))
       (lt_cases (length loaded + 1) sizes.reply)
 
 -- how many words of invocations that were seen are not loaded yet

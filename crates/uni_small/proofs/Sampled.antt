@@ -1,4 +1,5 @@
--- Executions of one process on a counter of one word, with one call from its first step to its last: announced, and attempted directly.
+-- Executions on a counter of one word: a call of one process from its first step to its last, announced and attempted directly; and two
+-- processes whose calls overlap.
 use Rattle.uni_small.proofs.Vocabulary.{AreWhole, List, Option, ap, drop, take, sym, ◌∙◌, None, most_calls, inl, inr, Invoke, Linearize, Respond, Sizes, Some, [], arith, refl, suc, zero, ℕ, ◌<◌, ◌∷◌, ◌≡◌, read_image, slice_index, held_place}
 use Rattle.std.proofs.lemmas.List.{get_or-drop, get_or-take}
 use Rattle.uni_small.specs.Image.{counter_sizes, sample_counter}

@@ -58,7 +58,8 @@ module _ (object : Sequential (List ℕ) (List ℕ) (List ℕ)) (sizes : Sizes) 
     CheckOwn : (s : ℕ) (copy : List ℕ) (seen : List (Option (List ℕ))) → l.stage ≡ Reading 0 s copy seen
         → length copy ≡ buffer_words sizes → AreWhole sizes seen → length seen ≡ sizes.processes → l.direct ≡ true → Next p l
     -- a word of the spare buffer is stored, with all that was seen applied, and in a direct attempt a call of its own too, where those before it
-    -- are as they are to be; once all are, S is exchanged for one that names this buffer
+    -- are as they are to be; once all are, S is exchanged for one that names this buffer. The invocation of a direct call is known here at the
+    -- exchange alone: an execution may do more than the code does, which has it from the first step on
     Write : (tries s : ℕ) (image : Image) (seen all : List (Option (List ℕ))) (written k : ℕ) → l.stage ≡ Writing tries s image seen written
         → HasComeTo object sizes p l image seen all written k → k < buffer_words sizes → Next p l
     Bring : (tries s : ℕ) (image : Image) (seen : List (Option (List ℕ))) (written : ℕ) → l.stage ≡ Writing tries s image seen written
@@ -79,7 +80,8 @@ module _ (object : Sequential (List ℕ) (List ℕ) (List ℕ)) (sizes : Sizes) 
 
   -- What such a step of process p does. An announcement invokes a call. An exchange of S that finds what its attempt began with makes the calls
   -- that the attempt saw take effect, in the order of their processes; that of a direct attempt invokes its own call first, which takes effect
-  -- with them. The load of the last word of a reply responds. No other step makes an act.
+  -- with them. The load of the last word of a reply responds. No other step makes an act. The first step of a direct call is earlier than the
+  -- one that invokes it here: so more calls precede it, and what is said of the order is the stronger; before it, the call has no effect.
   abbrev pub access_of : (p : ℕ) (l : Local) → Next p l → Access
   access_of p l (Store stored x at inside room) = store_of (argument_word sizes p (length stored)) x (goes l (Idle (stored ++ x ∷ [])))
   access_of p l (Announce inv at whole few) = record {

@@ -25,7 +25,8 @@ module _ (object : Sequential (List ℕ) (List ℕ) (List ℕ)) (sizes : Sizes) 
     pub well_formed : IsWellFormed (observed (history object sizes e))
     pub completed : IsLinearizedByCompletion object object.initial (observed (history object sizes e)) (points (history object sizes e))
 
-  -- what goes on only has further calls behind
+  -- What goes on only has further calls behind: by how the history is made, the order is a function of the execution so far, and it is this
+  -- order by which each execution is linearizable (`IsLinearized`).
   abbrev pub KeepsOrder : {m : Moment} (e : Execution object sizes m) → Execution object sizes (last_moment object sizes e) → Type 0
   KeepsOrder e more =
       points (history object sizes (goes_on object sizes e more)) ≡ points (history object sizes e) ++ points (history object sizes more)

@@ -35,11 +35,15 @@ module _ (object : Sequential (List ℕ) (List ℕ) (List ℕ)) (sizes : Sizes) 
   steps_of_call p taken Ends = taken
   steps_of_call p taken (Step q inside next rest) = steps_of_call p (if p == q then counted next taken else taken) rest
 
-  -- no call of an execution from the opening takes more steps than this, whatever the other processes do
+  -- no call of an execution from the opening takes more steps than this, counted since it last began again, whatever the other processes do
   abbrev pub KeepsBound : Execution object sizes (opened_moment object sizes) → Type 0
   KeepsBound e = (p : ℕ) → p < sizes.processes → steps_of_call p 0 e ≤ call_steps sizes
 
-  -- wherever an execution from the opening has come to, a process in the midst of a call can take a step
+  -- a step that process p can take next for its call: it is counted as one more
+  abbrev pub StepOfCall : (p : ℕ) → Local → Type 0
+  StepOfCall p l = (next : Next object sizes p l) × ((taken : ℕ) → counted next taken ≡ taken + 1)
+
+  -- wherever an execution from the opening has come to, a process in the midst of a call can take a step of that call
   abbrev pub NeverBlocks : Execution object sizes (opened_moment object sizes) → Type 0
   NeverBlocks e = (p : ℕ) → p < sizes.processes → IsPending ((last_moment object sizes e).local p).stage ((last_moment object sizes e).local p).direct
-      → Next object sizes p ((last_moment object sizes e).local p)
+      → StepOfCall p ((last_moment object sizes e).local p)

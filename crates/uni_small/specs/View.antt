@@ -40,7 +40,8 @@ pub data Stage : Type 0 where
 -- its next calls come after, its calls that have returned, and how many word steps it has taken
 pub record Local : Type 0 where
   pub stage : Stage
-  -- whether its attempt, if it makes one, is direct: of a call that isn't announced
+  -- whether its call is attempted directly, and isn't announced: true from the beginning of a direct attempt until its call is announced, or has
+  -- returned; so also between calls, where a direct attempt has failed
   pub direct : Bool
   pub inv : List ℕ
   pub spare : ℕ

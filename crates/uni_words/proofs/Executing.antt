@@ -16,7 +16,8 @@ use Rattle.uni_words.proofs.Looks.{looked_leads, underway}
 use Rattle.uni_words.proofs.Moving.{fits_elsewhere, goes_further, moved_leads}
 use Rattle.uni_words.proofs.Opening.{opening_leads, opening_shown}
 use Rattle.uni_words.proofs.Splitting.{split_leads}
-use Rattle.uni_model.specs.HerlihyWing.{IsWellFormed}
+use Rattle.uni_model.specs.HerlihyWing.{IsWellFormed, of_process}
+use Rattle.uni_model.proofs.Linearizable.{observed-history_of}
 use Rattle.uni_model.specs.Linearizable.{observed_in}
 use Rattle.uni_model.specs.StrongLinearizable.{IsStronglyLinearizable}
 use Rattle.uni_words.specs.Shown.{HasRead}
@@ -130,6 +131,8 @@ module _ (object : Sequential ℕ ℕ ℕ) (n row : ℕ) (narrow : IsNarrow obje
           one_era = h.3.one_era;
           well_formed = formed (events object n row e) h.3.accepted;
           completed = function.1.linearizes (events object n row e) h.3.accepted;
+          told = λ id v at p among. ap (of_process p) (sym (observed-history_of object (opened object n) (events object n row e))) ∙ h.3.acts id v at p among;
+          told_taken = λ id v at its in_it. ap (of_process its.process) (sym (observed-history_of object (opened object n) (events object n row e))) ∙ h.3.taken id v at its in_it;
         };
         keeps_order = λ e more.
             let both : events object n row (goes_on object n row e more) ≡ events object n row e ++ events object n row more = events_more e more in

@@ -48,7 +48,8 @@ module _ (object : Sequential ℕ ℕ ℕ) (n row : ℕ) where
     -- between calls: the invocation of the next call is stored; it is asked about a call
     Begin : (inv : ℕ) → v.its.call ≡ None → v.its.begun < row → Next v
     Ask : (call : CallId) → v.its.call ≡ None → Next v
-    -- in a call: a step of the construction at its place
+    -- in a call: a step of the construction at its place, which leaves any word that reads as what the construction leaves there; so an execution
+    -- may do more than the code does
     Move : (c : Pending) (becomes : ℕ → ℕ) → v.its.call ≡ Some c → IsPlain c.stage → Leaves v.first c becomes → Next v
     -- a state is settled: the invocation is loaded, then the state before it, and the state and the reply are proposed
     LookInv : (mine c d : Name) (c_seq : ℕ) → v.its.call ≡ Some (record { mine = mine; stage = DecideNew c c_seq d }) → v.its.read ≡ Nothing
@@ -94,8 +95,8 @@ module _ (object : Sequential ℕ ℕ ℕ) (n row : ℕ) where
   abbrev pub after_access : State ℕ View → (id : ℕ) → (word : ℕ) → Access → State ℕ View
   after_access s id word a = let found = slice_index s.words word in after_word s word (a.becomes found) id (a.leaves found)
 
-  -- An execution from a table on: again and again some seat of one process takes a step that it can take; or a seat of several processes is cut
-  -- in two, or one takes in another one, and neither has a call pending.
+  -- An execution from a table on: again and again some seat of one process takes a step that it can take; or a seat is cut in two, its first
+  -- process apart from its others, of which there may be none; or a seat takes in another one, where neither has a call pending.
   pub data Execution : State ℕ View → Type 0 where
     Ends : {s : State ℕ View} → Execution s
     Takes : {s : State ℕ View} (id : ℕ) (v : Known) → HasSeat s id v → (next : Next v) (word : ℕ) → word_of n row (access_of v next).place ≡ Some word

@@ -1,13 +1,18 @@
 -- What is said of every execution.
-use Rattle.std.specs.Prelude.{◌≡◌, ℕ, ◌+◌, ◌*◌, ◌<◌, ◌≤◌, ◌^◌, List, ◌++◌}
+use Rattle.std.specs.Prelude.{◌≡◌, ℕ, ◌+◌, ◌*◌, ◌<◌, ◌≤◌, ◌^◌, List, ◌++◌, Contains}
+use mathlib.Core.Option.{some}
+use lib.ListN.{get_elem?}
 use Rattle.seq_object.specs.Sequential.{Sequential}
 use Rattle.uni_model.specs.AtomicObject.{Invoked}
 use Rattle.uni_model.specs.Growth.{EndNoEra}
-use Rattle.uni_model.specs.HerlihyWing.{IsLinearizedByCompletion, IsWellFormed}
+use Rattle.uni_model.specs.HerlihyWing.{IsLinearizedByCompletion, IsWellFormed, of_process}
 use Rattle.uni_model.specs.Linearizable.{observed_in}
+use Rattle.uni_model.specs.ProcessCalls.{ProcessCalls, sequential_acts}
 use Rattle.uni_model.specs.Worlds.{AreAccepted, Event}
 use Rattle.uni_words.specs.Execution.{Execution, events, goes_on, last_state, opened_table, steps_of_call}
 use Rattle.uni_words.specs.Run.{opened}
+use Rattle.uni_words.specs.Shown.{IsAmong, acts_in_view}
+use Rattle.uni_words.specs.declared.view.View.{View}
 
 -- the states and replies of an object stay below 2^31
 abbrev pub IsNarrow : Sequential ℕ ℕ ℕ → Type 0
@@ -16,14 +21,20 @@ IsNarrow object =
     × ((state inv : ℕ) → state < 2 ^ 31 → (object.next state inv < 2 ^ 31) × (object.answer state inv < 2 ^ 31))
 
 module _ (object : Sequential ℕ ℕ ℕ) (n row : ℕ) where
-  -- The events of an execution from the opening are those of a run of the construction of n processes. And what is observed of it, the
-  -- invocations and the replies alone, is linearizable in this order in the words of Herlihy and Wing: with the order of real time.
+  -- The events of an execution from the opening are those of a run of the construction of n processes. What is observed of it, the
+  -- invocations and the replies alone, is linearizable in this order in the words of Herlihy and Wing: with the order of real time. And in it
+  -- each process takes the acts that its seat knows at the end: its calls, each with the reply that the seat loaded, and its pending one.
   pub record IsLinearized (order : List (Event ℕ) → List (Invoked ℕ)) (e : Execution object n row (opened_table object n row)) : Type 0 where
     pub accepted : AreAccepted object (opened object n) (events object n row e)
     pub one_era : EndNoEra (events object n row e)
     pub well_formed : IsWellFormed (observed_in object (opened object n) (events object n row e))
     pub completed : IsLinearizedByCompletion object object.initial (observed_in object (opened object n) (events object n row e))
         (order (events object n row e))
+    pub told : (id : ℕ) (v : View) → get_elem? (last_state object n row e).views id ≡ some v → (p : ℕ) → IsAmong p v.known
+        → of_process p (observed_in object (opened object n) (events object n row e)) ≡ acts_in_view p v.known
+    pub told_taken : (id : ℕ) (v : View) → get_elem? (last_state object n row e).views id ≡ some v
+        → (its : ProcessCalls ℕ ℕ) → Contains v.known.taken its
+        → of_process its.process (observed_in object (opened object n) (events object n row e)) ≡ sequential_acts its.process 0 its.calls
 
   -- One function gives each execution its order, and where an execution goes on, only further calls come behind.
   pub record AreLinearizedStrongly : Type 0 where

@@ -92,13 +92,14 @@ pub fn own_calls_rise<O: WordObject>()
 
 /// Every execution from the opening, in which the seats take their word steps in any order, is cut and taken in, is
 /// linearizable in real time: its events are those of a run of the construction. And strongly: one function gives
-/// each its order, and where an execution goes on, only further calls come behind. States and replies stay below 2^31.
+/// each its order, and where an execution goes on, only further calls come behind. What each seat has been told at its
+/// end are the acts of its process in this history. States and replies stay below 2^31.
 pub fn every_execution_is_linearizable<O: WordObject>()
     ensures { (object : O) (n row : ℕ) → IsNarrow (O.sequential object)
         → AreLinearizedStrongly (O.sequential object) n row }
 {}
 
-/// The construction on words is wait-free in every execution: no call takes more than `12 * n + 15` word steps of its
+/// The construction on words is bounded in every execution: no call takes more than `12 * n + 15` word steps of its
 /// own process, whatever the others do. To ask about a call is no step of one.
 pub fn every_call_is_bounded<O: WordObject>()
     ensures { (object : O) (n row : ℕ) → IsNarrow (O.sequential object)
