@@ -8,7 +8,7 @@ use Rattle.lin_check.specs.declared.event.Event.TheVariants.{Call, Return}
 use Rattle.ready_objects.specs.Words.{bytes_of}
 use Rattle.judged_objects.specs.Wording.{Wording}
 use Rattle.history_text.specs.Told.{events_of}
-use Rattle.history_text.specs.Own.{AddsLine, line_tells, tolds_of}
+use Rattle.history_text.specs.Own.{AddsLine, tolds_of}
 use Rattle.history_text.specs.declared.history.Told.{Told}
 use Rattle.history_text.specs.declared.history.Told.TheVariants.{Begins, Ends, Ceases}
 

@@ -7,7 +7,7 @@ use Rattle.ready_objects.specs.Words.{words_of_text}
 use Rattle.judged_objects.specs.Wording.{Wording}
 use Rattle.judged_objects.specs.Queue.{queue_wording}
 use Rattle.judged_objects.specs.declared.queue.QueueInv.TheVariants.{Enq, Deq}
-use Rattle.judged_objects.specs.declared.queue.QueueResp.TheVariants.{Added, Taken}
+use Rattle.judged_objects.specs.declared.queue.QueueResp.TheVariants.{Taken}
 use Rattle.lin_check.specs.declared.event.Event.{Event}
 use Rattle.history_text.specs.Told.{events_of}
 use Rattle.history_text.specs.declared.history.Told.{Told}

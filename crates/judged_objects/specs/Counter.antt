@@ -1,6 +1,6 @@
 -- The counter: its state is its sum, below 2^64.
 use Rattle.std.specs.Prelude.{◌≡◌, ◌+◌, ◌-◌, ◌%◌, ◌^◌, ℕ, if◌then◌else◌, List, [], ◌∷◌, map, Option, Some, None, option_map, codes, refl}
-use Rattle.std.specs.Fmt.{decimal, digits}
+use Rattle.std.specs.Fmt.{decimal}
 use Rattle.std.specs.Str.{bytes_eq}
 use Rattle.seq_object.specs.Sequential.{Sequential}
 use Rattle.ready_objects.specs.Number.{number_of_word}

@@ -1,11 +1,10 @@
 -- What a finding says of a history, and what is written of it.
-use Rattle.std.proofs.Common.{◌≡◌, ◌++◌, ◌∷◌, ◌+◌, ◌≤◌, ◌<◌, ℕ, List, [], Option, Some, None, IfSome, arith, length, take}
-use Rattle.std.specs.Prelude.{codes}
+use Rattle.std.proofs.Common.{◌≡◌, ◌++◌, ◌+◌, ◌<◌, ℕ, List, Option, Some, None, IfSome, arith, length, take}
 use Rattle.std.specs.Io.KnownBytes.{Appends}
 use Rattle.seq_object.specs.Sequential.{Sequential}
 use Rattle.lin_check.specs.declared.event.Event.{Event}
 use Rattle.lin_check.specs.Verdicts.{IsLinearizable}
-use Rattle.unicheck_run.specs.Found.{IsFirstBad, IsFirstBadIf, IsFound, status_of, verdict_line}
+use Rattle.unicheck_run.specs.Found.{IsFirstBadIf, IsFound, status_of, verdict_line}
 use Rattle.unicheck_run.specs.Judged.{Says, WritesLine, no_line, yes_line}
 use Rattle.unicheck_run.specs.declared.judging.Finding.{Finding}
 use Rattle.unicheck_run.specs.declared.judging.Finding.TheVariants.{Linearizable, NotLinearizable, GaveUp}
