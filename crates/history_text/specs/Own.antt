@@ -1,5 +1,5 @@
 -- What the lines `call P CALL`, `return P REPLY` and `lost P` tell.
-use Rattle.std.specs.Prelude.{◌≡◌, ◌==◌, ◌&&◌, ◌||◌, Bool, true, false, ℕ, if◌then◌else◌, length, List, [], ◌∷◌, ◌++◌, Option, Some, None, option_map, option_and_then, codes, refl}
+use Rattle.std.specs.Prelude.{◌≡◌, ◌==◌, ◌&&◌, ◌||◌, Bool, true, false, ℕ, if◌then◌else◌, length, List, [], ◌∷◌, ◌++◌, Option, Some, None, option_map, option_and_then, codes, refl, ◌+◌, is_some}
 use Rattle.std.specs.List.{slice_split}
 use Rattle.std.specs.Str.{bytes_eq}
 use Rattle.ready_objects.specs.Number.{number_below, number_of_word}
@@ -9,6 +9,9 @@ use Rattle.judged_objects.specs.Queue.{queue_wording}
 use Rattle.judged_objects.specs.declared.queue.QueueInv.TheVariants.{Enq, Deq}
 use Rattle.judged_objects.specs.declared.queue.QueueResp.TheVariants.{Taken}
 use Rattle.lin_check.specs.declared.event.Event.{Event}
+use Rattle.history_text.specs.declared.fault.ReadError.{ReadError}
+use Rattle.history_text.specs.declared.fault.ReadError.TheVariants.{Refused, Memory}
+use Rattle.history_text.specs.Refused.{IsOnLine, IsRefusal}
 use Rattle.history_text.specs.Told.{events_of}
 use Rattle.history_text.specs.declared.history.Told.{Told}
 use Rattle.history_text.specs.declared.history.Told.TheVariants.{Begins, Ends, Ceases}
@@ -49,6 +52,30 @@ pub record AddsLine {I R : Type 0} (wording : Wording I R) (line : List ℕ) (ol
   pub more : List (Told I R)
   pub tells : line_tells wording line ≡ Some more
   pub added : new ≡ old ++ more
+
+-- the number of the first line that tells nothing and is no note, where the first one has this number
+abbrev pub first_bad : {I R : Type 0} → Wording I R → (number : ℕ) → List (List ℕ) → Option ℕ
+first_bad wording number [] = None
+first_bad wording number (line ∷ lines) = if is_some (line_tells wording line) then first_bad wording (number + 1) lines else Some number
+
+-- a refusal is of the line with this number, which tells nothing
+pub record RefusesLine {I R : Type 0} (wording : Wording I R) (line : List ℕ) (number : ℕ) (error : ReadError) : Type 0 where
+  pub on : IsOnLine number error
+  pub bad : IsRefusal error → line_tells wording line ≡ None
+
+-- a refusal is of the first line that tells nothing
+abbrev pub RefusesFirst : {I R : Type 0} → Wording I R → List (List ℕ) → ReadError → Type 0
+RefusesFirst wording lines (Refused fault) = first_bad wording 1 lines ≡ Some fault.line
+RefusesFirst wording lines Memory = Unit {0}
+
+-- a refusal is of the first line that tells nothing, where there is one
+abbrev pub NamesFirstBad : {I R : Type 0} → Wording I R → List (List ℕ) → ReadError → Type 0
+NamesFirstBad wording lines (Refused fault) = (number : ℕ) → first_bad wording 1 lines ≡ Some number → fault.line ≡ number
+NamesFirstBad wording lines Memory = Unit {0}
+
+the_second_line_is_bad : first_bad queue_wording 1 (codes "call 0 deq" ∷ codes "call 1 push 7" ∷ codes "cal" ∷ []) ≡ Some 2
+unfolding number_below number_of_word
+the_second_line_is_bad = refl
 
 -- the history that the lines are
 abbrev pub own_events : {I R : Type 0} → Wording I R → List (List ℕ) → Option (List (Event I R))

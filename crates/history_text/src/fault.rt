@@ -1,5 +1,7 @@
 //! What is wrong with a line.
 
+ghost use Rattle.history_text.specs.Refused.{IsOnLine};
+
 use std::alloc::AllocError;
 use std::error::Error;
 use std::fmt;
@@ -148,7 +150,9 @@ pub(crate) struct Spot {
 
 impl Spot {
     /// The fault of this line.
-    pub(crate) fn on(self, line: u64) -> ReadError {
+    pub(crate) fn on(self, line: u64) -> ReadError
+        ensures { IsOnLine line result }
+    {
         ReadError::Refused(Fault {
             line,
             column: (self.start as u64).saturating_add(1),

@@ -3,8 +3,8 @@
 use crate::fault::{Reason, Spot};
 use crate::tokens::{Kind, Token};
 
-/// Where a value has ended that begins at a place: after its token, or after the bracket that closes it; `None` where no
-/// bracket does.
+/// Where a value has ended that begins at a place: after its token, or after the bracket that closes it; `None` where
+/// no bracket does.
 fn value_end(tokens: &[Token<'_>], from: usize) -> Option<usize> {
     let mut depth = 0u64;
     for at in from..tokens.len() {

@@ -250,8 +250,8 @@ impl<'a, I: Drop, R: Drop> Heard<'a, I, R> {
     }
 }
 
-/// What lines of maps tell, each that isn't a note, without the calls that failed. Processes are numbered in the order in
-/// which they come.
+/// What lines of maps tell, each that isn't a note, without the calls that failed. Processes are numbered in the order
+/// in which they come.
 ///
 /// An `Err` is the first line that is refused, or says that memory was refused.
 pub(crate) fn tolds_of<O: Worded>(

@@ -1,9 +1,9 @@
 //! The lines `call P CALL`, `return P REPLY` and `lost P`.
 
-ghost use Rattle.std.specs.Prelude.{◌≡◌, IfOk, OnOk, Some, map};
+ghost use Rattle.std.specs.Prelude.{◌≡◌, IfErr, IfOk, OnOk, Some, map};
 ghost use Rattle.ready_objects.specs.Number.{number_below};
 ghost use Rattle.ready_objects.specs.Words.{bytes_of, words_of_text};
-ghost use Rattle.history_text.specs.Own.{AddsLine, told_by, told_of_words, tolds_of};
+ghost use Rattle.history_text.specs.Own.{AddsLine, RefusesFirst, RefusesLine, told_by, told_of_words, tolds_of};
 
 use crate::fault::{ReadError, Reason, Spot};
 use crate::history::{Placed, Told};
@@ -101,7 +101,8 @@ fn add_line<O: Worded>(
     line: &[u8],
     number: u64,
 ) -> Result<(), ReadError>
-    ensures { OnOk result (AddsLine O.wording line.now (map (λ placed. placed.told) tolds.old.items)
+    ensures refused { IfErr result (RefusesLine O.wording line.now number) }
+    ensures added { OnOk result (AddsLine O.wording line.now (map (λ placed. placed.told) tolds.old.items)
         (map (λ placed. placed.told) tolds.new.items)) }
 {
     if is_note(line) {
@@ -130,13 +131,14 @@ pub(crate) fn tolds_of<O: Worded>(
     alloc: Global,
     lines: &[&[u8]],
 ) -> Result<Vec<Placed<O::Inv, O::Resp>>, ReadError>
-    ensures { IfOk result (λ tolds.
+    ensures refused { IfErr result (RefusesFirst O.wording (bytes_of lines.now)) }
+    ensures told { IfOk result (λ tolds.
         tolds_of O.wording (bytes_of lines.now) ≡ Some (map (λ placed. placed.told) tolds.items)) }
 {
     let mut tolds = Vec::new(alloc);
     let mut number = 0u64;
     for line in lines {
-        number = number.saturating_add(1);
+        number += 1;
         add_line::<O>(alloc, &mut tolds, line, number)?;
     }
     Ok(tolds)

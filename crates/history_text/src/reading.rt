@@ -1,8 +1,8 @@
 //! The history of a text.
 
-ghost use Rattle.std.specs.Prelude.{◌≡◌, IfOk, Some, true};
+ghost use Rattle.std.specs.Prelude.{◌≡◌, IfErr, IfOk, Some, true};
 ghost use Rattle.ready_objects.specs.Words.{bytes_of};
-ghost use Rattle.history_text.specs.Own.{begins_own, is_own, lines_of, own_events};
+ghost use Rattle.history_text.specs.Own.{NamesFirstBad, begins_own, is_own, lines_of, own_events};
 
 use crate::fault::{ReadError, Reason, Spot};
 use crate::history::{History, history_of};
@@ -41,7 +41,8 @@ fn format_of(words: &[&[u8]]) -> Option<Format>
 ///
 /// An `Err` has that line where it is of no format, or says that memory was refused.
 fn format_in(alloc: Global, lines: &[&[u8]]) -> Result<Format, ReadError>
-    ensures { IfOk result (λ format. is_own (bytes_of lines.now) ≡ true → format ≡ Format.Own) }
+    ensures format { IfOk result (λ format. is_own (bytes_of lines.now) ≡ true → format ≡ Format.Own) }
+    ensures refused { IfErr result (λ error. is_own (bytes_of lines.now) ≡ true → error ≡ ReadError.Memory) }
 {
     let mut number = 0u64;
     for line in lines {
@@ -62,12 +63,14 @@ fn format_in(alloc: Global, lines: &[&[u8]]) -> Result<Format, ReadError>
 
 /// Reads the recorded history of an object.
 ///
-/// An `Err` is the first line that is refused: those that can't be read come first, and then the first one that a process
-/// can't do. Or it says that memory was refused.
+/// An `Err` is the first line that can't be read; or where each can be, the first one that tells what a process can't
+/// do; or it says that memory was refused.
 pub fn read_history<O: Worded>(
     alloc: Global,
     text: &[u8],
 ) -> Result<History<O::Inv, O::Resp>, ReadError>
+    ensures refused { IfErr result (λ error. is_own (lines_of text.now) ≡ true
+        → NamesFirstBad O.wording (lines_of text.now) error) }
     ensures own { IfOk result (λ history. is_own (lines_of text.now) ≡ true
         → own_events O.wording (lines_of text.now) ≡ Some history.events.items) }
 {

@@ -1,4 +1,5 @@
-//! Lines of whole calls with time stamps: `NAME CALL -> REPLY BEGIN END`, or `NAME CALL -> ? BEGIN` of one that never returned.
+//! Lines of whole calls with time stamps: `NAME CALL -> REPLY BEGIN END`, or `NAME CALL -> ? BEGIN` of one that never
+//! returned.
 
 use crate::fault::{ReadError, Reason, Spot};
 use crate::history::{Placed, Told};
