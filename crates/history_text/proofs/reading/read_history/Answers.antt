@@ -1,7 +1,6 @@
-use Rattle.std.proofs.Common.{◌≡◌, ◌∙◌, None, ap, map, subst, sym}
+use Rattle.std.proofs.Common.{◌≡◌, ◌∙◌, None, ap, map, subst}
 use Rattle.ready_objects.specs.Words.{bytes_of}
-use Rattle.history_text.specs.Own.{NamesFirstBad, first_bad, is_own, lines_of}
-use Rattle.history_text.specs.declared.reading.Format.TheVariants.{Maps, Own, Stamped}
+use Rattle.history_text.specs.Own.{first_bad, is_own, lines_of}
 use Rattle.history_text.proofs.Telling.{err_from, names_none, none_bad}
 use Rattle.history_text.proofs.reading.read_history.Goals as goal
 use Rattle.history_text.proofs.reading.read_history.Goals.{in-Maps+in_ok-tolds-in-Maps, in-Own+in_ok-tolds-in-Own, in-Stamped+in_ok-tolds-in-Stamped}
