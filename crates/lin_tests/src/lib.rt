@@ -1,5 +1,9 @@
-//! Tests of the judge of histories: its verdicts, by hand, on histories of a register that each call swaps.
+//! Tests of the judge of histories: its verdicts, by hand, and the lines that a history can't have.
 #![tactic(auto)]
 
+#[cfg(test)]
+mod bad_lines;
+#[cfg(test)]
+mod objects;
 #[cfg(test)]
 mod verdicts;

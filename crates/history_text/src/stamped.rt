@@ -1,0 +1,196 @@
+//! Lines of whole calls with time stamps: `NAME CALL -> REPLY BEGIN END`, or `NAME CALL -> ? BEGIN` of one that never
+//! returned.
+
+use crate::fault::{ReadError, Reason, Spot};
+use crate::history::{Placed, Told};
+use crate::lines::{bad_byte, bad_space, is_note, start_of, words_of};
+use crate::names::{Names, is_name};
+use judged_objects::Worded;
+use ready_objects::is_text;
+use std::alloc::{AllocError, Global};
+
+/// The form of a line.
+const FORM: &str = "NAME CALL -> REPLY BEGIN END";
+
+/// A call with its reply, and when it began and returned.
+#[derive(Drop)]
+struct Whole<'a, I: Drop, R> {
+    line: u64,
+    process: &'a [u8],
+    inv: I,
+    begins: u64,
+    end: Option<End<R>>,
+}
+
+/// How a call returned, and when.
+#[derive(Clone, Copy)]
+struct End<R> {
+    resp: R,
+    at: u64,
+}
+
+/// When something happened: of two at one time a call comes first.
+#[derive(Clone, Copy, PartialEq, Eq, PartialOrd, Ord)]
+struct Stamp {
+    at: u64,
+    is_return: bool,
+    whole: usize,
+}
+
+/// The time that a word tells.
+fn time_of(word: &[u8]) -> Option<u64> {
+    match std::str::from_utf8(word) {
+        Ok(text) => text.parse::<u64>().ok(),
+        Err(_) => None,
+    }
+}
+
+/// What is wrong at a word of a line.
+fn at(words: &[&[u8]], place: usize, reason: Reason) -> Spot {
+    Spot {
+        start: start_of(words, place),
+        reason,
+    }
+}
+
+/// How a call returned by the words after the arrow; `None` where it never did.
+fn end_of<O: Worded>(
+    words: &[&[u8]],
+    after: usize,
+    begins: u64,
+) -> Result<Option<End<O::Resp>>, Spot> {
+    let (Some(end), Some(resp)) = (
+        words.last(),
+        words.get(after..words.len().saturating_sub(2)),
+    ) else {
+        return Err(at(words, words.len(), Reason::Missing(FORM)));
+    };
+    let Some(resp) = O::read_resp(resp) else {
+        return Err(at(words, after, Reason::NoReply(O::replies())));
+    };
+    let last = words.len().saturating_sub(1);
+    match time_of(end) {
+        Some(time) if time < begins => Err(at(words, last, Reason::Backwards)),
+        Some(time) => Ok(Some(End { resp, at: time })),
+        None => Err(at(words, last, Reason::NoStamp)),
+    }
+}
+
+/// When a call began by the words after the arrow, and how it returned, if it did.
+fn times_of<O: Worded>(words: &[&[u8]], after: usize) -> Result<(u64, Option<End<O::Resp>>), Spot> {
+    let many = words.len().saturating_sub(after);
+    let is_pending = many == 2 && words.get(after).map_or(false, |word| is_text(word, "?"));
+    if many < 3 && !is_pending {
+        return Err(at(words, words.len(), Reason::Missing(FORM)));
+    }
+    let place = words.len().saturating_sub(if is_pending { 1 } else { 2 });
+    match words.get(place).and_then(|word| time_of(word)) {
+        Some(begins) if is_pending => Ok((begins, None)),
+        Some(begins) => Ok((begins, end_of::<O>(words, after, begins)?)),
+        None => Err(at(words, place, Reason::NoStamp)),
+    }
+}
+
+/// The call that the words of a line tell, or what is wrong with them.
+fn whole_of<'a, O: Worded>(
+    line: u64,
+    words: &[&'a [u8]],
+) -> Result<Whole<'a, O::Inv, O::Resp>, Spot> {
+    let process = match words.first() {
+        Some(word) if is_name(word) => *word,
+        _ => return Err(at(words, 0, Reason::NoName)),
+    };
+    let Some(arrow) = words.iter().position(|word| is_text(word, "->")) else {
+        return Err(at(words, words.len(), Reason::NoArrow));
+    };
+    let Some(inv) = words.get(1..arrow).and_then(|inv| O::read_inv(inv)) else {
+        return Err(at(words, 1, Reason::NoCall(O::calls())));
+    };
+    let (begins, end) = times_of::<O>(words, arrow.saturating_add(1))?;
+    Ok(Whole {
+        line,
+        process,
+        inv,
+        begins,
+        end,
+    })
+}
+
+/// The calls that lines tell, each that isn't a note.
+fn wholes_of<'a, O: Worded>(
+    alloc: Global,
+    lines: &[&'a [u8]],
+) -> Result<Vec<Whole<'a, O::Inv, O::Resp>>, ReadError> {
+    let mut wholes = Vec::new(alloc);
+    for (i, line) in lines.iter().enumerate() {
+        if is_note(line) {
+            continue;
+        }
+        let number = (i as u64).saturating_add(1);
+        let words = words_of(alloc, line)?;
+        if let Some(spot) = bad_byte(line).or(bad_space(words.as_slice())) {
+            return Err(spot.on(number));
+        }
+        let whole = whole_of::<O>(number, words.as_slice()).map_err(|spot| spot.on(number))?;
+        wholes.push(whole).map_err(AllocError::from)?;
+    }
+    Ok(wholes)
+}
+
+/// When calls began and returned, in order.
+fn stamps_of<I: Drop, R: Copy>(
+    alloc: Global,
+    wholes: &[Whole<'_, I, R>],
+) -> Result<Vec<Stamp>, AllocError> {
+    let mut stamps = Vec::new(alloc);
+    for (i, whole) in wholes.iter().enumerate() {
+        stamps.push(Stamp {
+            at: whole.begins,
+            is_return: false,
+            whole: i,
+        })?;
+        if let Some(end) = whole.end {
+            stamps.push(Stamp {
+                at: end.at,
+                is_return: true,
+                whole: i,
+            })?;
+        }
+    }
+    stamps.sort()?;
+    Ok(stamps)
+}
+
+/// What lines of whole calls tell, each that isn't a note, in the order of their times. Processes are numbered in that
+/// order.
+///
+/// An `Err` is the first line that is refused, or says that memory was refused.
+pub(crate) fn tolds_of<O: Worded>(
+    alloc: Global,
+    lines: &[&[u8]],
+) -> Result<Vec<Placed<O::Inv, O::Resp>>, ReadError> {
+    let wholes = wholes_of::<O>(alloc, lines)?;
+    let stamps = stamps_of(alloc, wholes.as_slice())?;
+    let mut names = Names::new(alloc);
+    let mut tolds = Vec::new(alloc);
+    for stamp in &stamps {
+        let Some(whole) = wholes.get(stamp.whole) else {
+            continue;
+        };
+        let Some(process) = names.number_of(whole.process)? else {
+            let reason = Reason::ManyProcesses;
+            return Err(Spot { start: 0, reason }.on(whole.line));
+        };
+        let told = match whole.end {
+            Some(end) if stamp.is_return => Told::Ends(process, end.resp),
+            _ => Told::Begins(process, O::copy_inv(alloc, &whole.inv)?),
+        };
+        let placed = Placed {
+            line: whole.line,
+            start: 0,
+            told,
+        };
+        tolds.push(placed).map_err(AllocError::from)?;
+    }
+    Ok(tolds)
+}

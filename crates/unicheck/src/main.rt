@@ -1,0 +1,37 @@
+//! The program: hands its words and its standard streams to `run` of `unicheck_run`, and ends with the status that it
+//! answers.
+#![tactic(auto)]
+
+use std::alloc::Global;
+use std::env::Env;
+use std::io::{ErrorKind, Write};
+use std::process::ExitCode;
+use std::{env, io};
+use unicheck_run::run;
+
+/// The argument texts, the program's name first.
+fn words<R: Env + Alloc<A = Global>>(rt: &R) -> io::Result<Vec<String>> {
+    Ok(env::args(rt)?.collect(rt.alloc())?)
+}
+
+fn main(rt: HostRuntime) -> ExitCode {
+    let mut output = rt.stdout();
+    let mut faults = rt.stderr();
+    match words(&rt) {
+        Ok(words) => ExitCode::from(run(
+            &rt,
+            words.as_slice(),
+            rt.stdin(),
+            &mut output,
+            &mut faults,
+        )),
+        Err(error) if error.kind() == ErrorKind::OutOfMemory => {
+            let _ = writeln!(faults, "out of memory");
+            ExitCode::from(4)
+        }
+        Err(_) => {
+            let _ = writeln!(faults, "an argument is not UTF-8");
+            ExitCode::from(2)
+        }
+    }
+}

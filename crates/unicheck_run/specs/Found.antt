@@ -1,0 +1,36 @@
+-- What is found of a recorded history.
+use Rattle.std.specs.Prelude.{◌+◌, ◌++◌, ◌<◌, ◌∷◌, ℕ, List, [], Option, Some, None, codes, length, take}
+use Rattle.seq_object.specs.Sequential.{Sequential}
+use Rattle.lin_check.specs.declared.event.Event.{Event}
+use Rattle.lin_check.specs.Verdicts.{IsLinearizable, IsOrder}
+use Rattle.unicheck_run.specs.declared.judging.Finding.{Finding}
+use Rattle.unicheck_run.specs.declared.judging.Finding.TheVariants.{Linearizable, NotLinearizable, GaveUp}
+
+-- the first k events are linearizable, and with the event at place k they are not
+pub record IsFirstBad {S I R : Type 0} (object : Sequential S I R) (history : List (Event I R)) (k : ℕ) : Type 0 where
+  pub within : k < length history
+  pub good : IsLinearizable object (take k history)
+  pub bad : ¬ (IsLinearizable object (take (k + 1) history))
+
+-- the event with which no order is left, where one was found
+abbrev pub IsFirstBadIf : {S I R : Type 0} → Sequential S I R → List (Event I R) → Option ℕ → Type 0
+IsFirstBadIf object history None = Unit {0}
+IsFirstBadIf object history (Some k) = IsFirstBad object history k
+
+-- what a finding says
+abbrev pub IsFound : {S I R : Type 0} → Sequential S I R → List (Event I R) → Finding → Type 0
+IsFound object history (Linearizable order) = IsOrder object history order.items
+IsFound object history (NotLinearizable first) = ¬ (IsLinearizable object history) × IsFirstBadIf object history first
+IsFound object history GaveUp = Unit {0}
+
+-- the status of a finding
+abbrev pub status_of : Finding → ℕ
+status_of (Linearizable order) = 0
+status_of (NotLinearizable first) = 1
+status_of GaveUp = 5
+
+-- the first line of what is written of it
+abbrev pub verdict_line : Finding → List ℕ
+verdict_line (Linearizable order) = codes "linearizable" ++ 10 ∷ []
+verdict_line (NotLinearizable first) = codes "not linearizable" ++ 10 ∷ []
+verdict_line GaveUp = codes "gave up" ++ 10 ∷ []

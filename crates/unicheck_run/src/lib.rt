@@ -1,0 +1,12 @@
+//! What `unicheck` does: all of the program but its `main`. It reads the words of the command line and a recorded history,
+//! and writes whether that is linearizable.
+#![tactic(auto)]
+
+mod judging;
+mod program;
+mod report;
+mod words;
+
+pub use judging::{Finding, judge};
+pub use program::{judge_text, run};
+pub use words::{ObjectName, Request};
