@@ -8,7 +8,7 @@ use Rattle.uni_any.specs.declared.attempt.Draft.{Draft}
 use Rattle.uni_any.specs.declared.block.Block.{Block}
 use Rattle.uni_any.specs.declared.seat.Held.{Held}
 use Rattle.uni_any.specs.declared.seat.Seen.{Seen}
-use Rattle.uni_any.specs.Plays.{GoesOn, Mine, has_block, local_of, with_local}
+use Rattle.uni_any.specs.Plays.{GoesOn, Mine, has_block, local_of, version_in, with_local}
 use Rattle.uni_any.specs.Invariant.{IsWhole}
 use Rattle.uni_any.specs.declared.sizes.Sizes.{Sizes}
 use Rattle.uni_any.specs.declared.view.Image.{Image}
@@ -31,7 +31,14 @@ module _ {O I S R : Type 0} where
     pub local : Local I S R
     pub is : IsWith me local me'
     pub idle : local.stage ≡ Idle
-    pub own : local.own ≡ (local_of me).own ++ record { inv = inv; reply = reply } ∷ []
+    pub own : local.own ≡ (local_of me).own ++ record {
+      inv = inv;
+      reply = reply;
+      after = (local_of me).after;
+      version = version_in local.word;
+    } ∷ []
+    pub after : local.after ≡ version_in local.word
+    pub later : (local_of me).after < version_in local.word
     pub steps : local.steps ≤ (local_of me).steps + most
 
   -- its call goes on at this stage, after at most so many word steps
@@ -40,6 +47,7 @@ module _ {O I S R : Type 0} where
     pub is : IsWith me local me'
     pub stage_is : local.stage ≡ stage
     pub own : local.own ≡ (local_of me).own
+    pub after : local.after ≡ (local_of me).after
     pub steps : local.steps ≤ (local_of me).steps + most
 
 -- A seat has read this version, and its call goes on, or has returned.
@@ -107,6 +115,7 @@ module _ {O I S R : Type 0} where
     pub image : Image S R
     pub stage_is : local.stage ≡ Reading inv tries looked image
     pub own : local.own ≡ (local_of me).own
+    pub after : local.after ≡ (local_of me).after
     pub steps : local.steps ≤ (local_of me).steps + most
 
   -- an attempt has ended the call, or has failed, or was refused memory

@@ -5,6 +5,7 @@ use Rattle.uni_any.specs.Content.{Content, Content.Asked, Content.Made, applied_
 use Rattle.uni_any.specs.Board.{Board, block_frame, call_frame, in_of, span, word_of}
 use Rattle.seq_object.specs.Sequential.{Sequential}
 use Rattle.uni_any.specs.Batch.{HasBatch, IsHistory}
+use Rattle.uni_any.specs.Order.{AreOrdered}
 use Rattle.uni_any.specs.declared.sizes.Sizes.{Sizes}
 use Rattle.uni_any.specs.declared.view.Image.{Image}
 use Rattle.uni_any.specs.declared.view.Local.{Local}
@@ -111,3 +112,4 @@ module _ {S I R : Type 0} (object : Sequential S I R) (sizes : Sizes) where
     pub board : IsBoard sizes g
     pub each : (p : ℕ) → p < sizes.processes → IsAt g p (local p)
     pub history : IsHistory object sizes g local
+    pub order : AreOrdered object g.atomic.agreed g.calls_in_version sizes.processes g.version local

@@ -1,5 +1,5 @@
 -- What a step tells the seat that takes it, and how a seat is split.
-use Rattle.std.specs.Prelude.{◌≡◌, ◌≢◌, ◌⊎◌, ℕ, ◌+◌, ◌-◌, ◌*◌, ◌%◌, ◌<◌, ◌≤◌, [], ◌∷◌, ◌++◌, Some, true, false, length, replicate, slice_set}
+use Rattle.std.specs.Prelude.{◌≡◌, ◌≢◌, ◌⊎◌, ℕ, ◌+◌, ◌-◌, ◌*◌, ◌/◌, ◌%◌, ◌<◌, ◌≤◌, [], ◌∷◌, ◌++◌, Some, true, false, length, replicate, slice_set}
 use mathlib.Core.Option.{some}
 use Rattle.atomic_table.specs.Table.{Me, Step, rest}
 use Rattle.seq_object.specs.Sequential.{Sequential}
@@ -11,13 +11,14 @@ use Rattle.uni_any.specs.declared.mail.Mail.{Mail}
 use Rattle.uni_any.specs.declared.sizes.Sizes.{Sizes}
 use Rattle.uni_any.specs.declared.view.Image.{Image}
 use Rattle.uni_any.specs.declared.view.Local.{Local}
+use Rattle.uni_any.specs.declared.view.Returned.{Returned}
 use Rattle.uni_any.specs.declared.view.Stage.{Stage}
 use Rattle.uni_any.specs.declared.view.Stage.TheVariants.{Idle, Posting, Ready, Reading, Writing}
 use Rattle.uni_any.specs.declared.view.View.{View}
 
 abbrev pub at_rest : {S I R : Type 0} → Sequential S I R → Sizes → Local I S R
 at_rest object sizes =
-    record { stage = Idle; own = []; word = 0; base = first_image object sizes; taken = replicate sizes.processes nothing_taken; steps = 0 }
+    record { stage = Idle; after = 0; own = []; word = 0; base = first_image object sizes; taken = replicate sizes.processes nothing_taken; steps = 0 }
 
 abbrev pub first_view : {O S I R : Type 0} → (meaning : O → Sequential S I R) → O → Sizes → View O I S R
 first_view meaning o sizes =
@@ -42,9 +43,22 @@ goes l stage = record l { stage = stage; steps = l.steps + 1 }
 abbrev pub has_block : {I S R : Type 0} → Local I S R → (word : ℕ) → Image S R → Local I S R
 has_block l word base = record l { word = word; base = base }
 
--- its call has returned
+-- the version that a word S names
+abbrev pub version_in : ℕ → ℕ
+version_in s = s / 4294967296
+
+-- its call that returns with this reply: it is in the version that the process has
+abbrev pub ending : {I S R : Type 0} → Local I S R → I → R → Returned I R
+ending l inv reply = record { inv = inv; reply = reply; after = l.after; version = version_in l.word }
+
+-- after that call has returned
 abbrev pub returns : {I S R : Type 0} → Local I S R → I → R → Local I S R
-returns l inv reply = record l { stage = Idle; own = l.own ++ record { inv = inv; reply = reply } ∷ []; steps = l.steps + 1 }
+returns l inv reply =
+    record l { stage = Idle; after = version_in l.word; own = l.own ++ ending l inv reply ∷ []; steps = l.steps + 1 }
+
+-- after it has asked which version has come, and found this one
+abbrev pub knows : {I S R : Type 0} → Local I S R → (version : ℕ) → Local I S R
+knows l version = record l { after = version; steps = l.steps + 1 }
 
 abbrev pub Mine : (O I S R : Type 0) → Type 0
 Mine O I S R = Me (Mail I (Block S R)) (View O I S R)
@@ -52,7 +66,7 @@ Mine O I S R = Me (Mail I (Block S R)) (View O I S R)
 -- with this block the call goes on, or returns
 abbrev pub GoesOn : {I S R : Type 0} → Local I S R → (p : ℕ) → I → (tries : ℕ) → Image S R → Local I S R → Type 0
 GoesOn {R = R} l p inv tries base l' =
-    (applied_in base p ≡ length l.own + 1 → (x : R) × ((row_in base p).reply ≡ Some x) × (l' ≡ returns l inv x))
+    (applied_in base p ≡ length l.own + 1 → (x : R) × ((row_in base p).reply ≡ Some x) × (l.after < version_in l.word) × (l' ≡ returns l inv x))
     × (applied_in base p ≢ length l.own + 1 → (applied_in base p ≡ length l.own) × (l' ≡ goes l (Reading inv tries 0 base)))
 
 abbrev pub took : {I S R : Type 0} → Local I S R → (r number : ℕ) → I → Local I S R
@@ -161,5 +175,11 @@ module _ {O I S R : Type 0} where
       (inv : I) (tries r : ℕ) (image : Image S R) → stage_of me ≡ Writing inv tries image r false
       → let l = local_of me in
       (found ≡ l.word → (x : R) × ((row_in image me.0.known.first).reply ≡ Some x) × (applied_in image me.0.known.first ≡ length l.own + 1)
+      × (l.after < version_in step.second)
       × IsLeft me (returns (has_block l step.second image) inv x) me')
       × (found ≢ l.word → IsLeft me (goes l (Ready inv (tries + 1))) me')
+
+  -- a process with no call pending asks which version has come
+  abbrev pub HasAsked : Step (Mail I (Block S R)) → Mine O I S R → ℕ → Mine O I S R → Type 0
+  HasAsked step me s me' =
+      stage_of me ≡ Idle → ((local_of me).after ≤ version_in s) × IsLeft me (knows (local_of me) (version_in s)) me'
