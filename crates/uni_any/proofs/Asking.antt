@@ -1,5 +1,5 @@
 -- The load of S between calls.
-use Rattle.uni_any.proofs.Vocabulary.{Allows, Block, Board, HasAsked, Idle, IsBoard, IsOf, IsOrdered, IsStageAt, List, Local, Mail, Mine, Sequential, ShowsBoard, Sizes, Step, ap, arith, in_of, keeps, knows, local_of, made_of, mul-le-mul_right, refl, set_at, slice_index, slice_set, stage_of, subst, sym, version_in, with_local, ℕ, ◌*◌, ◌∙◌, ◌≡◌, ◌≤◌}
+use Rattle.uni_any.proofs.Vocabulary.{Allows, Block, Board, HasAsked, Idle, IsBoard, IsOf, IsOrdered, IsStageAt, List, Local, Mail, Mine, Sequential, ShowsBoard, Sizes, Step, ap, arith, in_of, keeps, knows, local_of, mul-le-mul_right, refl, slice_index, slice_set, stage_of, subst, sym, version_in, ℕ, ◌*◌, ◌≡◌, ◌≤◌}
 use Rattle.uni_any.proofs.Frame.{Found, Given, sound_with, step_law}
 use Rattle.uni_any.proofs.Ordering.{order_with, ordered_asked}
 use Rattle.uni_any.proofs.Posting.{words_same}

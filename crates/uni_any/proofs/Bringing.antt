@@ -1,5 +1,5 @@
 -- The exchange that brings a block in: the calls that it applied take effect, and the own call returns.
-use Rattle.uni_any.proofs.Vocabulary.{AcceptsAll-append, Act, Allows, AreOrdered, AreWords, Asked, Atomic, Block, Board, Contains, Contains-append_cases, HasBrought, HasSeen, Idle, Image, Invoke, Invoked, IsAt, IsBoard, IsHistory, IsOf, IsOpen, IsOrdered, IsStageAt, IsTold, IsTrying, Linearize, List, Local, Mail, Mine, None, Option, Posting, Reading, Ready, Respond, Returned, Sequential, ShowsBoard, Sizes, Some, Stage, Step, Writing, [], acts_by, ap, append-nil, append_assoc, applied_in, arith, at_start, block_frame, call_frame, either, ending, eqb, exchanged, false, first_image, get_or-set_other, get_or-set_same, goes, has_block, image_from, in_of, inl, inr, inv_of, keeps, length, length-append, length-map, length-set, local_of, lt_cases, made_of, map, map-append, mul-le-mul_right, number_cases, pending_of, plain, refl, response_at, response_at-append, returns, row_in, sequential_acts, set_at, set_at-cases, set_at_elsewhere, set_at_same, slice_get, slice_get-append_left, slice_get-append_right, slice_index, slice_set, span, stage_of, subst, suc, sym, true, version_in, with_local, word_of, zero, ℕ, ◌*◌, ◌++◌, ◌+◌, ◌/◌, ◌<◌, ◌∙◌, ◌∷◌, ◌≡◌, ◌≢◌, ◌≤◌, ◌⊎◌}
+use Rattle.uni_any.proofs.Vocabulary.{AcceptsAll-append, Act, Allows, AreOrdered, AreWords, Asked, Atomic, Block, Board, Contains, Contains-append_cases, HasBrought, HasSeen, Idle, Image, Invoke, Invoked, IsAt, IsBoard, IsHistory, IsOf, IsOpen, IsOrdered, IsStageAt, IsTold, IsTrying, Linearize, List, Local, Mail, Mine, None, Option, Posting, Reading, Ready, Respond, Returned, Sequential, ShowsBoard, Sizes, Some, Stage, Step, Writing, [], acts_by, ap, append-nil, append_assoc, applied_in, arith, at_start, block_frame, call_frame, either, ending, eqb, exchanged, false, first_image, get_or-set_other, get_or-set_same, goes, has_block, image_from, in_of, inl, inr, inv_of, keeps, length, length-append, length-map, length-set, local_of, lt_cases, made_of, map, map-append, mul-le-mul_right, number_cases, pending_of, plain, refl, response_at, response_at-append, returns, row_in, sequential_acts, set_at, set_at-cases, set_at_elsewhere, set_at_same, slice_get, slice_get-append_left, slice_get-append_right, slice_index, slice_set, span, stage_of, subst, sym, true, version_in, with_local, word_of, ℕ, ◌*◌, ◌++◌, ◌+◌, ◌/◌, ◌<◌, ◌∙◌, ◌∷◌, ◌≡◌, ◌≢◌, ◌≤◌, ◌⊎◌}
 use Rattle.uni_any.proofs.Acts.{acts_by-append, acts_by-linearized, responded_other, responded_own, sequential_acts-snoc}
 use Rattle.uni_any.proofs.Batches.{applied_from, image_from-append, linearized, row_from, state_from, taken_from}
 use Rattle.uni_any.proofs.Frame.{Found, Given, sound_with, step_law}

@@ -1,6 +1,6 @@
 -- Seats that have made no call, in order.
 use Rattle.std.specs.Arc.{arc_value}
-use Rattle.uni_any.proofs.Vocabulary.{All, List, Sequential, Sizes, Some, View, [], ap, arith, at_rest, false, first_image, image_of, inl, inr, length, length-append, length-map, length-replicate, map, nothing_taken, pending_of, refl, replicate, slice_get, slice_index_or, subst, suc, sym, zero, ℕ, ◌++◌, ◌+◌, ◌<◌, ◌∙◌, ◌∷◌, ◌≡◌, ◌⊎◌}
+use Rattle.uni_any.proofs.Vocabulary.{All, List, Sequential, Sizes, Some, View, [], ap, arith, at_rest, false, first_image, image_of, inl, inr, length, length-append, length-map, length-replicate, map, nothing_taken, pending_of, refl, replicate, slice_get, slice_index_or, subst, suc, sym, zero, ℕ, ◌++◌, ◌+◌, ◌<◌, ◌∙◌, ◌∷◌, ◌≡◌}
 use Rattle.uni_any.proofs.Ordering.{get_snoc}
 use Rattle.uni_any.specs.Belongs.{AreFirstSeats, IsFreshSeat, IsSeatOf, StandsAt, taken_as}
 use Rattle.uni_any.specs.declared.seat.AnySeat.{AnySeat}

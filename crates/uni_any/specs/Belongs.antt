@@ -1,5 +1,6 @@
 -- Which seats are an object's, and what they have.
-use Rattle.std.specs.Prelude.{◌≡◌, ◌⊎◌, ℕ, ◌<◌, List, [], Bool, Option, None, Some, true, false, length, map, option_map, slice_get}
+use Rattle.std.specs.Prelude.{◌≡◌, ◌⊎◌, ℕ, ◌<◌, List, [], Bool, Option, None, Some, true, false}
+use Rattle.std.specs.Prelude.{length, map, option_map, slice_get}
 use Rattle.std.specs.Arc.{arc_value}
 use Rattle.uni_any.specs.Content.{image_of}
 use Rattle.uni_any.specs.Batch.{pending_of}
@@ -52,7 +53,8 @@ module _ {O I S R : Type 0} where
   abbrev pub calls_of : AnyShared O S I R → ℕ
   calls_of shared = shared.setup.sizes.calls
 
-  -- a seat's process; its calls that have returned; how many they are; the invocation of its pending call; and how many word steps it has taken
+  -- a seat's process; its calls that have returned; how many they are; the invocation of its pending call; and how
+  -- many word steps it has taken
   abbrev pub process_of : AnySeat O S I R → ℕ
   process_of seat = seat.p
 

@@ -6,10 +6,11 @@ use Rattle.uni_any.specs.Content.{Content, Content.Nothing, applied_in, blank}
 use Rattle.uni_any.specs.declared.sizes.Sizes.{Sizes}
 use Rattle.uni_any.specs.declared.view.Image.{Image}
 
--- The word S names a version and the current block, 0 for the start. Of each process: how many calls it has announced, and at which version
--- it announced the last one. What the current block is. Of each frame: what its slots are to hold, and for each reader whether its slot is
--- at home and perhaps not written (0), out with a seat (1), or at home and written (2). And what no word tells: the atomic object, its history,
--- and how many of the calls that took effect are in each version.
+-- The word S names a version and the current block, 0 for the start. Of each process: how many calls it has
+-- announced, and at which version it announced the last one. What the current block is. Of each frame: what its slots
+-- are to hold, and for each reader whether its slot is at home and perhaps not written (0), out with a seat (1), or
+-- at home and written (2). And what no word tells: the atomic object, its history, and how many of the calls that
+-- took effect are in each version.
 pub record Board (I S R : Type 0) : Type 0 where
   pub version : ℕ
   pub current : ℕ

@@ -1,5 +1,6 @@
 -- What the rule tells of a process.
-use Rattle.std.specs.Prelude.{◌≡◌, ℕ, ◌<◌, ◌≤◌, List, [], ◌∷◌, ◌++◌, Option, None, Some, Contains, length, map, slice_get}
+use Rattle.std.specs.Prelude.{◌≡◌, ℕ, ◌<◌, ◌≤◌, List, [], ◌∷◌, ◌++◌, Option, None, Some}
+use Rattle.std.specs.Prelude.{Contains, length, map, slice_get}
 use Rattle.seq_object.specs.Sequential.{Sequential}
 use Rattle.seq_object.specs.History.{state_after}
 use Rattle.uni_model.specs.AtomicObject.{AcceptsAll, Act, Atomic, Invoked, at_start}
@@ -40,8 +41,8 @@ pub record IsToldBy {O I S R : Type 0} (views : List (View O I S R)) (its : Proc
 -- The first calls_in_version v calls of that order are in version v, or all where there are fewer, and a later version
 -- has no fewer; and each known call that has returned comes after those of one version, and is among those of another
 -- one, as its seat was told.
-pub record IsLinearized {S I R : Type 0} (object : Sequential S I R) (n : ℕ) (known : List (ProcessCalls I R)) (state : S)
-    : Type 0 where
+pub record IsLinearized {S I R : Type 0} (object : Sequential S I R) (n : ℕ) (known : List (ProcessCalls I R))
+    (state : S) : Type 0 where
   pub acts : List (Act I R)
   pub atomic : Atomic S I
   pub accepted : AcceptsAll object (at_start object.initial) acts atomic

@@ -1,5 +1,6 @@
 -- The order in which calls took effect, and versions.
-use Rattle.std.specs.Prelude.{◌≡◌, refl, ℕ, ◌<◌, ◌≤◌, List, [], ◌∷◌, Some, length, map, slice_get}
+use Rattle.std.specs.Prelude.{◌≡◌, refl, ℕ, ◌<◌, ◌≤◌, List, [], ◌∷◌, Some, length, map}
+use Rattle.std.specs.Prelude.{slice_get}
 use Rattle.seq_object.specs.Sequential.{Sequential}
 use Rattle.seq_object.specs.History.{response_at}
 use Rattle.uni_model.specs.AtomicObject.{Invoked}
@@ -21,7 +22,8 @@ module _ {S I R : Type 0} (object : Sequential S I R) (agreed : List (Invoked I)
   -- calls that took effect come after all that are in its version `after`.
   pub record IsOrdered (present p after : ℕ) (own : List (Returned I R)) : Type 0 where
     pub reached : after ≤ present
-    pub later : (c : Invoked I) (place : ℕ) → slice_get agreed place ≡ Some c → c.process ≡ p → length own ≤ c.nth
+    pub later : (c : Invoked I) (place : ℕ) → slice_get agreed place ≡ Some c → c.process ≡ p
+        → length own ≤ c.nth
         → calls_in_version after ≤ place
     pub known : (k : ℕ) (call : Returned I R) → slice_get own k ≡ Some call → call.version ≤ present
     pub stand : (k : ℕ) (call : Returned I R) → slice_get own k ≡ Some call → StandsIn p k call

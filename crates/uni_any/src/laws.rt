@@ -1,5 +1,6 @@
 //! What the rule means, each law the contract of a function with an empty body.
-ghost use Rattle.std.specs.Prelude.{◌≡◌, Contains, List, Some, ℕ, ◌<◌, ◌+◌, ◌≤◌, slice_get, slice_index};
+ghost use Rattle.std.specs.Prelude.{◌≡◌, Contains, List, Some, ℕ, ◌<◌, ◌+◌, ◌≤◌};
+ghost use Rattle.std.specs.Prelude.{slice_get, slice_index};
 ghost use Rattle.atomic_table.specs.Table.{State};
 ghost use Rattle.uni_any.specs.Board.{Board, in_of};
 ghost use Rattle.uni_any.specs.Final.{IsLinearized, IsToldBy, ProcessCalls};
