@@ -1,6 +1,7 @@
 -- The step that announces a call.
 use Rattle.uni_any.proofs.Vocabulary.{AcceptsAll-append, Allows, AreWords, Block, Board, HasAnnounced, HasSeen, Image, Invoke, IsAt, IsBoard, IsHistory, IsTold, None, Option, Returned, Sequential, Some, [], ap, at_start, pending_of, ◌++◌, ◌∷◌, IsOf, IsReader, IsStageAt, List, Local, Mail, Mine, Posting, Ready, ShowsBoard, Sizes, Stage, Step, arith, call_frame, false, get_or-set_other, get_or-set_same, goes, in_of, inl, inr, keeps, length-set, local_of, made_of, number_cases, refl, set_at, set_at-cases, set_at_elsewhere, set_at_same, slice_index, slice_set, stage_of, subst, sym, with_local, ℕ, ◌+◌, ◌<◌, ◌∙◌, ◌≡◌, ◌≢◌, ◌≤◌}
 use Rattle.uni_any.proofs.Frame.{Found, Given, sound_with, step_law}
+use Rattle.uni_any.proofs.Ordering.{order_kept}
 use Rattle.uni_any.proofs.Slots.{slots_kept}
 use Rattle.uni_any.proofs.Stays.{stage_stays}
 use mathlib.Core.Option.{Option as Maybe}
@@ -209,7 +210,8 @@ module _ {O I S R : Type 0} (meaning : O → Sequential S I R) (o : O) (sizes : 
       local' = goes l (Ready inv 0);
       act = keeps;
       valid = tt;
-      sound = sound_with (meaning o) sizes g g' local q0 (goes l (Ready inv 0)) f.sound board' others' mine' history';
+      sound = sound_with (meaning o) sizes g g' local q0 (goes l (Ready inv 0)) f.sound board' others' mine' history'
+          (order_kept (meaning o) sizes.processes g.atomic.agreed g.calls_in_version g.version local f.sound.order q0 l (goes l (Ready inv 0)) f.inside f.local_is refl refl);
       words_are = words';
       slots_are = slots_kept sizes g g' homes f.slots_are (λ e r. ((λ n. n), (λ full. (full, refl))));
       said = λ inv' r stage'.

@@ -1,21 +1,16 @@
 -- The exchange that brings a block in: the calls that it applied take effect, and the own call returns.
-use Rattle.uni_any.proofs.Vocabulary.{AcceptsAll-append, Act, Allows, AreWords, Asked, Atomic, Block, Board, Contains, Contains-append_cases, HasBrought, HasSeen, Idle, Image, Invoke, Invoked, IsAt, IsBoard, IsHistory, IsOf, IsOpen, IsStageAt, IsTold, IsTrying, Linearize, List, Local, Mail, Mine, None, Option, Posting, Reading, Ready, Respond, Returned, Sequential, ShowsBoard, Sizes, Some, Stage, Step, Writing, [], acts_by, ap, append-nil, append_assoc, applied_in, arith, at_start, block_frame, call_frame, either, eqb, exchanged, false, first_image, get_or-set_other, get_or-set_same, goes, has_block, image_from, in_of, inl, inr, inv_of, keeps, length, length-append, length-map, length-set, local_of, lt_cases, made_of, map, map-append, mul-le-mul_right, number_cases, pending_of, plain, refl, response_at, response_at-append, returns, row_in, sequential_acts, set_at, set_at-cases, set_at_elsewhere, set_at_same, slice_get, slice_get-append_left, slice_get-append_right, slice_index, slice_set, span, stage_of, subst, suc, sym, true, with_local, word_of, zero, ℕ, ◌*◌, ◌++◌, ◌+◌, ◌/◌, ◌<◌, ◌∙◌, ◌∷◌, ◌≡◌, ◌≢◌, ◌≤◌, ◌⊎◌}
+use Rattle.uni_any.proofs.Vocabulary.{AcceptsAll-append, Act, Allows, AreOrdered, AreWords, Asked, Atomic, Block, Board, Contains, Contains-append_cases, HasBrought, HasSeen, Idle, Image, Invoke, Invoked, IsAt, IsBoard, IsHistory, IsOf, IsOpen, IsOrdered, IsStageAt, IsTold, IsTrying, Linearize, List, Local, Mail, Mine, None, Option, Posting, Reading, Ready, Respond, Returned, Sequential, ShowsBoard, Sizes, Some, Stage, Step, Writing, [], acts_by, ap, append-nil, append_assoc, applied_in, arith, at_start, block_frame, call_frame, either, ending, eqb, exchanged, false, first_image, get_or-set_other, get_or-set_same, goes, has_block, image_from, in_of, inl, inr, inv_of, keeps, length, length-append, length-map, length-set, local_of, lt_cases, made_of, map, map-append, mul-le-mul_right, number_cases, pending_of, plain, refl, response_at, response_at-append, returns, row_in, sequential_acts, set_at, set_at-cases, set_at_elsewhere, set_at_same, slice_get, slice_get-append_left, slice_get-append_right, slice_index, slice_set, span, stage_of, subst, sym, true, version_in, with_local, word_of, ℕ, ◌*◌, ◌++◌, ◌+◌, ◌/◌, ◌<◌, ◌∙◌, ◌∷◌, ◌≡◌, ◌≢◌, ◌≤◌, ◌⊎◌}
 use Rattle.uni_any.proofs.Acts.{acts_by-append, acts_by-linearized, responded_other, responded_own, sequential_acts-snoc}
 use Rattle.uni_any.proofs.Batches.{applied_from, image_from-append, linearized, row_from, state_from, taken_from}
 use Rattle.uni_any.proofs.Frame.{Found, Given, sound_with, step_law}
 use Rattle.uni_any.proofs.Announcing.{reader_goes}
+use Rattle.uni_any.proofs.Ordering.{in_next, order_grown, order_kept, order_with, ordered_returned, response_stays, version_rises}
 use Rattle.uni_any.proofs.Posting.{words_same}
 use Rattle.uni_any.proofs.Slots.{block_number, row_and_column, slots_kept}
 use Rattle.uni_any.proofs.Stays.{stage_stays}
 use Rattle.uni_any.proofs.Sums.{rows_rise}
 use Rattle.uni_any.proofs.Takings.{history_taken}
 use mathlib.Core.Option.{Option as Maybe}
-
--- a response stays when the log grows
-response_stays : {S I R : Type 0} (object : Sequential S I R) (s : S) (is js : List I) (place : ℕ) (r : R) → response_at object s is place ≡ Some r → response_at object s (is ++ js) place ≡ Some r
-response_stays object s [] js place r e = absurd (let f = e in cc)
-response_stays object s (i ∷ is) js zero r e = e
-response_stays object s (i ∷ is) js (suc place) r e = response_stays object (object.next s i) is js place r e
 
 -- a call that was seen is open
 open_of : {S I R : Type 0} (object : Sequential S I R) (sizes : Sizes) (g : Board I S R) (q : ℕ) (l : Local I S R) (stage : Stage I S R) (c : Invoked I) → IsStageAt object sizes g q l stage → IsTold object g q l.own (pending_of stage)
@@ -94,7 +89,8 @@ module _ {O I S R : Type 0} (meaning : O → Sequential S I R) (o : O) (sizes : 
         );
         apart = f.mine.apart;
         reader = reader_goes sizes g q0 l (Ready inv (tries + 1)) f.mine.reader;
-      }) (history_taken object sizes g local q0 g.slot l (goes l (Ready inv (tries + 1))) f.local_is refl (sym (ap pending_of stage)) f.sound.history);
+      }) (history_taken object sizes g local q0 g.slot l (goes l (Ready inv (tries + 1))) f.local_is refl (sym (ap pending_of stage)) f.sound.history)
+          (order_kept object sizes.processes g.atomic.agreed g.calls_in_version g.version local f.sound.order q0 l (goes l (Ready inv (tries + 1))) f.inside f.local_is refl refl);
       words_are = words_same sizes g g words 0 refl refl refl f.words_are;
       slots_are = f.slots_are;
       said = λ inv' tries' r' image' stage'.
@@ -141,7 +137,14 @@ module _ {O I S R : Type 0} (meaning : O → Sequential S I R) (o : O) (sizes : 
       acts2 = (g.acts ++ map (λ c. Linearize c) calls) ++ Respond q0 m x ∷ []
 
       abbrev g' : Board I S R
-      g' = record g { version = g.version + 1; current = b + 1; image = image; atomic = atomic2; acts = acts2 }
+      g' = record g {
+        version = g.version + 1;
+        current = b + 1;
+        image = image;
+        atomic = atomic2;
+        acts = acts2;
+        calls_in_version = in_next object sizes.processes g.atomic.agreed g.calls_in_version g.version local f.sound.order calls;
+      }
 
       abbrev l' : Local I S R
       l' = returns (has_block l st.second image) inv x
@@ -263,7 +266,7 @@ module _ {O I S R : Type 0} (meaning : O → Sequential S I R) (o : O) (sizes : 
         was_told.1 ∙ sym longer,
         responded_own q0 m x (g.acts ++ map (λ c. Linearize c) calls) ∙ ap (λ js. js ++ Respond q0 m x ∷ []) (acts_lin q0 ∙ was_told.2)
             ∙ append_assoc (sequential_acts q0 0 (map plain l.own)) (Invoke q0 m inv ∷ []) (Respond q0 m x ∷ [])
-            ∙ sym (sequential_acts-snoc q0 0 l.own (record { inv = inv; reply = x }) ∙ (λ k. sequential_acts q0 0 (map plain l.own) ++ Invoke q0 ((let z : m + 0 ≡ m = omega arith in z) k) inv ∷ Respond q0 ((let z : m + 0 ≡ m = omega arith in z) k) x ∷ [])),
+            ∙ sym (sequential_acts-snoc q0 0 l.own (ending (has_block l st.second image) inv x) ∙ (λ k. sequential_acts q0 0 (map plain l.own) ++ Invoke q0 ((let z : m + 0 ≡ m = omega arith in z) k) inv ∷ Respond q0 ((let z : m + 0 ≡ m = omega arith in z) k) x ∷ [])),
       )
 
       history' : IsHistory object sizes g' (set_at local q0 l')
@@ -293,6 +296,29 @@ module _ {O I S R : Type 0} (meaning : O → Sequential S I R) (o : O) (sizes : 
             ];
           }
 
+      abbrev order1 : AreOrdered object g'.atomic.agreed g'.calls_in_version sizes.processes g'.version local
+      order1 = order_grown object sizes.processes g.atomic.agreed g.calls_in_version g.version local f.sound.order calls
+
+      mine_ordered : IsOrdered object g'.atomic.agreed g'.calls_in_version g'.version q0 l.after l.own
+      mine_ordered = subst (λ (z : Local I S R). IsOrdered object g'.atomic.agreed g'.calls_in_version g'.version q0 z.after z.own) f.local_is (order1.each q0 f.inside)
+
+      present : version_in st.second ≡ g'.version
+      present = (let e = word in let a = block_number sizes q0 m f.inside at.0.0 in let c : sizes.processes * sizes.calls ≤ 64 * sizes.calls = mul-le-mul_right sizes.calls f.few.1 in let d = f.few.2 in omega arith)
+
+      follows_less : l.after < version_in st.second
+      follows_less =
+          let own = taken' q0 l.own inv f.inside opened was_told x in_now reply.1 in
+          let less = version_rises object sizes.processes g'.atomic.agreed g'.calls_in_version g'.version local order1 q0 l.after l.own mine_ordered inv x own.0 own.1 in
+          (let e = present in omega (arith, less))
+
+      order' : AreOrdered object g'.atomic.agreed g'.calls_in_version sizes.processes g'.version (set_at local q0 l')
+      order' =
+          let own = taken' q0 l.own inv f.inside opened was_told x in_now reply.1 in
+          let returned = ordered_returned object sizes.processes g'.atomic.agreed g'.calls_in_version g'.version local order1 q0 l.after l.own mine_ordered inv x own.0 own.1 own.2
+          (λ c has mine. let b = (history'.agreed c has).1 in let e : in_of g' c.process ≡ in_of g' q0 = ap (in_of g') mine in let d = in_now in omega arith) in
+          order_with object sizes.processes g'.atomic.agreed g'.calls_in_version g'.version local order1 q0 l'
+          (subst (λ v. IsOrdered object g'.atomic.agreed g'.calls_in_version g'.version q0 v (l.own ++ record { inv = inv; reply = x; after = l.after; version = v } ∷ [])) (sym present) returned)
+
       words' : AreWords sizes g' (slice_set words 0 st.second)
       words' =
           let are = f.words_are in
@@ -308,7 +334,7 @@ module _ {O I S R : Type 0} (meaning : O → Sequential S I R) (o : O) (sizes : 
         local' = l';
         act = keeps;
         valid = tt;
-        sound = sound_with object sizes g g' local q0 l' f.sound board' others' mine' history';
+        sound = sound_with object sizes g g' local q0 l' f.sound board' others' mine' history' order';
         words_are = words';
         slots_are = slots_kept sizes g g' homes f.slots_are (λ e r. ((λ n. n), (λ full. (full, refl))));
         said = λ inv' tries' r' image' stage'.
@@ -318,6 +344,7 @@ module _ {O I S R : Type 0} (meaning : O → Sequential S I R) (o : O) (sizes : 
                 x,
                 ap (λ (z : Image S R). (row_in z q0).reply) (sym e3) ∙ reply.1,
                 ap (λ (z : Image S R). applied_in z q0) (sym e3) ∙ in_now,
+                follows_less,
                 (λ k. (with_local me.0 (returns (has_block l st.second (e3 k)) (e0 k) x), me.1)),
               )),
               (λ n. absurd (n same)),

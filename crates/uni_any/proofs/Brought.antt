@@ -36,6 +36,7 @@ module _ {O I S R : Type 0} (o : O) (sizes : Sizes) (p : ℕ) (inv : I) (tries :
           is = with_more me me1 me2 (λ l. goes l (Ready inv (tries + 1))) laid first (ap (λ (m : Mine O I S R). m.0) left);
           stage_is = refl;
           own = refl;
+          after = refl;
           steps = omega arith;
         }
 
@@ -49,7 +50,7 @@ module _ {O I S R : Type 0} (o : O) (sizes : Sizes) (p : ℕ) (inv : I) (tries :
         let t = (told_it inv tries n image laid_stage).0 (same ∙ sym laid_word) in (
           t.0,
           ap (λ k. (row_in image k).reply) (sym laid_of.first) ∙ t.1,
-          with_more me me1 me2 (λ l. returns (has_block l st.second image) inv t.0) laid first (ap (λ (m : Mine O I S R). m.0) t.3),
+          with_more me me1 me2 (λ l. returns (has_block l st.second image) inv t.0) laid first (ap (λ (m : Mine O I S R). m.0) t.4),
         )
 
     pub brought_with : found ≡ (local_of me).word → (x : R) → (row_in image p).reply ≡ Some x → IsWith me (returns (has_block laid st.second image) inv x) me2
@@ -63,5 +64,7 @@ module _ {O I S R : Type 0} (o : O) (sizes : Sizes) (p : ℕ) (inv : I) (tries :
       is = brought_with same x reply;
       idle = refl;
       own = refl;
+      after = refl;
+      later = (let e = ap (λ (v : View O I S R). v.known.local.after) first in let t = (told_it inv tries n image laid_stage).0 (same ∙ sym laid_word) in let f = t.3 in omega arith);
       steps = omega arith;
     }

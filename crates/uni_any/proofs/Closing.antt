@@ -1,6 +1,7 @@
 -- What a closed table shows.
-use Rattle.uni_any.proofs.Vocabulary.{Block, Board, IsOf, IsReader, IsShown, List, Made, Mail, Mine, Sequential, ShowsBoard, Sizes, State, View, [], ap, arith, block_frame, get_elem?, local_of, mul-le-mul_right, pending_of, slice_index, slot_of, some, some-injective, some-ne-none, stage_of, subst, sym, told, word_of, ℕ, ◌%◌, ◌*◌, ◌+◌, ◌-◌, ◌<◌, ◌∙◌, ◌∷◌, ◌≡◌, ◌≢◌, ◌≤◌}
-use Rattle.uni_any.specs.Final.{IsLinearized}
+use Rattle.uni_any.proofs.Vocabulary.{Block, Board, IsOf, IsReader, IsShown, List, Made, Mail, Mine, Sequential, ShowsBoard, Sizes, State, View, [], ap, arith, block_frame, get_elem?, inl, inr, local_of, mul-le-mul_right, pending_of, refl, slice_index, slot_of, some, some-injective, some-ne-none, stage_of, subst, sym, told, word_of, ℕ, ◌%◌, ◌*◌, ◌+◌, ◌-◌, ◌<◌, ◌∙◌, ◌∷◌, ◌≡◌, ◌≢◌, ◌≤◌}
+use Rattle.uni_any.specs.Final.{IsLinearized, IsToldBy, ProcessCalls}
+use Rattle.uni_any.proofs.Batches.{contains_cons, not_empty}
 use Rattle.uni_any.proofs.Meaning.{linearized_at}
 use Rattle.uni_any.proofs.Slots.{block_inside}
 
@@ -21,10 +22,16 @@ module _ {O I S R : Type 0} (meaning : O → Sequential S I R) (o : O) (sizes : 
   s_is : slice_index words 0 ≡ word_of g.version g.current
   s_is = ap (λ ws. slice_index ws 0) (sym words_are) ∙ is.words.current
 
-  pub closed_linearized : (state : S) → g.image.state ≡ state → IsLinearized (meaning o) sizes.processes p (local_of me).own (pending_of (stage_of me)) state
-  closed_linearized state e = subst (λ z. IsLinearized (meaning o) sizes.processes p (local_of me).own (pending_of (stage_of me)) z) e
-      (subst (λ k. IsLinearized (meaning o) sizes.processes k (local_of me).own (pending_of (stage_of me)) g.image.state) of.first
-      (linearized_at meaning o sizes g holds.1.0 holds.1.1.0 last is id me.0 seen of.alone))
+  -- what the seat tells of its process
+  abbrev pub told_calls : ProcessCalls I R
+  told_calls = record { process = p; own = (local_of me).own; pending = pending_of (stage_of me) }
+
+  pub closed_linearized : (state : S) → g.image.state ≡ state → IsLinearized (meaning o) sizes.processes (told_calls ∷ []) state
+  closed_linearized state e = subst (λ z. IsLinearized (meaning o) sizes.processes (told_calls ∷ []) z) e
+      (linearized_at meaning o sizes g holds.1.0 holds.1.1.0 last is (told_calls ∷ []) (λ its has. elim (contains_cons told_calls [] its has) [
+        | inl same ↦ subst (λ (z : ProcessCalls I R). IsToldBy last.views z) same (record { id = id; view = me.0; there = seen; alone = of.alone; process = of.first; own = refl; pending = refl })
+        | inr none ↦ absurd (not_empty its none)
+      ]))
 
   pub closed_same : (local_of me).word ≡ slice_index words 0 → (local_of me).base ≡ g.image
   closed_same same = reader.same (same ∙ s_is)

@@ -1,5 +1,5 @@
 -- How an attempt goes on, and how a call ends.
-use Rattle.uni_any.proofs.Vocabulary.{Image, IsOf, List, Local, Mine, None, Option, Reading, Ready, Returned, Sizes, Some, Stage, View, [], ap, applied_in, arith, goes, has_block, image_of, inl, inr, length, local_of, made_of, map, number_cases, refl, returns, row_in, stage_of, subst, sym, with_local, ℕ, ◌++◌, ◌+◌, ◌∙◌, ◌∷◌, ◌≡◌, ◌≢◌, ◌≤◌}
+use Rattle.uni_any.proofs.Vocabulary.{Image, IsOf, List, Local, Mine, None, Option, Reading, Ready, Returned, Sizes, Some, Stage, View, [], ap, applied_in, arith, goes, has_block, image_of, inl, inr, length, local_of, made_of, map, number_cases, refl, returns, row_in, stage_of, subst, sym, version_in, with_local, ℕ, ◌++◌, ◌+◌, ◌∙◌, ◌∷◌, ◌≡◌, ◌≢◌, ◌≤◌}
 use Rattle.std.proofs.lemmas.Option.{same_Some}
 use Rattle.std.specs.Prelude.{Err, IfNone, IfSome, IsErr, Ok, Result}
 use Rattle.std.proofs.lemmas.Bool.{false≢true}
@@ -21,6 +21,9 @@ module _ {O I S R : Type 0} (me me1 : Mine O I S R) (stage : Stage I S R) (a : �
   pub on_own : (local_of me1).own ≡ (local_of me).own
   on_own = ap (λ (l : Local I S R). l.own) on_local ∙ first.own
 
+  on_after : (local_of me1).after ≡ (local_of me).after
+  on_after = ap (λ (l : Local I S R). l.after) on_local ∙ first.after
+
   pub on_made : made_of me1 ≡ made_of me
   on_made = ap (λ (xs : List (Returned I R)). length xs) on_own
 
@@ -39,7 +42,9 @@ module _ {O I S R : Type 0} (me me1 : Mine O I S R) (stage : Stage I S R) (a : �
     local = h.local;
     is = on_with me2 h.local h.is;
     idle = h.idle;
-    own = h.own ∙ ap (λ (xs : List (Returned I R)). xs ++ record { inv = inv; reply = x } ∷ []) on_own;
+    own = h.own ∙ (λ k. on_own k ++ record { inv = inv; reply = x; after = on_after k; version = version_in h.local.word } ∷ []);
+    after = h.after;
+    later = (let e = on_after in let f = h.later in omega arith);
     steps = (let e = on_steps in let f = h.steps in omega (arith, few));
   }
 
@@ -49,6 +54,7 @@ module _ {O I S R : Type 0} (me me1 : Mine O I S R) (stage : Stage I S R) (a : �
     is = on_with me2 h.local h.is;
     stage_is = h.stage_is;
     own = h.own ∙ on_own;
+    after = h.after ∙ on_after;
     steps = (let e = on_steps in let f = h.steps in omega (arith, few));
   }
 
@@ -61,6 +67,7 @@ module _ {O I S R : Type 0} (me me1 : Mine O I S R) (stage : Stage I S R) (a : �
     image = h.image;
     stage_is = h.stage_is;
     own = h.own ∙ on_own;
+    after = h.after ∙ on_after;
     steps = (let e = on_steps in let f = h.steps in omega (arith, few));
   }
 
@@ -74,6 +81,7 @@ left_here me me1 inv tries looked image a most h few = record {
   image = image;
   stage_is = h.stage_is;
   own = h.own;
+  after = h.after;
   steps = (let f = h.steps in omega (arith, few));
 }
 
@@ -83,12 +91,14 @@ module _ {O I S R : Type 0} (sizes : Sizes) (p : ℕ) (inv : I) (tries : ℕ) (m
   read_ends x most in_is reply few =
       let r = has.on.0 in_is in
       let same : r.0 ≡ x = same_Some r.0 x (sym r.1 ∙ reply) in
-      let is : has.local ≡ returns (has_block (local_of me) held.word (image_held held)) inv x = r.2 ∙ ap (λ (y : R). returns (has_block (local_of me) held.word (image_held held)) inv y) same in
+      let is : has.local ≡ returns (has_block (local_of me) held.word (image_held held)) inv x = r.3 ∙ ap (λ (y : R). returns (has_block (local_of me) held.word (image_held held)) inv y) same in
       record {
         local = returns (has_block (local_of me) held.word (image_held held)) inv x;
         is = has.is ∙ ap (λ (l : Local I S R). with_local me.0 l) is;
         idle = refl;
         own = refl;
+        after = refl;
+        later = r.2;
         steps = omega (arith, few);
       }
 
@@ -100,6 +110,7 @@ module _ {O I S R : Type 0} (sizes : Sizes) (p : ℕ) (inv : I) (tries : ℕ) (m
         is = has.is ∙ ap (λ (l : Local I S R). with_local me.0 l) r.1;
         stage_is = refl;
         own = refl;
+        after = refl;
         steps = omega arith;
       }
 
@@ -110,7 +121,7 @@ module _ {O I S R : Type 0} (sizes : Sizes) (p : ℕ) (inv : I) (tries : ℕ) (m
   read_has old seen was = elim (number_cases (applied_in (image_held held) p) (length (local_of me).own + 1)) [
     | inl same ↦
         let r = has.on.0 same.0 in
-        let is = here ∙ r.2 in
+        let is = here ∙ r.3 in
         record {
           word = ap (λ (l : Local I S R). l.word) is;
           base = ap (λ (l : Local I S R). l.base) is;
@@ -134,6 +145,7 @@ module _ {O I S R : Type 0} (sizes : Sizes) (inv : I) (tries : ℕ) (result : Re
     is = has.is;
     stage_is = refl;
     own = refl;
+    after = refl;
     steps = (let m = has.most in omega arith);
   }
 
@@ -162,11 +174,12 @@ left_more me me1 inv a most h few = record {
   image = h.image;
   stage_is = h.stage_is;
   own = h.own;
+  after = h.after;
   steps = (let f = h.steps in omega (arith, few));
 }
 
 pub ended_more : {O I S R : Type 0} (me me1 : Mine O I S R) (inv : I) (x : R) (a most : ℕ) → HasEnded me inv x a me1 → a ≤ most → HasEnded me inv x most me1
-ended_more me me1 inv x a most h few = record { local = h.local; is = h.is; idle = h.idle; own = h.own; steps = (let f = h.steps in omega (arith, few)) }
+ended_more me me1 inv x a most h few = record { local = h.local; is = h.is; idle = h.idle; own = h.own; after = h.after; later = h.later; steps = (let f = h.steps in omega (arith, few)) }
 
 -- an attempt ends with its exchange
 pub tried_of : {O I S R : Type 0} (me me1 me2 : Mine O I S R) (stage : Stage I S R) (a : ℕ) (first : GoesOnTo me stage a me1) (inv : I) (tries b most : ℕ) (result : Option R)

@@ -1,15 +1,16 @@
 -- A word step of a seat of one process keeps the rule: what has to be shown of the board.
-use Rattle.uni_any.proofs.Vocabulary.{Sequential, Setup, Allows, AreFew, AreSlots, AreWords, Block, Board, IsAt, IsBoard, IsHistory, IsShown, IsSound, List, Local, Mail, Mine, ShowsBoard, Sizes, State, Tells, Valid, View, ap, arith, at_set, carried_after, get_elem?, homes_after, inl, inr, set, set_at, set_at-cases, set_at_elsewhere, set_at_same, slice_index, slice_set, some, subst, sym, with_local, ℕ, ⊎_elim, ◌<◌, ◌∙◌, ◌≡◌, ◌≢◌}
+use Rattle.uni_any.proofs.Vocabulary.{Sequential, Setup, Allows, AreFew, AreOrdered, AreSlots, AreWords, Block, Board, IsAt, IsBoard, IsHistory, IsShown, IsSound, List, Local, Mail, Mine, ShowsBoard, Sizes, State, Tells, Valid, View, ap, arith, at_set, carried_after, get_elem?, homes_after, inl, inr, set, set_at, set_at-cases, set_at_elsewhere, set_at_same, slice_index, slice_set, some, subst, sym, with_local, ℕ, ⊎_elim, ◌<◌, ◌∙◌, ◌≡◌, ◌≢◌}
 use Rattle.atomic_table.specs.Table.{Act}
 use mathlib.Core.Option.{Option}
 
 -- one process gets another local, and the others stay where they are
 pub sound_with : {I S R : Type 0} (object : Sequential S I R) (sizes : Sizes) (g g' : Board I S R) (local : ℕ → Local I S R) (p : ℕ) (l' : Local I S R) → IsSound object sizes g local
     → IsBoard sizes g' → ((q : ℕ) → q < sizes.processes → q ≢ p → IsAt object sizes g q (local q) → IsAt object sizes g' q (local q)) → IsAt object sizes g' p l'
-    → IsHistory object sizes g' (set_at local p l') → IsSound object sizes g' (set_at local p l')
-sound_with object sizes g g' local p l' sound board others mine history = record {
+    → IsHistory object sizes g' (set_at local p l') → AreOrdered object g'.atomic.agreed g'.calls_in_version sizes.processes g'.version (set_at local p l') → IsSound object sizes g' (set_at local p l')
+sound_with object sizes g g' local p l' sound board others mine history order = record {
   board = board;
   history = history;
+  order = order;
   each = λ q inside. elim (set_at-cases local p l' q) [
     | inl here ↦ subst (λ l. IsAt object sizes g' q l) (sym here.1) (subst (λ k. IsAt object sizes g' k l') (sym here.0) mine)
     | inr other ↦ subst (λ l. IsAt object sizes g' q l) (sym other.1) (others q inside other.0 (sound.each q inside))

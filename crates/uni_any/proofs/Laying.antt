@@ -1,6 +1,7 @@
 -- The steps that lay out a block.
 use Rattle.uni_any.proofs.Vocabulary.{Allows, AreHome, AreSlots, Block, Board, HasLaid, HasLaidOpen, HoldsBlock, Image, IsAt, IsLaid, IsLaying, IsOf, IsOpen, IsStageAt, IsTrying, List, Local, Made, Mail, Mine, Reading, Sequential, ShowsBoard, Sizes, Some, Step, Valid, Writing, applied_in, length, ap, arith, block_frame, call_frame, carried_after, false, frames_of, gives, goes, homes_after, inl, inr, local_of, made_of, number_cases, pending_of, refl, rest, set_at, set_at_elsewhere, set_at_same, slice_index, slice_set, slot_of, stage_of, subst, sym, takes, true, with_local, ℕ, ◌*◌, ◌+◌, ◌<◌, ◌∙◌, ◌∷◌, ◌≡◌, ◌≢◌}
 use Rattle.uni_any.proofs.Frame.{Found, Given, sound_with, step_law}
+use Rattle.uni_any.proofs.Ordering.{order_kept}
 use Rattle.uni_any.proofs.Slots.{block_inside, block_number}
 use Rattle.uni_any.proofs.Announcing.{reader_goes}
 use Rattle.uni_any.proofs.Frames.{board_framed, content_else, framed, given_framed, history_framed, laid_closed, laid_open, others_framed, reader_framed, slots_else, taken_framed, trying_framed}
@@ -91,7 +92,8 @@ module _ {O I S R : Type 0} (meaning : O → Sequential S I R) (o : O) (sizes : 
             (board_framed object sizes g f0 q0 row (Made image) theirs asked current f.sound.board)
             (others_framed object sizes g f0 q0 row (Made image) theirs asked current local)
             (mine_laying count out laid)
-            (history_framed object sizes g f0 q0 row (Made image) theirs asked current local l (goes l (Writing inv tries image count out)) f.local_is refl (sym pending) f.sound.history);
+            (history_framed object sizes g f0 q0 row (Made image) theirs asked current local l (goes l (Writing inv tries image count out)) f.local_is refl (sym pending) f.sound.history)
+            (order_kept object sizes.processes g.atomic.agreed g.calls_in_version g.version local f.sound.order q0 l (goes l (Writing inv tries image count out)) f.inside f.local_is refl refl);
         words_are = words_same sizes g g' words i refl refl refl f.words_are;
         slots_are = are;
         said = said;

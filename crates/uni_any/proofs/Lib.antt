@@ -1,5 +1,6 @@
 pub mod Vocabulary
 pub mod Acts
+pub mod Ordering
 pub mod Frame
 pub mod Slots
 pub mod Stays
@@ -12,6 +13,7 @@ pub mod Takings
 pub mod Starting
 pub mod Batches
 pub mod Looking
+pub mod Asking
 pub mod Bringing
 pub mod Opening
 pub mod Seating

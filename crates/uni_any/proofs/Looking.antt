@@ -4,6 +4,7 @@ use Rattle.uni_any.specs.declared.view.Taken.{Taken}
 use Rattle.uni_any.specs.declared.view.Stage.TheVariants.{Idle, Posting, Ready, Writing}
 use Rattle.uni_any.proofs.Batches.{contains_cons, image_from-append, not_empty, rising_snoc, row_else, row_here}
 use Rattle.uni_any.proofs.Frame.{Found, Given, sound_with, step_law}
+use Rattle.uni_any.proofs.Ordering.{order_kept}
 use Rattle.uni_any.proofs.Posting.{call_no_block, calls_apart, words_same}
 use Rattle.uni_any.proofs.Slots.{call_inside, slot_taken, slots_kept}
 use Rattle.uni_any.proofs.Takings.{board_taken, history_taken, others_taken, seen_taken, stage_taken, taken_board}
@@ -178,7 +179,8 @@ module _ {O I S R : Type 0} (meaning : O → Sequential S I R) (o : O) (sizes : 
                   apart = f.mine.apart;
                   reader = record { old = reader2.old; base = reader2.base; same = reader2.same; new = reader2.new; long = reader2.long; call = reader2.call; taken_most = reader2.taken_most };
                 })
-                (history_taken object sizes g local q0 slot' l l' f.local_is refl (sym (ap pending_of stage)) f.sound.history);
+                (history_taken object sizes g local q0 slot' l l' f.local_is refl (sym (ap pending_of stage)) f.sound.history)
+                (order_kept object sizes.processes g.atomic.agreed g.calls_in_version g.version local f.sound.order q0 l l' f.inside f.local_is refl refl);
             words_are = words_same sizes g g1 words (1 + r) refl refl refl f.words_are;
             slots_are = record { many = are.many; home = are.home };
             said = said;

@@ -1,5 +1,5 @@
 -- The table that is made shows the board that is opened.
-use Rattle.uni_any.proofs.Vocabulary.{AreFew, AreSlots, AreWords, Block, IsAt, IsBoard, IsHistory, List, Mail, Row, Sequential, ShowsBoard, Sizes, Tells, View, [], ap, arith, at_rest, blank, first_view, frames_of, get_elem?, in_of, inl, length, length-replicate, map, nothing_taken, opened, refl, replicate, slice_index_or, slot_of, some, some-injective, some-ne-none, subst, suc, sym, taken_of, word_of, zero, ℕ, ◌*◌, ◌+◌, ◌∙◌, ◌∷◌, ◌≡◌, ◌≤◌}
+use Rattle.uni_any.proofs.Vocabulary.{AreFew, AreOrdered, AreSlots, AreWords, Block, IsAt, IsBoard, IsHistory, List, Mail, Row, Sequential, ShowsBoard, Sizes, Some, Tells, View, [], ap, arith, at_rest, blank, first_view, frames_of, get_elem?, in_of, inl, length, length-replicate, map, nothing_taken, opened, refl, replicate, slice_get, slice_index_or, slot_of, some, some-injective, some-ne-none, subst, suc, sym, taken_of, word_of, zero, ℕ, ◌*◌, ◌+◌, ◌∙◌, ◌∷◌, ◌≡◌, ◌≤◌}
 use Rattle.atomic_table.specs.Table.{opening}
 use Rattle.atomic_table.proofs.Lists.{some_there}
 use Rattle.uni_any.proofs.Slots.{place_inside}
@@ -58,6 +58,18 @@ module _ {O I S R : Type 0} (meaning : O → Sequential S I R) (o : O) (sizes : 
     told = λ p p_in. (refl, refl, refl);
   }
 
+  order' : AreOrdered object [] (λ v. 0) sizes.processes 0 (λ p. at_rest object sizes)
+  order' = record {
+    counted = λ v from. refl;
+    rising = λ v w below. omega arith;
+    each = λ p p_in. record {
+      reached = omega arith;
+      later = λ c place at mine from. omega arith;
+      known = λ k call at. absurd (let e : slice_get [] k ≡ Some call = at in cc);
+      stand = λ k call at. absurd (let e : slice_get [] k ≡ Some call = at in cc);
+    };
+  }
+
   words' : AreWords sizes (opened object sizes) (replicate (1 + sizes.processes) 0)
   words' = record {
     wide = length-replicate (1 + sizes.processes) 0;
@@ -93,7 +105,7 @@ module _ {O I S R : Type 0} (meaning : O → Sequential S I R) (o : O) (sizes : 
           words = words';
           slots = slots';
           seats = seats';
-          sound = record { board = board'; each = λ p p_in. at_start' p; history = history' };
+          sound = record { board = board'; each = λ p p_in. at_start' p; history = history'; order = order' };
         },
       ),
     ),

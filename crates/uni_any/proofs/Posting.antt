@@ -1,6 +1,7 @@
 -- The steps that lay out an invocation.
 use Rattle.uni_any.proofs.Vocabulary.{Allows, AreHome, AreWords, Asked, Block, Board, HasClosed, HasOpened, HoldsCall, Idle, some-injective, carried_after, IsAt, IsClosed, IsHome, IsLaid, IsOf, IsOpening, IsStageAt, List, Local, Mail, Mine, None, Posting, Sequential, ShowsBoard, Sizes, Step, ap, arith, block_frame, call_frame, either, eqb, exchanged, false, frames_of, gives, goes, homes_after, inl, inr, local_of, made_of, number_cases, pending_of, refl, rest, set-get_or, set_at, set_at_elsewhere, set_at_same, slice_index, slice_set, slot_of, some, stage_of, subst, sym, takes, told, true, with_local, ℕ, ◌*◌, ◌+◌, ◌<◌, ◌∙◌, ◌∷◌, ◌≡◌, ◌≢◌}
 use Rattle.uni_any.proofs.Frame.{Found, Given, sound_with, step_law}
+use Rattle.uni_any.proofs.Ordering.{order_kept}
 use Rattle.uni_any.proofs.Slots.{call_inside, block_number, row_and_column}
 use Rattle.uni_any.proofs.Announcing.{reader_goes}
 use Rattle.uni_any.proofs.Frames.{board_framed, framed, given_framed, history_framed, laid_closed, laid_open, others_framed, reader_framed, slots_else, taken_framed}
@@ -96,7 +97,8 @@ module _ {O I S R : Type 0} (meaning : O → Sequential S I R) (o : O) (sizes : 
             (board_framed object sizes g f0 q0 row (Asked inv) theirs asked current f.sound.board)
             (others_framed object sizes g f0 q0 row (Asked inv) theirs asked current local)
             (mine_posting count out laid)
-            (history_framed object sizes g f0 q0 row (Asked inv) theirs asked current local l (goes l (Posting inv count out)) f.local_is refl (sym none) f.sound.history);
+            (history_framed object sizes g f0 q0 row (Asked inv) theirs asked current local l (goes l (Posting inv count out)) f.local_is refl (sym none) f.sound.history)
+            (order_kept object sizes.processes g.atomic.agreed g.calls_in_version g.version local f.sound.order q0 l (goes l (Posting inv count out)) f.inside f.local_is refl refl);
         words_are = words_same sizes g g' words i refl refl refl f.words_are;
         slots_are = are;
         said = said;

@@ -1,15 +1,10 @@
 -- Seats that have made no call, in order.
 use Rattle.std.specs.Arc.{arc_value}
-use Rattle.uni_any.proofs.Vocabulary.{All, List, Sequential, Sizes, Some, View, [], ap, arith, at_rest, false, first_image, image_of, inl, inr, length, length-append, length-map, length-replicate, map, nothing_taken, pending_of, refl, replicate, slice_get, slice_index_or, subst, suc, sym, zero, ℕ, ◌++◌, ◌+◌, ◌<◌, ◌∙◌, ◌∷◌, ◌≡◌, ◌⊎◌}
+use Rattle.uni_any.proofs.Vocabulary.{All, List, Sequential, Sizes, Some, View, [], ap, arith, at_rest, false, first_image, image_of, inl, inr, length, length-append, length-map, length-replicate, map, nothing_taken, pending_of, refl, replicate, slice_get, slice_index_or, subst, suc, sym, zero, ℕ, ◌++◌, ◌+◌, ◌<◌, ◌∙◌, ◌∷◌, ◌≡◌}
+use Rattle.uni_any.proofs.Ordering.{get_snoc}
 use Rattle.uni_any.specs.Belongs.{AreFirstSeats, IsFreshSeat, IsSeatOf, StandsAt, taken_as}
 use Rattle.uni_any.specs.declared.seat.AnySeat.{AnySeat}
 use Rattle.uni_any.specs.declared.shared.AnyShared.{AnyShared}
-
-get_snoc : {A : Type 0} (xs : List A) (a : A) (k : ℕ) (x : A) → slice_get (xs ++ a ∷ []) k ≡ Some x → (slice_get xs k ≡ Some x) ⊎ ((k ≡ length xs) × (a ≡ x))
-get_snoc [] a zero x e = inr (refl, cc)
-get_snoc [] a (suc k) x e = absurd cc
-get_snoc (y ∷ ys) a zero x e = inl e
-get_snoc (y ∷ ys) a (suc k) x e = elim (get_snoc ys a k x e) [ inl old ↦ inl old | inr new ↦ inr (ap suc new.0, new.1) ]
 
 get_index : {A : Type 0} (xs : List A) (k : ℕ) (d : A) → k < length xs → slice_get xs k ≡ Some (slice_index_or xs k d)
 get_index [] k d h = absurd (omega arith)
@@ -46,6 +41,7 @@ module _ {O I S R : Type 0} (meaning : O → Sequential S I R) (shared : AnyShar
     process = p;
     calls = ap (λ (v : View O I S R). v.known.local.own) me;
     pending = ap (λ (v : View O I S R). pending_of v.known.local.stage) me;
+    version = ap (λ (v : View O I S R). v.known.local.after) me;
   }
 
   pub one_more : (seats later : List (AnySeat O S I R)) (seat : AnySeat O S I R) → AreFirstSeats shared k seats → later ≡ seats ++ seat ∷ [] → IsFreshSeat shared k seat → AreFirstSeats shared (k + 1) later

@@ -1,9 +1,10 @@
 -- What a seat is between its calls.
-use Rattle.uni_any.proofs.Vocabulary.{IsOf, IsPending, Local, Mine, None, Ready, Returned, Some, Stage, View, ap, arith, false, inl, inr, length, length-append, local_of, pending_of, refl, stage_of, subst, sym, true, ℕ, ◌++◌, ◌+◌, ◌<◌, ◌∙◌, ◌∷◌, ◌≡◌, ◌≤◌, []}
+use Rattle.uni_any.proofs.Vocabulary.{IsOf, IsPending, Local, Mine, None, Ready, Returned, Some, Stage, View, ap, arith, false, inl, inr, length, length-append, local_of, pending_of, refl, stage_of, subst, sym, true, version_in, ℕ, ◌++◌, ◌+◌, ◌<◌, ◌∙◌, ◌∷◌, ◌≡◌, ◌≤◌, []}
 use Rattle.std.specs.Prelude.{Bool, Err, IfOk, IsErr, List, Ok, OnErr, Result, is_some}
 use Rattle.std.proofs.lemmas.Bool.{false≢true}
 use Rattle.uni_any.specs.Belongs.{Has, IsSeatOf, StandsAt}
 use Rattle.uni_any.specs.Calls.{HasEnded, IsLeftOff, IsWith, went}
+use Rattle.uni_any.specs.declared.seat.AnyAnswer.{AnyAnswer}
 use Rattle.uni_any.specs.declared.seat.AnySeat.{AnySeat}
 use Rattle.uni_any.specs.declared.shared.AnyShared.{AnyShared}
 use Rattle.uni_any.proofs.Places.{of_with}
@@ -31,7 +32,7 @@ module _ {O I S R : Type 0} (shared : AnyShared O S I R) (old new : AnySeat O S 
 
   pub seat_ended : (inv : I) (x : R) (most : ℕ) → HasEnded old.seat.me inv x most new.seat.me → new.made ≡ old.made + 1 → new.pending ≡ false → IsSeatOf shared new
   seat_ended inv x most h made pending = kept h.local h.is
-      (ap (λ xs. length xs) h.own ∙ length-append (local_of old.seat.me).own (record { inv = inv; reply = x } ∷ []) ∙ (let m = was.made in omega (arith, made)))
+      (ap (λ xs. length xs) h.own ∙ length-append (local_of old.seat.me).own _ ∙ (let m = was.made in omega (arith, made)))
       (subst (λ b. StandsAt b new.made shared.setup.sizes.calls h.local.stage) (sym pending) h.idle)
 
   pub seat_left : (inv : I) (most : ℕ) → IsLeftOff old.seat.me inv most new.seat.me → new.made ≡ old.made → new.pending ≡ true → old.made < shared.setup.sizes.calls → IsSeatOf shared new
@@ -46,8 +47,19 @@ module _ {O I S R : Type 0} (shared : AnyShared O S I R) (old new : AnySeat O S 
 
 -- what is told of its calls then
 module _ {O I S R : Type 0} (me me1 : Mine O I S R) (inv : I) where
-  pub ended_own : (x : R) (most : ℕ) → HasEnded me inv x most me1 → (local_of me1).own ≡ (local_of me).own ++ record { inv = inv; reply = x } ∷ []
-  ended_own x most h = ap (λ (v : View O I S R). v.known.local.own) h.is ∙ h.own
+  pub ended_word : (x : R) (most : ℕ) → (h : HasEnded me inv x most me1) → (local_of me1).word ≡ h.local.word
+  ended_word x most h = ap (λ (v : View O I S R). v.known.local.word) h.is
+
+  pub ended_own : (x : R) (most : ℕ) → HasEnded me inv x most me1 → (w : ℕ) → (local_of me1).word ≡ w
+      → (local_of me1).own ≡ (local_of me).own ++ record { inv = inv; reply = x; after = (local_of me).after; version = version_in w } ∷ []
+  ended_own x most h w word = ap (λ (v : View O I S R). v.known.local.own) h.is ∙ h.own
+      ∙ (λ k. (local_of me).own ++ record { inv = inv; reply = x; after = (local_of me).after; version = version_in ((sym (ended_word x most h) ∙ word) k) } ∷ [])
+
+  pub ended_after : (x : R) (most : ℕ) → HasEnded me inv x most me1 → (w : ℕ) → (local_of me1).word ≡ w → (local_of me1).after ≡ version_in w
+  ended_after x most h w word = ap (λ (v : View O I S R). v.known.local.after) h.is ∙ h.after ∙ ap version_in (sym (ended_word x most h) ∙ word)
+
+  pub ended_later : (x : R) (most : ℕ) → HasEnded me inv x most me1 → (w : ℕ) → (local_of me1).word ≡ w → (local_of me).after < version_in w
+  ended_later x most h w word = (let e = ap version_in (sym (ended_word x most h) ∙ word) in let f = h.later in omega arith)
 
   pub ended_idle : (x : R) (most : ℕ) → HasEnded me inv x most me1 → pending_of (stage_of me1) ≡ None
   ended_idle x most h = ap (λ (v : View O I S R). pending_of v.known.local.stage) h.is ∙ ap pending_of h.idle
@@ -57,6 +69,9 @@ module _ {O I S R : Type 0} (me me1 : Mine O I S R) (inv : I) where
 
   pub left_own : (most : ℕ) → IsLeftOff me inv most me1 → (local_of me1).own ≡ (local_of me).own
   left_own most h = ap (λ (v : View O I S R). v.known.local.own) h.is ∙ h.own
+
+  pub left_after : (most : ℕ) → IsLeftOff me inv most me1 → (local_of me1).after ≡ (local_of me).after
+  left_after most h = ap (λ (v : View O I S R). v.known.local.after) h.is ∙ h.after
 
   pub left_pending : (most : ℕ) → IsLeftOff me inv most me1 → pending_of (stage_of me1) ≡ Some inv
   left_pending most h = ap (λ (v : View O I S R). pending_of v.known.local.stage) h.is ∙ ap pending_of h.stage_is
@@ -78,9 +93,14 @@ then_told (Ok x) a f = tt
 then_told (Err e) a f = f a
 
 -- the calls that are told of the seat that has announced one are those of the seat before
-pub then_own : {I R E : Type 0} (r : Result R E) (now before after : List (Returned I R)) (inv inv' : I) → before ≡ after → inv ≡ inv' → IfOk r (λ x. now ≡ before ++ record { inv = inv; reply = x } ∷ []) → IfOk r (λ x. now ≡ after ++ record { inv = inv'; reply = x } ∷ [])
-then_own (Ok x) now before after inv inv' own same h = h ∙ (λ k. own k ++ record { inv = same k; reply = x } ∷ [])
-then_own (Err e) now before after inv inv' own same h = tt
+pub then_own : {I R E : Type 0} (r : Result (AnyAnswer R) E) (now before after : List (Returned I R)) (inv inv' : I) (v v' : ℕ) → before ≡ after → inv ≡ inv' → v ≡ v'
+    → IfOk r (λ a. now ≡ before ++ record { inv = inv; reply = a.reply; after = v; version = a.version } ∷ []) → IfOk r (λ a. now ≡ after ++ record { inv = inv'; reply = a.reply; after = v'; version = a.version } ∷ [])
+then_own (Ok x) now before after inv inv' v v' own same also h = h ∙ (λ k. own k ++ record { inv = same k; reply = x.reply; after = also k; version = x.version } ∷ [])
+then_own (Err e) now before after inv inv' v v' own same also h = tt
+
+pub then_later : {R E : Type 0} (r : Result (AnyAnswer R) E) (v v' : ℕ) → v ≡ v' → IfOk r (λ a. v < a.version) → IfOk r (λ a. v' < a.version)
+then_later (Ok x) v v' same h = omega (arith, h, same)
+then_later (Err e) v v' same h = tt
 
 -- whether a call is pending, as the seat's flag says
 pub flag_true : {O I S R : Type 0} (made calls : ℕ) (me : Mine O I S R) (flag : Bool) → StandsAt flag made calls (stage_of me) → flag ≡ true → is_some (pending_of (stage_of me)) ≡ true

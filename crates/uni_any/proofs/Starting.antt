@@ -1,7 +1,8 @@
 -- The load of S with which an attempt begins, or a call ends.
-use Rattle.uni_any.proofs.Vocabulary.{AcceptsAll-append, Act, Allows, AreHome, AreSlots, Atomic, Block, Board, GoesOn, HasStarted, HasStartedAs, Invoke, IsBoard, IsHistory, IsHome, IsOf, IsOpen, IsPending, IsReader, IsStageAt, IsTold, IsWhole, List, Local, Mail, Mine, None, Option, Reading, Ready, Respond, Returned, Sequential, ShowsBoard, Sizes, Some, Step, Valid, [], ap, applied_in, arith, at_start, block_frame, call_frame, carried_after, goes, has_block, homes_after, inl, inr, keeps, length, length-append, local_of, made_of, map, mul-le-mul_right, slice_index_or, nothing_taken, taken_of, append_assoc, response_at, number_cases, pending_of, plain, refl, returns, row_in, sequential_acts, set_at, set_at-cases, set_at_elsewhere, set_at_same, slice_index, slice_set, slot_of, subst, sym, takes, with_local, word_of, ℕ, ◌*◌, ◌++◌, ◌+◌, ◌<◌, ◌∙◌, ◌∷◌, ◌≡◌, ◌≢◌, ◌≤◌}
+use Rattle.uni_any.proofs.Vocabulary.{AcceptsAll-append, Act, Allows, AreHome, AreOrdered, AreSlots, Atomic, Block, Board, GoesOn, HasStarted, HasStartedAs, Invoke, IsBoard, IsHistory, IsHome, IsOf, IsOpen, IsOrdered, IsPending, IsReader, IsStageAt, IsTold, IsWhole, List, Local, Mail, Mine, None, Option, Reading, Ready, Respond, Returned, Sequential, ShowsBoard, Sizes, Some, Step, Valid, [], ap, applied_in, arith, at_start, block_frame, call_frame, carried_after, ending, goes, has_block, homes_after, in_of, inl, inr, keeps, length, length-append, local_of, made_of, map, mul-le-mul_right, slice_index_or, nothing_taken, taken_of, append_assoc, response_at, number_cases, pending_of, plain, refl, returns, row_in, sequential_acts, set_at, set_at-cases, set_at_elsewhere, set_at_same, slice_index, slice_set, slot_of, subst, sym, takes, version_in, with_local, word_of, ℕ, ◌*◌, ◌++◌, ◌+◌, ◌<◌, ◌∙◌, ◌∷◌, ◌≡◌, ◌≢◌, ◌≤◌}
 use Rattle.uni_any.proofs.Acts.{responded_other, responded_own, sequential_acts-snoc}
 use Rattle.uni_any.proofs.Frame.{Found, Given, sound_with, step_law}
+use Rattle.uni_any.proofs.Ordering.{order_kept, order_with, ordered_returned, version_rises}
 use Rattle.uni_any.proofs.Posting.{call_no_block, words_same}
 use Rattle.uni_any.proofs.Slots.{block_inside, slot_taken, slots_kept}
 use Rattle.uni_any.proofs.Takings.{board_taken, others_taken, stage_taken, taken_board}
@@ -56,6 +57,9 @@ module _ {O I S R : Type 0} (meaning : O → Sequential S I R) (o : O) (sizes : 
     -- how many blocks there can be
     most_calls : sizes.processes * sizes.calls ≤ 64 * sizes.calls
     most_calls = mul-le-mul_right sizes.calls f.few.1
+
+    present : version_in s ≡ g.version
+    present = (let a = is in let b = board.current in let d = most_calls in let e = f.few.2 in omega arith)
 
     version_most : g.version ≤ 1073741824
     version_most =
@@ -160,7 +164,8 @@ module _ {O I S R : Type 0} (meaning : O → Sequential S I R) (o : O) (sizes : 
                   apart = f.mine.apart;
                   reader = reader' g.atomic g.acts l' refl refl refl;
                 })
-                (history_on l' (sym facts.4));
+                (history_on l' (sym facts.4))
+                (order_kept object sizes.processes g.atomic.agreed g.calls_in_version g.version local f.sound.order q0 l l' f.inside f.local_is refl refl);
             words_are = words_same sizes g (g1 g.atomic g.acts) words 0 refl refl refl f.words_are;
             slots_are = are' g.atomic g.acts;
             said = said_all l' ((λ e. absurd (not_in e)), (λ e. (lacks, refl)));
@@ -205,11 +210,30 @@ module _ {O I S R : Type 0} (meaning : O → Sequential S I R) (o : O) (sizes : 
                   apart = λ k from below. f.mine.apart k (let e = longer in omega arith) below;
                   reader = reader' atomic' acts' l' refl refl refl;
                 })
-                (history_ends x reply.1 in_is);
+                (history_ends x reply.1 in_is)
+                (order_ends x reply.1 in_is);
             words_are = words_same sizes g (g1 atomic' acts') words 0 refl refl refl f.words_are;
             slots_are = are' atomic' acts';
-            said = said_all l' ((λ e. (x, reply.1, refl)), (λ n. absurd (n in_is)));
+            said = said_all l' ((λ e. (x, reply.1, follows_less x reply.1 in_is, refl)), (λ n. absurd (n in_is)));
           } where
+            mine_ordered : IsOrdered object g.atomic.agreed g.calls_in_version g.version q0 l.after l.own
+            mine_ordered = subst (λ (z : Local I S R). IsOrdered object g.atomic.agreed g.calls_in_version g.version q0 z.after z.own) f.local_is (f.sound.order.each q0 f.inside)
+
+            follows_less : (x : R) → (row_in g.image q0).reply ≡ Some x → applied_in g.image q0 ≡ m + 1 → l.after < version_in s
+            follows_less x reply in_is =
+                let taken = was_told.3 x in_is reply in
+                let less = version_rises object sizes.processes g.atomic.agreed g.calls_in_version g.version local f.sound.order q0 l.after l.own mine_ordered inv x taken.place taken.there in
+                (let e = present in omega (arith, less))
+
+            order_ends : (x : R) → (row_in g.image q0).reply ≡ Some x → applied_in g.image q0 ≡ m + 1
+                → AreOrdered object g.atomic.agreed g.calls_in_version sizes.processes g.version (set_at local q0 (returns l1 inv x))
+            order_ends x reply in_is =
+                let taken = was_told.3 x in_is reply in
+                let returned = ordered_returned object sizes.processes g.atomic.agreed g.calls_in_version g.version local f.sound.order q0 l.after l.own mine_ordered inv x taken.place taken.there taken.reply_is
+                (λ c has mine. let b = (f.sound.history.agreed c has).1 in let e : in_of g c.process ≡ in_of g q0 = ap (in_of g) mine in omega (arith, in_is)) in
+                order_with object sizes.processes g.atomic.agreed g.calls_in_version g.version local f.sound.order q0 (returns l1 inv x)
+                (subst (λ v. IsOrdered object g.atomic.agreed g.calls_in_version g.version q0 v (l.own ++ record { inv = inv; reply = x; after = l.after; version = v } ∷ [])) (sym present) returned)
+
             history_ends : (x : R) → (row_in g.image q0).reply ≡ Some x → applied_in g.image q0 ≡ m + 1
                 → IsHistory object sizes (g1 (record g.atomic { open_call = set_at g.atomic.open_call q0 None }) (g.acts ++ Respond q0 m x ∷ [])) (set_at local q0 (returns l1 inv x))
             history_ends x reply in_is =
@@ -234,7 +258,7 @@ module _ {O I S R : Type 0} (meaning : O → Sequential S I R) (o : O) (sizes : 
                     set_at_same g.atomic.open_call q0 None,
                     was_told.1 ∙ sym (length-append l.own _),
                     responded_own q0 m x g.acts ∙ ap (λ xs. xs ++ Respond q0 m x ∷ []) was_told.2 ∙ append_assoc (sequential_acts q0 0 (map plain l.own)) (Invoke q0 m inv ∷ []) (Respond q0 m x ∷ [])
-                        ∙ sym (sequential_acts-snoc q0 0 l.own (record { inv = inv; reply = x }) ∙ (λ k. sequential_acts q0 0 (map plain l.own) ++ Invoke q0 ((let z : m + 0 ≡ m = omega arith in z) k) inv ∷ Respond q0 ((let z : m + 0 ≡ m = omega arith in z) k) x ∷ [])),
+                        ∙ sym (sequential_acts-snoc q0 0 l.own (ending l1 inv x) ∙ (λ k. sequential_acts q0 0 (map plain l.own) ++ Invoke q0 ((let z : m + 0 ≡ m = omega arith in z) k) inv ∷ Respond q0 ((let z : m + 0 ≡ m = omega arith in z) k) x ∷ [])),
                   )
 
                   told_other : (q : ℕ) (own : List (Returned I R)) (pend : Option I) → q ≢ q0 → IsTold object g q own pend → IsTold object (g1 (record g.atomic { open_call = set_at g.atomic.open_call q0 None }) (g.acts ++ Respond q0 m x ∷ [])) q own pend

@@ -1,5 +1,6 @@
 -- The calls that an attempt applies, and what it means that a call has taken effect.
-use Rattle.std.specs.Prelude.{◌≡◌, ℕ, ◌+◌, ◌<◌, ◌≤◌, List, [], ◌∷◌, ◌++◌, Option, None, Some, Contains, length, map, slice_get}
+use Rattle.std.specs.Prelude.{◌≡◌, ℕ, ◌+◌, ◌<◌, ◌≤◌, List, [], ◌∷◌, ◌++◌, Option, None}
+use Rattle.std.specs.Prelude.{Some, Contains, length, map, slice_get}
 use Rattle.seq_object.specs.Sequential.{Sequential}
 use Rattle.seq_object.specs.History.{response_at}
 use Rattle.uni_model.specs.AtomicObject.{AcceptsAll, Invoked, at_start}
@@ -47,7 +48,8 @@ module _ {S I R : Type 0} (object : Sequential S I R) where
     pub rising : IsRising 0 calls
     pub below : (c : Invoked I) → Contains calls c → (c.process < r) × (c.process < sizes.processes)
     pub asked : (c : Invoked I) → Contains calls c
-        → (c.nth ≡ in_of g c.process) × (g.announced c.process ≡ c.nth + 1) × (g.content (call_frame sizes c.process c.nth) ≡ Asked c.inv)
+        → (c.nth ≡ in_of g c.process) × (g.announced c.process ≡ c.nth + 1)
+        × (g.content (call_frame sizes c.process c.nth) ≡ Asked c.inv)
 
   -- the call of a process has taken effect, with this reply
   pub record HasTaken (g : Board I S R) (call : Invoked I) (reply : R) : Type 0 where
@@ -58,16 +60,21 @@ module _ {S I R : Type 0} (object : Sequential S I R) where
   -- what the history has of a process, with no call pending, or with one of this invocation
   abbrev pub IsTold : Board I S R → (p : ℕ) → List (Returned I R) → Option I → Type 0
   IsTold g p own None =
-      (g.atomic.open_call p ≡ None) × (g.atomic.next_nth p ≡ length own) × (acts_by p g.acts ≡ sequential_acts p 0 (map plain own))
+      (g.atomic.open_call p ≡ None) × (g.atomic.next_nth p ≡ length own)
+      × (acts_by p g.acts ≡ sequential_acts p 0 (map plain own))
   IsTold g p own (Some inv) =
-      (g.atomic.open_call p ≡ Some (record { process = p; nth = length own; inv = inv })) × (g.atomic.next_nth p ≡ length own + 1)
+      (g.atomic.open_call p ≡ Some (record { process = p; nth = length own; inv = inv }))
+      × (g.atomic.next_nth p ≡ length own + 1)
       × (acts_by p g.acts ≡ sequential_acts p 0 (map plain own) ++ Invoke p (length own) inv ∷ [])
-      × ((x : R) → in_of g p ≡ length own + 1 → (row_in g.image p).reply ≡ Some x → HasTaken g (record { process = p; nth = length own; inv = inv }) x)
+      × ((x : R) → in_of g p ≡ length own + 1 → (row_in g.image p).reply ≡ Some x
+      → HasTaken g (record { process = p; nth = length own; inv = inv }) x)
 
-  -- The current block is the image of the calls that took effect, in their order. The history is accepted by the atomic object.
+  -- The current block is the image of the calls that took effect, in their order. The history is accepted by the
+  -- atomic object.
   pub record IsHistory (sizes : Sizes) (g : Board I S R) (local : ℕ → Local I S R) : Type 0 where
     pub image : image_from (first_image object sizes) g.atomic.agreed ≡ g.image
-    pub agreed : (c : Invoked I) → Contains g.atomic.agreed c → (c.process < sizes.processes) × (c.nth < in_of g c.process)
+    pub agreed : (c : Invoked I) → Contains g.atomic.agreed c → (c.process < sizes.processes)
+        × (c.nth < in_of g c.process)
     pub start : g.atomic.start ≡ object.initial
     pub accepted : AcceptsAll object (at_start object.initial) g.acts g.atomic
     pub told : (p : ℕ) → p < sizes.processes → IsTold g p (local p).own (pending_of (local p).stage)

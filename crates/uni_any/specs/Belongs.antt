@@ -1,8 +1,10 @@
 -- Which seats are an object's, and what they have.
-use Rattle.std.specs.Prelude.{◌≡◌, ◌⊎◌, ℕ, ◌<◌, List, [], Bool, Option, None, Some, true, false, length, map, option_map, slice_get}
+use Rattle.std.specs.Prelude.{◌≡◌, ◌⊎◌, ℕ, ◌<◌, List, [], Bool, Option, None, Some, true, false}
+use Rattle.std.specs.Prelude.{length, map, option_map, slice_get}
 use Rattle.std.specs.Arc.{arc_value}
 use Rattle.uni_any.specs.Content.{image_of}
 use Rattle.uni_any.specs.Batch.{pending_of}
+use Rattle.uni_any.specs.Final.{ProcessCalls}
 use Rattle.uni_any.specs.Standing.{IsOf}
 use Rattle.uni_any.specs.declared.seat.AnySeat.{AnySeat}
 use Rattle.uni_any.specs.declared.seat.Held.{Held}
@@ -51,7 +53,8 @@ module _ {O I S R : Type 0} where
   abbrev pub calls_of : AnyShared O S I R → ℕ
   calls_of shared = shared.setup.sizes.calls
 
-  -- a seat's process; its calls that have returned; how many they are; the invocation of its pending call; and how many word steps it has taken
+  -- a seat's process; its calls that have returned; how many they are; the invocation of its pending call; and how
+  -- many word steps it has taken
   abbrev pub process_of : AnySeat O S I R → ℕ
   process_of seat = seat.p
 
@@ -63,6 +66,14 @@ module _ {O I S R : Type 0} where
 
   abbrev pub pending_call : AnySeat O S I R → Option I
   pending_call seat = pending_of seat.seat.me.0.known.local.stage
+
+  -- the version that a seat's next calls come after
+  abbrev pub version_of : AnySeat O S I R → ℕ
+  version_of seat = seat.seat.me.0.known.local.after
+
+  -- what a seat tells of its process
+  abbrev pub known_calls : AnySeat O S I R → ProcessCalls I R
+  known_calls seat = record { process = process_of seat; own = own_calls seat; pending = pending_call seat }
 
   abbrev pub word_steps_of : AnySeat O S I R → ℕ
   word_steps_of seat = seat.seat.me.0.known.local.steps
@@ -83,6 +94,7 @@ module _ {O I S R : Type 0} where
     pub process : process_of seat ≡ p
     pub calls : own_calls seat ≡ []
     pub pending : pending_call seat ≡ None
+    pub version : version_of seat ≡ 0
 
   -- the seats of the first processes, in order, none of which has made a call
   pub record AreFirstSeats (shared : AnyShared O S I R) (count : ℕ) (seats : List (AnySeat O S I R)) : Type 0 where

@@ -6,9 +6,11 @@ use Rattle.uni_any.specs.Content.{Content, Content.Nothing, applied_in, blank}
 use Rattle.uni_any.specs.declared.sizes.Sizes.{Sizes}
 use Rattle.uni_any.specs.declared.view.Image.{Image}
 
--- The word S names a version and the current block, 0 for the start. Of each process: how many calls it has announced, and at which version
--- it announced the last one. What the current block is. Of each frame: what its slots are to hold, and for each reader whether its slot is
--- at home and perhaps not written (0), out with a seat (1), or at home and written (2). And what no word tells: the atomic object, and its history.
+-- The word S names a version and the current block, 0 for the start. Of each process: how many calls it has
+-- announced, and at which version it announced the last one. What the current block is. Of each frame: what its slots
+-- are to hold, and for each reader whether its slot is at home and perhaps not written (0), out with a seat (1), or
+-- at home and written (2). And what no word tells: the atomic object, its history, and how many of the calls that
+-- took effect are in each version.
 pub record Board (I S R : Type 0) : Type 0 where
   pub version : ℕ
   pub current : ℕ
@@ -19,6 +21,7 @@ pub record Board (I S R : Type 0) : Type 0 where
   pub slot : ℕ → ℕ → ℕ
   pub atomic : Atomic S I
   pub acts : List (Act I R)
+  pub calls_in_version : ℕ → ℕ
 
 abbrev pub span : ℕ
 span = 4294967296
@@ -63,4 +66,5 @@ opened object sizes = record {
   slot = λ f r. 0;
   atomic = at_start object.initial;
   acts = [];
+  calls_in_version = λ v. 0;
 }

@@ -27,7 +27,8 @@ applied_of row = row.applied
 abbrev pub taken_in : {S I R : Type 0} → Sequential S I R → Image S R → ℕ → I → Image S R
 taken_in object image q inv = record {
   state = object.next image.state inv;
-  rows = slice_set image.rows q (record { applied = applied_in image q + 1; reply = Some (object.answer image.state inv) });
+  rows = slice_set image.rows q
+      (record { applied = applied_in image q + 1; reply = Some (object.answer image.state inv) });
 }
 
 -- what a block is

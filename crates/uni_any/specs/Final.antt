@@ -1,27 +1,58 @@
 -- What the rule tells of a process.
-use Rattle.std.specs.Prelude.{◌≡◌, ℕ, ◌<◌, List, [], ◌∷◌, ◌++◌, Option, None, Some, Contains, length, map}
+use Rattle.std.specs.Prelude.{◌≡◌, ℕ, ◌<◌, ◌≤◌, List, [], ◌∷◌, ◌++◌, Option, None, Some}
+use Rattle.std.specs.Prelude.{Contains, length, map, slice_get}
 use Rattle.seq_object.specs.Sequential.{Sequential}
 use Rattle.seq_object.specs.History.{state_after}
 use Rattle.uni_model.specs.AtomicObject.{AcceptsAll, Act, Atomic, Invoked, at_start}
 use Rattle.uni_model.specs.AtomicObject.Act.{Invoke}
 use Rattle.uni_model.specs.Linearizable.{IsLinearizedAs, observed}
 use Rattle.uni_model.specs.ProcessCalls.{acts_by, sequential_acts}
-use Rattle.uni_any.specs.Batch.{inv_of, plain}
+use lib.ListN.{get_elem?}
+use mathlib.Core.Option.{some}
+use Rattle.uni_any.specs.Batch.{inv_of, pending_of, plain}
+use Rattle.uni_any.specs.Order.{StandsIn}
 use Rattle.uni_any.specs.declared.view.Returned.{Returned}
+use Rattle.uni_any.specs.declared.view.View.{View}
 
 -- the acts of a process with these calls, each with its reply before the next one begins, and with this pending one
 abbrev pub acts_told : {I R : Type 0} → (p : ℕ) → List (Returned I R) → Option I → List (Act I R)
 acts_told p own None = sequential_acts p 0 (map plain own)
 acts_told p own (Some inv) = sequential_acts p 0 (map plain own) ++ Invoke p (length own) inv ∷ []
 
--- There is a history that the atomic object accepts, from its start on. What is observed of it is linearizable, in the order in which the calls took
--- effect; the state is that after them. Each is a call of one of n processes. In the history process p takes the acts of these calls, each with its
--- reply, and of this pending one, and no others.
-pub record IsLinearized {S I R : Type 0} (object : Sequential S I R) (n p : ℕ) (own : List (Returned I R)) (pending : Option I) (state : S) : Type 0 where
+-- the calls of one process: those that have returned, in their order, and the invocation of its pending one
+pub record ProcessCalls (I R : Type 0) : Type 0 where
+  pub process : ℕ
+  pub own : List (Returned I R)
+  pub pending : Option I
+
+-- one of the seats, which is that of one process, tells of these calls
+pub record IsToldBy {O I S R : Type 0} (views : List (View O I S R)) (its : ProcessCalls I R) : Type 0 where
+  pub id : ℕ
+  pub view : View O I S R
+  pub there : get_elem? views id ≡ some view
+  pub alone : view.known.count ≡ 1
+  pub process : view.known.first ≡ its.process
+  pub own : view.known.local.own ≡ its.own
+  pub pending : pending_of view.known.local.stage ≡ its.pending
+
+-- There is a history that the atomic object accepts, from its start on. What is observed of it is linearizable, in the
+-- order in which the calls took effect; the state is that after them. Each is a call of one of n processes. In the
+-- history each known process takes the acts of its calls, each with its reply, and of its pending one, and no others.
+-- The first calls_in_version v calls of that order are in version v, or all where there are fewer, and a later version
+-- has no fewer; and each known call that has returned comes after those of one version, and is among those of another
+-- one, as its seat was told.
+pub record IsLinearized {S I R : Type 0} (object : Sequential S I R) (n : ℕ) (known : List (ProcessCalls I R))
+    (state : S) : Type 0 where
   pub acts : List (Act I R)
   pub atomic : Atomic S I
   pub accepted : AcceptsAll object (at_start object.initial) acts atomic
   pub linearized : IsLinearizedAs object object.initial (observed acts) atomic.agreed
   pub state_is : state_after object object.initial (map inv_of atomic.agreed) ≡ state
   pub inside : (c : Invoked I) → Contains atomic.agreed c → c.process < n
-  pub own_is : acts_by p acts ≡ acts_told p own pending
+  pub own_is : (its : ProcessCalls I R) → Contains known its
+      → acts_by its.process acts ≡ acts_told its.process its.own its.pending
+  pub calls_in_version : ℕ → ℕ
+  pub rising : (v w : ℕ) → v ≤ w → calls_in_version v ≤ calls_in_version w
+  pub stand : (its : ProcessCalls I R) → Contains known its
+      → (k : ℕ) (call : Returned I R) → slice_get its.own k ≡ Some call
+      → StandsIn object atomic.agreed calls_in_version its.process k call

@@ -1,6 +1,7 @@
 pub mod Content
 pub mod Board
 pub mod Batch
+pub mod Order
 pub mod Invariant
 pub mod Shown
 pub mod Plays

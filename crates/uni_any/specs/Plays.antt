@@ -1,5 +1,7 @@
 -- What a step tells the seat that takes it, and how a seat is split.
-use Rattle.std.specs.Prelude.{◌≡◌, ◌≢◌, ◌⊎◌, ℕ, ◌+◌, ◌-◌, ◌*◌, ◌%◌, ◌<◌, ◌≤◌, [], ◌∷◌, ◌++◌, Some, true, false, length, replicate, slice_set}
+use Rattle.std.specs.Prelude.{◌≡◌, ◌≢◌, ◌⊎◌, ℕ, ◌+◌, ◌-◌, ◌*◌, ◌/◌, ◌%◌}
+use Rattle.std.specs.Prelude.{◌<◌, ◌≤◌, [], ◌∷◌, ◌++◌, Some, true, false, length, replicate}
+use Rattle.std.specs.Prelude.{slice_set}
 use mathlib.Core.Option.{some}
 use Rattle.atomic_table.specs.Table.{Me, Step, rest}
 use Rattle.seq_object.specs.Sequential.{Sequential}
@@ -11,17 +13,29 @@ use Rattle.uni_any.specs.declared.mail.Mail.{Mail}
 use Rattle.uni_any.specs.declared.sizes.Sizes.{Sizes}
 use Rattle.uni_any.specs.declared.view.Image.{Image}
 use Rattle.uni_any.specs.declared.view.Local.{Local}
+use Rattle.uni_any.specs.declared.view.Returned.{Returned}
 use Rattle.uni_any.specs.declared.view.Stage.{Stage}
 use Rattle.uni_any.specs.declared.view.Stage.TheVariants.{Idle, Posting, Ready, Reading, Writing}
 use Rattle.uni_any.specs.declared.view.View.{View}
 
 abbrev pub at_rest : {S I R : Type 0} → Sequential S I R → Sizes → Local I S R
 at_rest object sizes =
-    record { stage = Idle; own = []; word = 0; base = first_image object sizes; taken = replicate sizes.processes nothing_taken; steps = 0 }
+    record {
+      stage = Idle;
+      after = 0;
+      own = [];
+      word = 0;
+      base = first_image object sizes;
+      taken = replicate sizes.processes nothing_taken;
+      steps = 0;
+    }
 
 abbrev pub first_view : {O S I R : Type 0} → (meaning : O → Sequential S I R) → O → Sizes → View O I S R
 first_view meaning o sizes =
-    record { object = o; known = record { sizes = sizes; first = 0; count = sizes.processes; local = at_rest (meaning o) sizes } }
+    record {
+      object = o;
+      known = record { sizes = sizes; first = 0; count = sizes.processes; local = at_rest (meaning o) sizes };
+    }
 
 -- the first process of a seat, and the others
 abbrev pub first_alone : {O I S R : Type 0} → View O I S R → View O I S R
@@ -42,18 +56,34 @@ goes l stage = record l { stage = stage; steps = l.steps + 1 }
 abbrev pub has_block : {I S R : Type 0} → Local I S R → (word : ℕ) → Image S R → Local I S R
 has_block l word base = record l { word = word; base = base }
 
--- its call has returned
+-- the version that a word S names
+abbrev pub version_in : ℕ → ℕ
+version_in s = s / 4294967296
+
+-- its call that returns with this reply: it is in the version that the process has
+abbrev pub ending : {I S R : Type 0} → Local I S R → I → R → Returned I R
+ending l inv reply = record { inv = inv; reply = reply; after = l.after; version = version_in l.word }
+
+-- after that call has returned
 abbrev pub returns : {I S R : Type 0} → Local I S R → I → R → Local I S R
-returns l inv reply = record l { stage = Idle; own = l.own ++ record { inv = inv; reply = reply } ∷ []; steps = l.steps + 1 }
+returns l inv reply =
+    record l { stage = Idle; after = version_in l.word; own = l.own ++ ending l inv reply ∷ []; steps = l.steps + 1 }
+
+-- after it has asked which version has come, and found this one
+abbrev pub knows : {I S R : Type 0} → Local I S R → (version : ℕ) → Local I S R
+knows l version = record l { after = version; steps = l.steps + 1 }
 
 abbrev pub Mine : (O I S R : Type 0) → Type 0
 Mine O I S R = Me (Mail I (Block S R)) (View O I S R)
 
 -- with this block the call goes on, or returns
-abbrev pub GoesOn : {I S R : Type 0} → Local I S R → (p : ℕ) → I → (tries : ℕ) → Image S R → Local I S R → Type 0
+abbrev pub GoesOn : {I S R : Type 0} → Local I S R → (p : ℕ) → I → (tries : ℕ) → Image S R → Local I S R
+    → Type 0
 GoesOn {R = R} l p inv tries base l' =
-    (applied_in base p ≡ length l.own + 1 → (x : R) × ((row_in base p).reply ≡ Some x) × (l' ≡ returns l inv x))
-    × (applied_in base p ≢ length l.own + 1 → (applied_in base p ≡ length l.own) × (l' ≡ goes l (Reading inv tries 0 base)))
+    (applied_in base p ≡ length l.own + 1 → (x : R) × ((row_in base p).reply ≡ Some x)
+    × (l.after < version_in l.word) × (l' ≡ returns l inv x))
+    × (applied_in base p ≢ length l.own + 1 → (applied_in base p ≡ length l.own)
+    × (l' ≡ goes l (Reading inv tries 0 base)))
 
 abbrev pub took : {I S R : Type 0} → Local I S R → (r number : ℕ) → I → Local I S R
 took l r number inv = record l { taken = slice_set l.taken r (record { number = number; inv = Some inv }) }
@@ -94,12 +124,15 @@ module _ {O I S R : Type 0} where
 
   abbrev pub HasOpened : Step (Mail I (Block S R)) → Mine O I S R → ℕ → Mine O I S R → Type 0
   HasOpened step me found me' =
-      (mail : Mail I (Block S R)) (inv : I) (r : ℕ) → step.said ≡ some mail → told mail ≡ Asked inv → IsOpening inv r me
-      → (y : Mail I (Block S R)) × Takes me (goes (local_of me) (Posting inv r true)) (slot_of me.0.known.sizes (own_call me) r) y me'
+      (mail : Mail I (Block S R)) (inv : I) (r : ℕ) → step.said ≡ some mail → told mail ≡ Asked inv
+      → IsOpening inv r me
+      → (y : Mail I (Block S R))
+      × Takes me (goes (local_of me) (Posting inv r true)) (slot_of me.0.known.sizes (own_call me) r) y me'
 
   abbrev pub HasClosed : Step (Mail I (Block S R)) → Mine O I S R → ℕ → Mine O I S R → Type 0
   HasClosed step me found me' =
-      (inv : I) (r : ℕ) → stage_of me ≡ Posting inv r true → Gives me (goes (local_of me) (Posting inv (r + 1) false)) me'
+      (inv : I) (r : ℕ) → stage_of me ≡ Posting inv r true
+      → Gives me (goes (local_of me) (Posting inv (r + 1) false)) me'
 
   abbrev pub HasAnnounced : Step (Mail I (Block S R)) → Mine O I S R → ℕ → Mine O I S R → Type 0
   HasAnnounced step me found me' =
@@ -108,7 +141,8 @@ module _ {O I S R : Type 0} where
   -- a call is pending: so many attempts have failed, or one was left
   abbrev pub IsPending : I → (tries : ℕ) → Mine O I S R → Type 0
   IsPending inv tries me =
-      (stage_of me ≡ Ready inv tries) ⊎ ((tries ≡ 0) × ((t : ℕ) × (r : ℕ) × (image : Image S R) × (stage_of me ≡ Reading inv t r image)))
+      (stage_of me ≡ Ready inv tries)
+      ⊎ ((tries ≡ 0) × ((t : ℕ) × (r : ℕ) × (image : Image S R) × (stage_of me ≡ Reading inv t r image)))
 
   -- the word names the block that the process has, or another one, which it takes out of its slot
   abbrev pub HasStartedAs : Sizes → I → (tries : ℕ) → Mine O I S R → ℕ → Mine O I S R → Type 0
@@ -118,18 +152,22 @@ module _ {O I S R : Type 0} where
       × (2 ≤ tries → applied_in base me.0.known.first ≡ length l.own + 1)
       × GoesOn (has_block l s base) me.0.known.first inv tries base l'
       × (s ≡ l.word → (base ≡ l.base) × IsLeft me l' me')
-      × (s ≢ l.word → (c : ℕ) × (y : Mail I (Block S R)) × (s % 4294967296 ≡ c + 1) × (c < sizes.processes * sizes.calls)
+      × (s ≢ l.word → (c : ℕ) × (y : Mail I (Block S R)) × (s % 4294967296 ≡ c + 1)
+      × (c < sizes.processes * sizes.calls)
       × (told y ≡ Made base) × Takes me l' (slot_of sizes (block_frame sizes c) me.0.known.first) y me')
       × (s < 4294967296 * 4294967295)
 
   abbrev pub HasStarted : Step (Mail I (Block S R)) → Mine O I S R → ℕ → Mine O I S R → Type 0
-  HasStarted step me s me' = (inv : I) (tries : ℕ) → IsPending inv tries me → HasStartedAs me.0.known.sizes inv tries me s me'
+  HasStarted step me s me' =
+      (inv : I) (tries : ℕ) → IsPending inv tries me → HasStartedAs me.0.known.sizes inv tries me s me'
 
-  -- Process r has announced this many calls. Where that is more than are in the image, the call is applied; its invocation was taken already, or
-  -- is taken out of its slot.
-  abbrev pub HasLooked : (O → Sequential S I R) → Step (Mail I (Block S R)) → Mine O I S R → ℕ → Mine O I S R → Type 0
+  -- Process r has announced this many calls. Where that is more than are in the image, the call is applied; its
+  -- invocation was taken already, or is taken out of its slot.
+  abbrev pub HasLooked : (O → Sequential S I R) → Step (Mail I (Block S R)) → Mine O I S R → ℕ
+      → Mine O I S R → Type 0
   HasLooked meaning step me found me' =
-      (inv : I) (tries r : ℕ) (image : Image S R) → stage_of me ≡ Reading inv tries r image → r < me.0.known.sizes.processes
+      (inv : I) (tries r : ℕ) (image : Image S R) → stage_of me ≡ Reading inv tries r image
+      → r < me.0.known.sizes.processes
       → let l = local_of me in
       (r ≡ me.0.known.first → applied_in image r < found)
       × (found ≤ applied_in image r → IsLeft me (goes l (Reading inv tries (r + 1) image)) me')
@@ -138,17 +176,21 @@ module _ {O I S R : Type 0} where
       ((taken_of l r).number ≡ found → ((taken_of l r).inv ≡ Some asked) × IsLeft me (goes l stage) me')
       × ((taken_of l r).number ≢ found → (y : Mail I (Block S R)) × (told y ≡ Asked asked)
       × (found ≤ me.0.known.sizes.calls)
-      × Takes me (goes (took l r found asked) stage) (slot_of me.0.known.sizes (call_frame me.0.known.sizes r (found - 1)) me.0.known.first) y me'))
+      × Takes me (goes (took l r found asked) stage)
+      (slot_of me.0.known.sizes (call_frame me.0.known.sizes r (found - 1)) me.0.known.first) y me'))
 
   -- the slot for reader r of the block comes next
   abbrev pub IsLaying : I → (tries : ℕ) → Image S R → (r : ℕ) → Mine O I S R → Type 0
   IsLaying inv tries image r me =
-      ((r ≡ 0) × (stage_of me ≡ Reading inv tries me.0.known.sizes.processes image)) ⊎ (stage_of me ≡ Writing inv tries image r false)
+      ((r ≡ 0) × (stage_of me ≡ Reading inv tries me.0.known.sizes.processes image))
+      ⊎ (stage_of me ≡ Writing inv tries image r false)
 
   abbrev pub HasLaidOpen : Step (Mail I (Block S R)) → Mine O I S R → ℕ → Mine O I S R → Type 0
   HasLaidOpen step me found me' =
       (inv : I) (tries r : ℕ) (image : Image S R) → IsLaying inv tries image r me
-      → (y : Mail I (Block S R)) × Takes me (goes (local_of me) (Writing inv tries image r true)) (slot_of me.0.known.sizes (own_block me) r) y me'
+      → (y : Mail I (Block S R))
+      × Takes me (goes (local_of me) (Writing inv tries image r true))
+      (slot_of me.0.known.sizes (own_block me) r) y me'
 
   abbrev pub HasLaid : Step (Mail I (Block S R)) → Mine O I S R → ℕ → Mine O I S R → Type 0
   HasLaid step me found me' =
@@ -160,6 +202,14 @@ module _ {O I S R : Type 0} where
   HasBrought step me found me' =
       (inv : I) (tries r : ℕ) (image : Image S R) → stage_of me ≡ Writing inv tries image r false
       → let l = local_of me in
-      (found ≡ l.word → (x : R) × ((row_in image me.0.known.first).reply ≡ Some x) × (applied_in image me.0.known.first ≡ length l.own + 1)
+      (found ≡ l.word → (x : R) × ((row_in image me.0.known.first).reply ≡ Some x)
+      × (applied_in image me.0.known.first ≡ length l.own + 1)
+      × (l.after < version_in step.second)
       × IsLeft me (returns (has_block l step.second image) inv x) me')
       × (found ≢ l.word → IsLeft me (goes l (Ready inv (tries + 1))) me')
+
+  -- a process with no call pending asks which version has come
+  abbrev pub HasAsked : Step (Mail I (Block S R)) → Mine O I S R → ℕ → Mine O I S R → Type 0
+  HasAsked step me s me' =
+      stage_of me ≡ Idle → ((local_of me).after ≤ version_in s)
+      × IsLeft me (knows (local_of me) (version_in s)) me'

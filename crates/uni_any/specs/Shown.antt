@@ -1,5 +1,6 @@
 -- The rule of the table: its words, its slots and the views of its seats show a board with its processes.
-use Rattle.std.specs.Prelude.{◌≡◌, ◌≢◌, ℕ, List, ◌+◌, ◌*◌, ◌<◌, ◌≤◌, length, slice_index}
+use Rattle.std.specs.Prelude.{◌≡◌, ◌≢◌, ℕ, List, ◌+◌, ◌*◌, ◌<◌, ◌≤◌, length}
+use Rattle.std.specs.Prelude.{slice_index}
 use mathlib.Core.Option.{Option, some}
 use lib.ListN.{get_elem?}
 use Rattle.atomic_table.specs.Table.{State}
@@ -24,17 +25,20 @@ module _ {I S R : Type 0} (sizes : Sizes) where
   pub record AreSlots (g : Board I S R) (homes : List (Option (Mail I (Block S R)))) : Type 0 where
     pub many : length homes ≡ frames_of sizes * sizes.processes
     pub home : (f r : ℕ) → f < frames_of sizes → r < sizes.processes → g.slot f r ≢ 1
-        → (y : Mail I (Block S R)) × (get_elem? homes (slot_of sizes f r) ≡ some (some y)) × (g.slot f r ≡ 2 → told y ≡ g.content f)
+        → (y : Mail I (Block S R)) × (get_elem? homes (slot_of sizes f r) ≡ some (some y))
+        × (g.slot f r ≡ 2 → told y ≡ g.content f)
 
 module _ {O I S R : Type 0} (sizes : Sizes) where
   -- the seat id tells of each of its processes what there is
-  pub record Tells (o : O) (local : ℕ → Local I S R) (seat_of : ℕ → ℕ) (id : ℕ) (v : View O I S R) : Type 0 where
+  pub record Tells (o : O) (local : ℕ → Local I S R) (seat_of : ℕ → ℕ) (id : ℕ) (v : View O I S R)
+      : Type 0 where
     pub object : v.object ≡ o
     pub sizes_are : v.known.sizes ≡ sizes
     pub each : (p : ℕ) → v.known.first ≤ p → p < v.known.first + v.known.count
         → (p < sizes.processes) × (seat_of p ≡ id) × (local p ≡ v.known.local)
 
-  pub record IsShown (meaning : O → Sequential S I R) (o : O) (g : Board I S R) (local : ℕ → Local I S R) (seat_of : ℕ → ℕ)
+  pub record IsShown (meaning : O → Sequential S I R) (o : O) (g : Board I S R)
+      (local : ℕ → Local I S R) (seat_of : ℕ → ℕ)
       (s : State (Mail I (Block S R)) (View O I S R)) : Type 0 where
     pub few : AreFew sizes
     pub words : AreWords sizes g s.words
@@ -43,6 +47,8 @@ module _ {O I S R : Type 0} (sizes : Sizes) where
     pub sound : IsSound (meaning o) sizes g local
 
 -- the rule: the table shows some board
-abbrev pub ShowsBoard : {O I S R : Type 0} → (meaning : O → Sequential S I R) → (o : O) → Sizes → State (Mail I (Block S R)) (View O I S R) → Type 0
+abbrev pub ShowsBoard : {O I S R : Type 0} → (meaning : O → Sequential S I R) → (o : O) → Sizes
+    → State (Mail I (Block S R)) (View O I S R) → Type 0
 ShowsBoard {O} {I} {S} {R} meaning o sizes s =
-    (g : Board I S R) × ((local : ℕ → Local I S R) × ((seat_of : ℕ → ℕ) × IsShown sizes meaning o g local seat_of s))
+    (g : Board I S R)
+    × ((local : ℕ → Local I S R) × ((seat_of : ℕ → ℕ) × IsShown sizes meaning o g local seat_of s))

@@ -19,9 +19,11 @@ pub record IsOf {O I S R : Type 0} (o : O) (sizes : Sizes) (p : ℕ) (me : Mine 
 -- it took the slot of its next invocation for reader r last, which holds this invocation
 abbrev pub HoldsCall : {O I S R : Type 0} → Sizes → (p r : ℕ) → I → Mine O I S R → Type 0
 HoldsCall {O} {I} {S} {R} sizes p r inv me =
-    (y : Mail I (Block S R)) × (told y ≡ Asked inv) × (me.1 ≡ (slot_of sizes (call_frame sizes p (made_of me)) r, y) ∷ rest me.1)
+    (y : Mail I (Block S R)) × (told y ≡ Asked inv)
+    × (me.1 ≡ (slot_of sizes (call_frame sizes p (made_of me)) r, y) ∷ rest me.1)
 
 -- the same of its block
 abbrev pub HoldsBlock : {O I S R : Type 0} → Sizes → (p r : ℕ) → Image S R → Mine O I S R → Type 0
 HoldsBlock {O} {I} {S} {R} sizes p r image me =
-    (y : Mail I (Block S R)) × (told y ≡ Made image) × (me.1 ≡ (slot_of sizes (block_frame sizes (p * sizes.calls + made_of me)) r, y) ∷ rest me.1)
+    (y : Mail I (Block S R)) × (told y ≡ Made image)
+    × (me.1 ≡ (slot_of sizes (block_frame sizes (p * sizes.calls + made_of me)) r, y) ∷ rest me.1)

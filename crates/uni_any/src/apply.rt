@@ -1,29 +1,41 @@
 //! Calls.
 ghost use Rattle.std.specs.Prelude.{◌≡◌, ◌⊎◌, ◌↔◌, ◌+◌, ◌++◌, ◌∷◌, ◌<◌};
 ghost use Rattle.std.specs.Prelude.{◌≤◌, []};
-ghost use Rattle.std.specs.Prelude.{IfOk, IsErrOf, IsNone, IsSome, None, OnErr, OnOk, Some, false, true};
+ghost use Rattle.std.specs.Prelude.{IfOk, IsErr, IsErrOf, IsNone, IsSome, IsTrue, None, OnErr, OnOk, Some, false, true};
 ghost use Rattle.uni_any.specs.Belongs.{IsSeatOf, calls_made, calls_of, own_calls, pending_call, process_of};
-ghost use Rattle.uni_any.specs.Belongs.{sizes_of, word_steps_of};
+ghost use Rattle.uni_any.specs.Belongs.{sizes_of, version_of, word_steps_of};
 ghost use Rattle.uni_any.specs.Calls.{call_steps, resume_steps};
 
 use crate::post::owners;
-use crate::seat::{AnyFault, AnyResumeFault, AnySeat};
+use crate::seat::{AnyAnswer, AnyFault, AnyResumeFault, AnySeat, CallPending};
 use crate::shared::AnyShared;
+use crate::steps::SPAN;
 use seq_object::SeqObject;
 use std::alloc::{AllocError, Global};
 use std::sync::Arc;
 
 impl<O: SeqObject> AnySeat<O> {
     /// Goes on with the pending call, and ends it.
-    fn end(&mut self, alloc: Global, shared: &AnyShared<O>) -> Result<O::Resp, AllocError>
+    fn end(
+        &mut self,
+        alloc: Global,
+        shared: &AnyShared<O>,
+    ) -> Result<AnyAnswer<O::Resp>, AllocError>
         requires seat { IsSeatOf shared.now self.old }
         requires pending { self.old.pending ≡ true }
         ensures kept { IsSeatOf shared.now self.new × (process_of self.new ≡ process_of self.old) }
         ensures memory { OnErr result ((pending_call self.new ≡ pending_call self.old)
             × (own_calls self.new ≡ own_calls self.old)) }
         ensures own { (inv : O.Inv) → pending_call self.old ≡ Some inv
-            → IfOk result (λ reply.
-            own_calls self.new ≡ own_calls self.old ++ record { inv = inv; reply = reply } ∷ []) }
+            → IfOk result (λ answer. own_calls self.new ≡ own_calls self.old ++ record {
+              inv = inv;
+              reply = answer.reply;
+              after = version_of self.old;
+              version = answer.version;
+            } ∷ []) }
+        ensures later { IfOk result (λ answer. version_of self.old < answer.version) }
+        ensures version { IfOk result (λ answer. version_of self.new ≡ answer.version) }
+        ensures same_version { OnErr result (version_of self.new ≡ version_of self.old) }
         ensures idle { OnOk result (pending_call self.new ≡ None) }
         ensures few_steps { word_steps_of self.new ≤ word_steps_of self.old + resume_steps (sizes_of shared.now) }
     {
@@ -37,7 +49,8 @@ impl<O: SeqObject> AnySeat<O> {
         )?;
         self.pending = false;
         self.made += 1;
-        Ok(reply)
+        let version = self.held.word / SPAN;
+        Ok(AnyAnswer { reply, version })
     }
 
     /// Makes the next call: announces it, and ends it.
@@ -46,15 +59,22 @@ impl<O: SeqObject> AnySeat<O> {
         alloc: Global,
         shared: &AnyShared<O>,
         inv: O::Inv,
-    ) -> Result<O::Resp, AllocError>
+    ) -> Result<AnyAnswer<O::Resp>, AllocError>
         requires seat { IsSeatOf shared.now self.old }
         requires idle { self.old.pending ≡ false }
         requires made { self.old.made < calls_of shared.now }
         ensures kept { IsSeatOf shared.now self.new × (process_of self.new ≡ process_of self.old) }
         ensures memory { OnErr result ((self.new ≡ self.old)
             ⊎ ((pending_call self.new ≡ Some inv) × (own_calls self.new ≡ own_calls self.old))) }
-        ensures own { IfOk result
-            (λ reply. own_calls self.new ≡ own_calls self.old ++ record { inv = inv; reply = reply } ∷ []) }
+        ensures own { IfOk result (λ answer. own_calls self.new ≡ own_calls self.old ++ record {
+          inv = inv;
+          reply = answer.reply;
+          after = version_of self.old;
+          version = answer.version;
+        } ∷ []) }
+        ensures later { IfOk result (λ answer. version_of self.old < answer.version) }
+        ensures version { IfOk result (λ answer. version_of self.new ≡ answer.version) }
+        ensures same_version { OnErr result (version_of self.new ≡ version_of self.old) }
         ensures idle { OnOk result (pending_call self.new ≡ None) }
         ensures few_steps { word_steps_of self.new ≤ word_steps_of self.old + call_steps (sizes_of shared.now) }
     {
@@ -67,7 +87,11 @@ impl<O: SeqObject> AnySeat<O> {
         self.end(alloc, shared)
     }
 
-    /// Applies the invocation: the reply. It is one more of the seat's calls then. The seat is one of this object's.
+    /// Applies the invocation: the reply, and a version in which the call is. It is one more of the seat's calls
+    /// then. The seat is one of this object's.
+    ///
+    /// The call comes after all calls that are in the version which the seat follows, and its own version is
+    /// greater; the seat follows that one then.
     ///
     /// With n processes it returns after at most `8 * n + 6` steps on shared words, whatever the other seats
     /// do, and takes no lock. Beside them it costs up to `2 * n` applications of the object, and what these
@@ -82,7 +106,7 @@ impl<O: SeqObject> AnySeat<O> {
         alloc: Global,
         shared: &AnyShared<O>,
         inv: O::Inv,
-    ) -> Result<O::Resp, AnyFault>
+    ) -> Result<AnyAnswer<O::Resp>, AnyFault>
         requires seat { IsSeatOf shared.now self.old }
         ensures kept { IsSeatOf shared.now self.new × (process_of self.new ≡ process_of self.old) }
         ensures pending { IsErrOf result AnyFault.Pending ↔ IsSome (pending_call self.old) }
@@ -92,8 +116,15 @@ impl<O: SeqObject> AnySeat<O> {
             → self.new ≡ self.old }
         ensures memory { IsErrOf result AnyFault.Memory → (self.new ≡ self.old)
             ⊎ ((pending_call self.new ≡ Some inv) × (own_calls self.new ≡ own_calls self.old)) }
-        ensures own { IfOk result
-            (λ reply. own_calls self.new ≡ own_calls self.old ++ record { inv = inv; reply = reply } ∷ []) }
+        ensures own { IfOk result (λ answer. own_calls self.new ≡ own_calls self.old ++ record {
+          inv = inv;
+          reply = answer.reply;
+          after = version_of self.old;
+          version = answer.version;
+        } ∷ []) }
+        ensures later { IfOk result (λ answer. version_of self.old < answer.version) }
+        ensures version { IfOk result (λ answer. version_of self.new ≡ answer.version) }
+        ensures same_version { OnErr result (version_of self.new ≡ version_of self.old) }
         ensures idle { OnOk result (pending_call self.new ≡ None) }
         ensures few_steps { word_steps_of self.new ≤ word_steps_of self.old + call_steps (sizes_of shared.now) }
     {
@@ -103,13 +134,14 @@ impl<O: SeqObject> AnySeat<O> {
         if self.made >= shared.setup.sizes.calls {
             return Err(AnyFault::Spent);
         }
-        let Ok(reply) = self.call(alloc, shared, inv) else {
+        let Ok(answer) = self.call(alloc, shared, inv) else {
             return Err(AnyFault::Memory);
         };
-        Ok(reply)
+        Ok(answer)
     }
 
-    /// Goes on with the call that was left pending: its reply. It is one more of the seat's calls then.
+    /// Goes on with the call that was left pending: its answer, as `apply` would have given it. It is one more of
+    /// the seat's calls then.
     ///
     /// With n processes it returns after at most `6 * n + 5` steps on shared words.
     ///
@@ -118,7 +150,7 @@ impl<O: SeqObject> AnySeat<O> {
         &mut self,
         alloc: Global,
         shared: &AnyShared<O>,
-    ) -> Result<O::Resp, AnyResumeFault>
+    ) -> Result<AnyAnswer<O::Resp>, AnyResumeFault>
         requires seat { IsSeatOf shared.now self.old }
         ensures kept { IsSeatOf shared.now self.new × (process_of self.new ≡ process_of self.old) }
         ensures nothing { IsErrOf result AnyResumeFault.NothingPending ↔ IsNone (pending_call self.old) }
@@ -126,17 +158,51 @@ impl<O: SeqObject> AnySeat<O> {
         ensures memory { IsErrOf result AnyResumeFault.Memory → (pending_call self.new ≡ pending_call self.old)
             × (own_calls self.new ≡ own_calls self.old) }
         ensures own { (inv : O.Inv) → pending_call self.old ≡ Some inv
-            → IfOk result (λ reply.
-            own_calls self.new ≡ own_calls self.old ++ record { inv = inv; reply = reply } ∷ []) }
+            → IfOk result (λ answer. own_calls self.new ≡ own_calls self.old ++ record {
+              inv = inv;
+              reply = answer.reply;
+              after = version_of self.old;
+              version = answer.version;
+            } ∷ []) }
+        ensures later { IfOk result (λ answer. version_of self.old < answer.version) }
+        ensures version { IfOk result (λ answer. version_of self.new ≡ answer.version) }
+        ensures same_version { OnErr result (version_of self.new ≡ version_of self.old) }
         ensures idle { OnOk result (pending_call self.new ≡ None) }
         ensures few_steps { word_steps_of self.new ≤ word_steps_of self.old + resume_steps (sizes_of shared.now) }
     {
         if !self.pending {
             return Err(AnyResumeFault::NothingPending);
         }
-        let Ok(reply) = self.end(alloc, shared) else {
+        let Ok(answer) = self.end(alloc, shared) else {
             return Err(AnyResumeFault::Memory);
         };
-        Ok(reply)
+        Ok(answer)
+    }
+
+    /// Asks whether this version has come, by one load of the word that names the present one. The seat follows
+    /// the present version then: later calls of this seat come after all calls that are in it, and their
+    /// versions are greater. The answer is `true` exactly where the present version is at least the one
+    /// that was asked for.
+    ///
+    /// A version that an answer had has come: whoever was told of a call's version, by whatever means, and
+    /// follows it, makes its later calls come after that call.
+    ///
+    /// The error says that the seat has a call pending; nothing is changed then.
+    pub fn follows(&mut self, shared: &AnyShared<O>, version: u64) -> Result<bool, CallPending>
+        requires seat { IsSeatOf shared.now self.old }
+        ensures kept { IsSeatOf shared.now self.new × (process_of self.new ≡ process_of self.old) }
+        ensures pending { IsErr result ↔ IsSome (pending_call self.old) }
+        ensures unchanged { OnErr result (self.new ≡ self.old) }
+        ensures calls { (own_calls self.new ≡ own_calls self.old)
+            × (pending_call self.new ≡ pending_call self.old) }
+        ensures asked { IfOk result (λ come. IsTrue come ↔ (version ≤ version_of self.new)) }
+        ensures later { version_of self.old ≤ version_of self.new }
+        ensures one_step { OnOk result (word_steps_of self.new ≡ word_steps_of self.old + 1) }
+    {
+        if self.pending {
+            return Err(CallPending);
+        }
+        let present = shared.present(&mut self.seat, self.p);
+        Ok(version <= present)
     }
 }

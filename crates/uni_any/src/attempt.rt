@@ -55,7 +55,7 @@ impl<O: SeqObject> AnyShared<O> {
     {
         let s = self.start(seat, p);
         if s != held.word {
-            let slot = self.block_slot(s % SPAN - 1, p);
+            let slot = self.setup.sizes.block_slot(s % SPAN - 1, p);
             let Mail::Version(block) = self.put(seat, slot, Mail::Empty) else {
                 unreachable!()
             };
@@ -93,7 +93,7 @@ impl<O: SeqObject> AnyShared<O> {
         if announced == seen.number {
             return true;
         }
-        let slot = self.call_slot(r, announced - 1, p);
+        let slot = self.setup.sizes.call_slot(r, announced - 1, p);
         let Mail::Call(call) = self.put(seat, slot, Mail::Empty) else {
             unreachable!()
         };

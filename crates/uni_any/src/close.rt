@@ -1,11 +1,10 @@
 //! Closing an object.
-ghost use Rattle.std.specs.Prelude.{◌≡◌, ◌*◌, ◌<◌};
+ghost use Rattle.std.specs.Prelude.{◌≡◌, ◌<◌, ◌∷◌, []};
 ghost use Rattle.std.specs.Arc.{arc_value};
 ghost use Rattle.std.specs.Mem.Slots.{IsFull, slots_items, slots_len};
 ghost use lib.ListN.{get_elem?};
 ghost use mathlib.Core.Option.{some};
-ghost use Rattle.uni_any.specs.Belongs.{IsSeatOf, object_of, own_calls, pending_call, process_of, processes_of};
-ghost use Rattle.uni_any.specs.Board.{AreFew, block_frame, slot_of};
+ghost use Rattle.uni_any.specs.Belongs.{IsSeatOf, known_calls, object_of, processes_of};
 ghost use Rattle.uni_any.specs.Final.{IsLinearized};
 
 use crate::block::Block;
@@ -13,7 +12,6 @@ use crate::mail::Mail;
 use crate::rule::Setup;
 use crate::seat::{AnySeat, Held};
 use crate::shared::AnyShared;
-use crate::sizes::Sizes;
 use crate::steps::SPAN;
 use atomic_table::Closed;
 use seq_object::SeqObject;
@@ -49,26 +47,19 @@ fn take_slot<I: Drop, B: Drop>(closed: Closed<Mail<I, B>, Global>, slot: usize) 
     kept
 }
 
-/// The slot for reader p of block b.
-fn slot_of_block(sizes: &Sizes, b: u64, p: u64) -> usize
-    requires few { AreFew sizes.now }
-    requires inside { (b < sizes.now.processes * sizes.now.calls) × (p < sizes.now.processes) }
-    ensures { result ≡ slot_of sizes.now (block_frame sizes.now b) p }
-{
-    ((sizes.processes * sizes.calls + b) * sizes.processes + p) as usize
-}
-
 impl<O: SeqObject> AnyShared<O> {
     /// Closes the object with the seat of one of its processes, which is one of this object's: its last
     /// version. Other seats may be dropped: which calls they made is not said. It takes no memory.
     ///
     /// The calls of the seat's process, with the replies that they were given, are those of a history that the
     /// atomic object accepts; where one is pending, it has begun, and may have taken effect. The last version
-    /// has the state after the calls of this history, in the order in which they took effect.
+    /// has the state after the calls of this history, in the order in which they took effect. In that order each of
+    /// them that has returned comes after all calls of the version that its seat had followed, and is among those of
+    /// its own version.
     pub fn close_with(self, seat: AnySeat<O>) -> Arc<Block<O::State, O::Resp>, Global>
         requires seat { IsSeatOf self seat }
-        ensures told { IsLinearized (O.sequential (object_of self)) (processes_of self) (process_of seat)
-            (own_calls seat) (pending_call seat) (arc_value result).state }
+        ensures told { IsLinearized (O.sequential (object_of self)) (processes_of self)
+            (known_calls seat ∷ []) (arc_value result).state }
     {
         let AnyShared { setup, table } = self;
         let Setup { object, sizes } = setup;
@@ -81,7 +72,7 @@ impl<O: SeqObject> AnyShared<O> {
             free(closed);
             return block;
         }
-        let slot = slot_of_block(&sizes, s % SPAN - 1, p);
+        let slot = sizes.block_slot(s % SPAN - 1, p);
         let Mail::Version(last) = take_slot(closed, slot) else {
             unreachable!()
         };

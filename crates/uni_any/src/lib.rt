@@ -18,5 +18,5 @@ mod view;
 
 pub use block::{Block, Row};
 pub use open::{AnyOpenFault, MAX_CALLS, MAX_PROCESSES};
-pub use seat::{AnyFault, AnyResumeFault, AnySeat};
+pub use seat::{AnyAnswer, AnyFault, AnyResumeFault, AnySeat, CallPending};
 pub use shared::AnyShared;

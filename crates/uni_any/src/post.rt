@@ -45,7 +45,7 @@ impl<O: SeqObject> AnyShared<O> {
     {
         let mail = Mail::Call(call);
         self.open_call(seat, p, made, r, &mail);
-        let slot = self.call_slot(p, made, r);
+        let slot = self.setup.sizes.call_slot(p, made, r);
         let _empty = self.put(seat, slot, mail);
         self.close_call(seat, p, r);
     }
@@ -102,7 +102,10 @@ impl<O: SeqObject> AnyShared<O> {
     {
         let mail = Mail::Version(block);
         self.open_block(seat, p, made, r);
-        let slot = self.block_slot(p * self.setup.sizes.calls + made, r);
+        let slot = self
+            .setup
+            .sizes
+            .block_slot(p * self.setup.sizes.calls + made, r);
         let _empty = self.put(seat, slot, mail);
         self.close_block(seat, p, r);
     }

@@ -115,6 +115,15 @@ impl<O: SeqObject> Play<MailOf<O>, ViewOf<O>> for Looks {
     ghost then = { HasLooked O.sequential };
 }
 
+/// The load of S between calls.
+pub struct Asks;
+
+impl<O: SeqObject> Play<MailOf<O>, ViewOf<O>> for Asks {
+    ghost use Rattle.uni_any.specs.Plays.{HasAsked};
+
+    ghost then = { HasAsked };
+}
+
 /// The first process apart from the others.
 pub struct First;
 

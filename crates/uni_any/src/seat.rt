@@ -6,6 +6,15 @@ use std::alloc::Global;
 use std::sync::Arc;
 use thiserror::Error;
 
+/// The reply to a call, and a version of the object in which the call is. Versions count from 0, the start.
+#[derive(Clone, Copy, Debug, PartialEq, Eq)]
+pub struct AnyAnswer<R> {
+    /// The reply.
+    pub reply: R,
+    /// The version.
+    pub version: u64,
+}
+
 /// Why a call has no reply.
 #[derive(Debug, Clone, Copy, PartialEq, Eq, Drop, Error)]
 pub enum AnyFault {
@@ -30,6 +39,11 @@ pub enum AnyResumeFault {
     #[error("out of memory")]
     Memory,
 }
+
+/// A call is pending: `resume` goes on with it.
+#[derive(Debug, Clone, Copy, PartialEq, Eq, Drop, Error)]
+#[error("a call is pending")]
+pub struct CallPending;
 
 /// The version of the object that a process read last, and the word that names it.
 #[derive(Drop)]

@@ -7,12 +7,12 @@ ghost use Rattle.uni_any.specs.Content.{Content.Asked, told};
 ghost use Rattle.uni_any.specs.Board.{block_frame, call_frame, slot_of, span, word_of};
 ghost use Rattle.uni_any.specs.Plays.{IsOpening, IsPending, IsLaying, Takes, Gives, IsLeft, HasStarted, HasLooked};
 ghost use Rattle.uni_any.specs.Plays.{HasBrought};
-ghost use Rattle.uni_any.specs.Plays.{goes, local_of, stage_of, made_of};
+ghost use Rattle.uni_any.specs.Plays.{goes, knows, local_of, stage_of, made_of};
 ghost use Rattle.uni_any.specs.declared.view.Stage.TheVariants.{Idle, Posting, Ready, Reading, Writing};
 ghost use Rattle.uni_any.specs.Standing.{IsOf, HoldsCall, HoldsBlock};
 
 use crate::rule::{
-    Announces, Brings, Closes, Lays, LaysOpen, Looks, MailOf, Opens, SeatOf, Starts,
+    Announces, Asks, Brings, Closes, Lays, LaysOpen, Looks, MailOf, Opens, SeatOf, Starts,
 };
 use crate::shared::AnyShared;
 use seq_object::SeqObject;
@@ -152,6 +152,19 @@ impl<O: SeqObject> AnyShared<O> {
         self.table
             .shared
             .compare_exchange::<Brings>(seat, 0, s, new)
+    }
+
+    /// Loads S between calls: the present version.
+    pub(crate) fn present(&self, seat: &mut SeatOf<O>, p: u64) -> u64
+        requires table { seat.old.table_id ≡ self.now.table.shared.table_id }
+        requires of { IsOf self.now.setup.object self.now.setup.sizes p seat.old.me }
+        requires inside { p < self.now.setup.sizes.processes }
+        requires stage { stage_of seat.old.me ≡ Idle }
+        ensures same { (seat.new.table_id ≡ seat.old.table_id) × (seat.new.id ≡ seat.old.id) }
+        ensures left { IsLeft seat.old.me (knows (local_of seat.old.me) result) seat.new.me }
+        ensures later { (local_of seat.old.me).after ≤ result }
+    {
+        self.table.shared.load::<Asks>(seat, 0) / SPAN
     }
 
     /// Puts something into the slot that was taken last.

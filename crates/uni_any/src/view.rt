@@ -24,10 +24,13 @@ pub enum Stage<I, S, R> {
     Writing(I, u64, Image<S, R>, u64, bool),
 }
 
-/// A call that has returned.
+/// A call that has returned. It comes after all calls that are in version `after` of the object, and is one of
+/// those that are in `version`.
 pub struct Returned<I, R> {
     pub inv: I,
     pub reply: R,
+    pub after: u64,
+    pub version: u64,
 }
 
 /// The last invocation of a process that a reader has taken: its number, from 1 on.
@@ -36,10 +39,11 @@ pub struct Taken<I> {
     pub inv: Option<I>,
 }
 
-/// Of one process: its stage, its calls that have returned, the word that it read last and the block that this
-/// names, what it has taken of each process, and how many word steps it has made.
+/// Of one process: its stage, the version that its next calls come after, its calls that have returned, the word that
+/// it read last and the block that this names, what it has taken of each process, and how many word steps it has made.
 pub struct Local<I, S, R> {
     pub stage: Stage<I, S, R>,
+    pub after: u64,
     pub own: LinkedList<Returned<I, R>, Global>,
     pub word: u64,
     pub base: Image<S, R>,

@@ -2,4 +2,4 @@ use Rattle.uni_any.proofs.Meaning.{linearized_at}
 use Rattle.uni_any.proofs.laws.shown_is_linearizable.Goals as goal
 
 pub returns : goal.returns
-returns g c o sizes id b local seat_of s v is at single = linearized_at g.O.SeqObject.sequential o sizes b local seat_of s is id v at single
+returns g c o sizes b local seat_of s is known by = linearized_at g.O.SeqObject.sequential o sizes b local seat_of s is known by

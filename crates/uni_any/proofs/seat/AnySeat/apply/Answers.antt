@@ -80,3 +80,6 @@ returns-clause-spent g c =
 
 pub returns-in_default-clause-memory : goal.returns-in_default-clause-memory
 returns-in_default-clause-memory g c e = else_err c.call.result c.in_default.not-Ok c.call.ensures.memory
+
+pub returns-in_default-clause-same_version : goal.returns-in_default-clause-same_version
+returns-in_default-clause-same_version g c = else_err c.call.result c.in_default.not-Ok c.call.ensures.same_version

@@ -1,7 +1,7 @@
 use Rattle.uni_any.proofs.Vocabulary.{Some, View, ap, arith, inl, inr, local_of, pending_of, refl, stage_of, subst, ◌*◌, ◌+◌, ◌∙◌}
 use Rattle.std.specs.Arc.{arc_value}
 use Rattle.uni_any.specs.Belongs.{Has, StandsAt}
-use Rattle.uni_any.proofs.Seats.{refused_same, seat_posted, then_own, then_told}
+use Rattle.uni_any.proofs.Seats.{refused_same, seat_posted, then_later, then_own, then_told}
 use Rattle.uni_any.proofs.seat.AnySeat.call.Goals as goal
 
 pub post_call-requires-clause-made : goal.post_call-requires-clause-made
@@ -56,7 +56,8 @@ returns-clause-own g c =
     let posted = c.post_call.ensures.left in
     let own = ap (λ (v : View _ _ _ _). v.known.local.own) posted in
     let pending = ap (λ (v : View _ _ _ _). pending_of v.known.local.stage) posted in
-    then_own c.end.result _ _ _ _ _ own c.in-Ok.ensures.ok (c.end.ensures.own inv pending)
+    let after = ap (λ (v : View _ _ _ _). v.known.local.after) posted in
+    then_own c.end.result _ _ _ _ _ _ _ own c.in-Ok.ensures.ok after (c.end.ensures.own inv pending)
 
 pub returns-clause-few_steps : goal.returns-clause-few_steps
 returns-clause-few_steps g c =
@@ -70,3 +71,12 @@ returns-clause-few_steps g c =
     let e = ap (λ (v : View _ _ _ _). v.known.local.steps) posted in
     let f = c.end.ensures.few_steps in
     omega arith
+
+pub returns-clause-later : goal.returns-clause-later
+returns-clause-later g c = then_later c.end.result _ _ (ap (λ (v : View _ _ _ _). v.known.local.after) c.post_call.ensures.left) c.end.ensures.later
+
+pub returns-clause-same_version : goal.returns-clause-same_version
+returns-clause-same_version g c = then_told c.end.result c.end.ensures.same_version (λ same. same ∙ ap (λ (v : View _ _ _ _). v.known.local.after) c.post_call.ensures.left)
+
+pub returns-in_err-owners-clause-same_version : goal.returns-in_err-owners-clause-same_version
+returns-in_err-owners-clause-same_version g c = refused_same c.from_residual.result c.from_residual.ensures.0 refl

@@ -4,7 +4,7 @@ use Rattle.std.proofs.lemmas.Option.{same_Some}
 use Rattle.std.specs.Vec.{with_items}
 use Rattle.uni_any.specs.Belongs.{Has, StandsAt}
 use Rattle.uni_any.specs.Calls.{HasEnded, resume_steps}
-use Rattle.uni_any.proofs.Seats.{ended_idle, ended_own, ended_steps, left_own, left_pending, left_steps, pending_is, refused_told, seat_ended, seat_left, stands_pending}
+use Rattle.uni_any.proofs.Seats.{ended_after, ended_idle, ended_later, ended_own, ended_steps, left_after, left_own, left_pending, left_steps, pending_is, refused_same, refused_told, seat_ended, seat_left, stands_pending}
 use Rattle.uni_any.proofs.seat.AnySeat.end.Goals as goal
 
 pub finish-requires-clause-inside : goal.finish-requires-clause-inside
@@ -97,7 +97,7 @@ returns-clause-own g c inv' asked =
     let me1 = c.finish.new.seat.me in
     let inv = stands.1.0 in
     let same : inv ≡ inv' = same_Some inv inv' (sym (pending_is me inv 0 stands.1.1) ∙ asked) in
-    ended_own me me1 inv' c.in_ok-reply.reply most (subst (λ i. HasEnded me i c.in_ok-reply.reply most me1) same (c.in_ok-reply.ensures.left inv stands.1.1))
+    ended_own me me1 inv' c.in_ok-reply.reply most (subst (λ i. HasEnded me i c.in_ok-reply.reply most me1) same (c.in_ok-reply.ensures.left inv stands.1.1)) c.finish.new.held.word c.finish.ensures.has.word
 
 pub returns-clause-idle : goal.returns-clause-idle
 returns-clause-idle g c =
@@ -122,3 +122,39 @@ returns-clause-few_steps g c =
     let me1 = c.finish.new.seat.me in
     let inv = stands.1.0 in
     ended_steps me me1 inv c.in_ok-reply.reply most (c.in_ok-reply.ensures.left inv stands.1.1)
+
+pub returns-clause-later : goal.returns-clause-later
+returns-clause-later g c =
+    let shared = c.args.shared.now in
+    let self = c.args.self.now in
+    let is = c.requires.seat in
+    let stands = stands_pending self.made shared.setup.sizes.calls self.seat.me (subst (λ b. StandsAt b self.made shared.setup.sizes.calls (stage_of self.seat.me)) c.requires.pending is.stands) in
+    let most = resume_steps shared.setup.sizes in
+    let me = self.seat.me in
+    let me1 = c.finish.new.seat.me in
+    let inv = stands.1.0 in
+    ended_later me me1 inv c.in_ok-reply.reply most (c.in_ok-reply.ensures.left inv stands.1.1) c.finish.new.held.word c.finish.ensures.has.word
+
+pub returns-clause-version : goal.returns-clause-version
+returns-clause-version g c =
+    let shared = c.args.shared.now in
+    let self = c.args.self.now in
+    let is = c.requires.seat in
+    let stands = stands_pending self.made shared.setup.sizes.calls self.seat.me (subst (λ b. StandsAt b self.made shared.setup.sizes.calls (stage_of self.seat.me)) c.requires.pending is.stands) in
+    let most = resume_steps shared.setup.sizes in
+    let me = self.seat.me in
+    let me1 = c.finish.new.seat.me in
+    let inv = stands.1.0 in
+    ended_after me me1 inv c.in_ok-reply.reply most (c.in_ok-reply.ensures.left inv stands.1.1) c.finish.new.held.word c.finish.ensures.has.word
+
+pub returns-in_err-reply-clause-same_version : goal.returns-in_err-reply-clause-same_version
+returns-in_err-reply-clause-same_version g c =
+    let shared = c.args.shared.now in
+    let self = c.args.self.now in
+    let is = c.requires.seat in
+    let stands = stands_pending self.made shared.setup.sizes.calls self.seat.me (subst (λ b. StandsAt b self.made shared.setup.sizes.calls (stage_of self.seat.me)) c.requires.pending is.stands) in
+    let most = resume_steps shared.setup.sizes in
+    let me = self.seat.me in
+    let me1 = c.finish.new.seat.me in
+    let inv = stands.1.0 in
+    refused_same c.from_residual.result c.from_residual.ensures.0 (left_after me me1 inv most (c.in_err-reply.ensures.left inv stands.1.1))

@@ -31,3 +31,6 @@ returns-clause-nothing g c =
 
 pub returns-in_default-clause-memory : goal.returns-in_default-clause-memory
 returns-in_default-clause-memory g c e = else_err c.end.result c.in_default.not-Ok c.end.ensures.memory
+
+pub returns-in_default-clause-same_version : goal.returns-in_default-clause-same_version
+returns-in_default-clause-same_version g c = else_err c.end.result c.in_default.not-Ok c.end.ensures.same_version

@@ -41,11 +41,11 @@ overflow_sub-s g c =
     let k = closed_other meaning self.setup.object self.setup.sizes final.0 holds words final.2 seat.p seat.seat.id seat.seat.me is.own final.1.1 other in
     let w = ap (λ w. w % 4294967296) s in let e = k.1 in omega arith
 
-pub slot_of_block-slot-requires-clause-few : goal.slot_of_block-slot-requires-clause-few
-slot_of_block-slot-requires-clause-few g c = c.args.self.few
+pub block_slot-slot-requires-clause-few : goal.block_slot-slot-requires-clause-few
+block_slot-slot-requires-clause-few g c = c.args.self.few
 
-pub slot_of_block-slot-requires-clause-inside : goal.slot_of_block-slot-requires-clause-inside
-slot_of_block-slot-requires-clause-inside g c =
+pub block_slot-slot-requires-clause-inside : goal.block_slot-slot-requires-clause-inside
+block_slot-slot-requires-clause-inside g c =
     let self = c.args.self in
     let seat = c.args.seat in
     let is = c.requires.seat in
@@ -75,7 +75,7 @@ take_slot-requires-clause-inside g c =
     let k = closed_other meaning self.setup.object self.setup.sizes final.0 holds words final.2 seat.p seat.seat.id seat.seat.me is.own final.1.1 other in
     let sizes = self.setup.sizes in
     let number : c.word-s.result % 4294967296 - 1 ≡ k.0 = (let w = ap (λ w. w % 4294967296) s in let e = k.1 in omega arith) in
-    let place : c.slot_of_block-slot.result ≡ slot_of sizes (block_frame sizes k.0) seat.p = c.slot_of_block-slot.ensures ∙ ap (λ b. slot_of sizes (block_frame sizes b) seat.p) number in
+    let place : c.block_slot-slot.result ≡ slot_of sizes (block_frame sizes k.0) seat.p = c.block_slot-slot.ensures ∙ ap (λ b. slot_of sizes (block_frame sizes b) seat.p) number in
     let inside : slot_of sizes (block_frame sizes k.0) seat.p < frames_of sizes * sizes.processes = place_inside sizes.processes (frames_of sizes) (block_frame sizes k.0) seat.p (block_inside sizes k.0 k.2) is.inside in
     (let a = c.close_with-closed.ensures.counts.1 in let b = self.slotted in omega arith)
 
@@ -91,8 +91,8 @@ unreachable-requires g c =
     let s : c.word-s.result ≡ slice_index words 0 = first_word words c.word-s.result c.word-s.ensures in
     let other : (local_of seat.seat.me).word ≢ slice_index words 0 = (λ same. c.if-s-word.false (s ∙ sym same ∙ is.has.word)) in
     let k = closed_other meaning self.setup.object self.setup.sizes final.0 holds words final.2 seat.p seat.seat.id seat.seat.me is.own final.1.1 other in
-    let tells = closed_told meaning self.setup.object self.setup.sizes final.0 holds words final.2 seat.p seat.seat.id seat.seat.me is.own final.1.1 (slots_items c.close_with-closed.result.slots) final.4 other c.slot_of_block-slot.result c.take_slot.result
-    (c.slot_of_block-slot.ensures ∙ ap (λ w. slot_of self.setup.sizes (block_frame self.setup.sizes (w % 4294967296 - 1)) seat.p) s) c.take_slot.ensures in
+    let tells = closed_told meaning self.setup.object self.setup.sizes final.0 holds words final.2 seat.p seat.seat.id seat.seat.me is.own final.1.1 (slots_items c.close_with-closed.result.slots) final.4 other c.block_slot-slot.result c.take_slot.result
+    (c.block_slot-slot.ensures ∙ ap (λ w. slot_of self.setup.sizes (block_frame self.setup.sizes (w % 4294967296 - 1)) seat.p) s) c.take_slot.ensures in
     let v = is_version c.take_slot.result holds.0.image tells in
     c.in_default.not-Version v.0 v.1
 
@@ -108,7 +108,7 @@ returns g c =
     let s : c.word-s.result ≡ slice_index words 0 = first_word words c.word-s.result c.word-s.ensures in
     let other : (local_of seat.seat.me).word ≢ slice_index words 0 = (λ same. c.if-s-word.false (s ∙ sym same ∙ is.has.word)) in
     let k = closed_other meaning self.setup.object self.setup.sizes final.0 holds words final.2 seat.p seat.seat.id seat.seat.me is.own final.1.1 other in
-    let tells = closed_told meaning self.setup.object self.setup.sizes final.0 holds words final.2 seat.p seat.seat.id seat.seat.me is.own final.1.1 (slots_items c.close_with-closed.result.slots) final.4 other c.slot_of_block-slot.result (Version c.in-Version.last)
-    (c.slot_of_block-slot.ensures ∙ ap (λ w. slot_of self.setup.sizes (block_frame self.setup.sizes (w % 4294967296 - 1)) seat.p) s) c.in-Version.ensures in
+    let tells = closed_told meaning self.setup.object self.setup.sizes final.0 holds words final.2 seat.p seat.seat.id seat.seat.me is.own final.1.1 (slots_items c.close_with-closed.result.slots) final.4 other c.block_slot-slot.result (Version c.in-Version.last)
+    (c.block_slot-slot.ensures ∙ ap (λ w. slot_of self.setup.sizes (block_frame self.setup.sizes (w % 4294967296 - 1)) seat.p) s) c.in-Version.ensures in
     let image = same_version (Version c.in-Version.last) c.in-Version.last holds.0.image refl tells in
     record { told = closed_linearized meaning self.setup.object self.setup.sizes final.0 holds words final.2 seat.p seat.seat.id seat.seat.me is.own final.1.1 (arc_value c.in-Version.last).state (ap (λ (b : Image _ _). b.state) (sym image)) }

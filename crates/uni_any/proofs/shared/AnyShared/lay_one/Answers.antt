@@ -5,6 +5,9 @@ use Rattle.uni_any.specs.declared.mail.Mail.TheVariants.{Version}
 use Rattle.uni_any.proofs.Places.{held_first, local_with, of_with}
 use Rattle.uni_any.proofs.shared.AnyShared.lay_one.Goals as goal
 
+pub block_slot-slot-requires-clause-few : goal.block_slot-slot-requires-clause-few
+block_slot-slot-requires-clause-few g c = c.args.self.now.few
+
 pub put-empty-requires-clause-held : goal.put-empty-requires-clause-held
 put-empty-requires-clause-held g c =
     let q = c.requires.stage in

@@ -4,6 +4,9 @@ use Rattle.uni_any.specs.declared.mail.Mail.TheVariants.{Call}
 use Rattle.uni_any.proofs.Places.{held_first, local_with, of_with}
 use Rattle.uni_any.proofs.shared.AnyShared.post_one.Goals as goal
 
+pub call_slot-slot-requires-clause-few : goal.call_slot-slot-requires-clause-few
+call_slot-slot-requires-clause-few g c = c.args.self.now.few
+
 pub put-empty-requires-clause-held : goal.put-empty-requires-clause-held
 put-empty-requires-clause-held g c =
     let o = c.open_call.ensures.left (arc_value c.args.call) refl in

@@ -13,8 +13,11 @@ overflow_sub-s g c =
     let n = t.6 (λ e. c.if-s-held.true (e ∙ c.requires.held.0)) in
     let a = n.2 in omega arith
 
-pub block_slot-slot-requires : goal.block_slot-slot-requires
-block_slot-slot-requires g c =
+pub block_slot-slot-requires-clause-few : goal.block_slot-slot-requires-clause-few
+block_slot-slot-requires-clause-few g c = c.args.self.now.few
+
+pub block_slot-slot-requires-clause-inside : goal.block_slot-slot-requires-clause-inside
+block_slot-slot-requires-clause-inside g c =
     let p = c.requires.pending in
     let t = c.start-s.ensures.left p.0 p.1.0 p.1.1 in
     let n = t.6 (λ e. c.if-s-held.true (e ∙ c.requires.held.0)) in

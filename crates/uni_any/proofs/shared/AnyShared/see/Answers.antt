@@ -33,8 +33,11 @@ returns-then-announced-seen-clause-left g c inv tries image stage =
     see_same g.O.SeqObject.sequential shared.setup.object shared.setup.sizes c.args.p c.args.r c.args.seat.now.me c.look-announced.new.seat.me c.requires.of inv tries image stage c.requires.inside.1
     (step shared.table.shared.table_id.slots (1 + c.args.r) 0 0 none) c.look-announced.result c.args.applied c.look-announced.ensures.left (ap (λ b. applied_in b c.args.r) (sym image_is) ∙ q.4) c.args.seen.now c.requires.seen c.if-announced-applied.false c.if-announced-seen.true
 
-pub call_slot-slot-requires : goal.call_slot-slot-requires
-call_slot-slot-requires g c =
+pub call_slot-slot-requires-clause-few : goal.call_slot-slot-requires-clause-few
+call_slot-slot-requires-clause-few g c = c.args.self.now.few
+
+pub call_slot-slot-requires-clause-inside : goal.call_slot-slot-requires-clause-inside
+call_slot-slot-requires-clause-inside g c =
     let shared = c.args.self.now in
     let q = c.requires.reading in
     let k = see_slot g.O.SeqObject.sequential shared.setup.object shared.setup.sizes c.args.p c.args.r c.args.seat.now.me c.look-announced.new.seat.me c.requires.of q.0 q.1 q.2 q.3 c.requires.inside.1

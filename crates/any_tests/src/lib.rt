@@ -1,0 +1,11 @@
+//! Tests of `uni_any`: objects whose states have memory of their own, that threads share without a lock.
+#![tactic(auto)]
+
+#[cfg(test)]
+mod calls;
+#[cfg(test)]
+mod refusals;
+#[cfg(test)]
+mod seats;
+#[cfg(test)]
+mod threads;

@@ -1,0 +1,218 @@
+//! Calls of four threads at the same time, on a stack and on a directory of names. A fifth seat closes.
+
+ghost use Rattle.std.specs.Prelude.{All};
+ghost use Rattle.uni_any.specs.Belongs.{IsSeatOf};
+
+use crate::calls::newest;
+use crate::seats::{last, opened};
+use ready_objects::{Amount, DirectoryInv, DirectoryObject, DirectoryResp, Name};
+use stack::{Stack, StackInv, StackResp};
+use std::alloc::Global;
+use std::process::Abort;
+use std::sync::atomic::{AtomicU64, Ordering};
+use std::test::Fail;
+use std::thread;
+use std::thread::Threads;
+use uni_any::{AnySeat, AnyShared};
+
+/// How many threads there are.
+const THREADS: u64 = 4;
+
+/// How many calls each of them makes.
+const CALLS: u64 = 500;
+
+/// The number that a thread's calls begin with: the next multiple of `CALLS`.
+fn next_first(turns: &AtomicU64) -> u64 {
+    turns.fetch_add(1, Ordering::SeqCst).wrapping_mul(CALLS)
+}
+
+/// A thread pushes the numbers from this one on, and takes one after each: the replies, fewer where memory was refused.
+fn pushes_and_pops(
+    alloc: Global,
+    shared: &AnyShared<Stack>,
+    mut seat: AnySeat<Stack>,
+    first: u64,
+) -> Vec<StackResp>
+    requires { IsSeatOf shared.now seat }
+{
+    let mut replies = Vec::new(alloc);
+    for i in 0..CALLS {
+        let inv = if i % 2 == 0 {
+            StackInv::Push((first.wrapping_add(i) % 1_000_000) as u32)
+        } else {
+            StackInv::Pop
+        };
+        if let Ok(answer) = seat.apply(alloc, shared, inv) {
+            let _ = replies.push(answer.reply);
+        }
+    }
+    replies
+}
+
+/// What threads with these seats are answered; `None` where memory was refused.
+fn on_a_stack<R: Threads + Sync>(
+    rt: &R,
+    alloc: Global,
+    shared: &AnyShared<Stack>,
+    seats: Vec<AnySeat<Stack>>,
+) -> Option<Vec<Vec<StackResp>>>
+    requires { All (IsSeatOf shared.now) seats.items }
+{
+    let turns = AtomicU64::new(0);
+    thread::map_vec(
+        rt,
+        seats,
+        &|seat: AnySeat<Stack>| -> Vec<StackResp>
+            requires { IsSeatOf shared.now seat }
+        { pushes_and_pops(alloc, shared, seat, next_first(&turns)) },
+    )
+    .ok()
+}
+
+/// Unmarks a number; whether it was marked.
+fn unmark(marks: &mut [bool], number: u64) -> bool {
+    let at = number as usize;
+    if at >= marks.len() || !marks[at] {
+        return false;
+    }
+    marks[at] = false;
+    true
+}
+
+/// Unmarks the numbers that a thread took; whether each was marked, and there was one after each push.
+fn unmark_popped(marks: &mut [bool], replies: &[StackResp]) -> bool {
+    for (i, reply) in replies.iter().enumerate() {
+        let is_right = match *reply {
+            StackResp::Pushed => i % 2 == 0,
+            StackResp::Popped(number) => i % 2 == 1 && unmark(marks, u64::from(number)),
+            StackResp::Empty => false,
+        };
+        if !is_right {
+            return false;
+        }
+    }
+    true
+}
+
+/// A thread takes a number only after it has pushed one, so the stack is never empty then. Each number comes out
+/// once, and none is left.
+#[test]
+fn four_threads_on_a_stack(rt: HostRuntime) -> Result<(), Fail> {
+    let alloc = rt.alloc();
+    let (shared, mut seats) = opened(&rt, alloc, Stack, THREADS + 1, CALLS);
+    let closer = last(&rt, &shared, &mut seats);
+    let Some(all) = on_a_stack(&rt, alloc, &shared, seats) else {
+        panic!(rt; "out of memory")
+    };
+    let mut marks = vec![in alloc; true; (THREADS * CALLS) as usize]?;
+    for replies in all.iter() {
+        assert!(rt; replies.len() as u64 == CALLS);
+        assert!(rt; unmark_popped(&mut marks, replies));
+    }
+    // The numbers that were pushed are the even ones.
+    for (number, is_left) in marks.iter().enumerate() {
+        assert!(rt; *is_left == (number % 2 == 1));
+    }
+    let last = shared.close_with(closer);
+    assert!(rt; newest(alloc, &last.state)?.as_slice() == b"empty".as_slice());
+    assert!(rt; last.rows.len() == 5);
+    for (p, row) in last.rows.iter().enumerate() {
+        assert!(rt; row.applied == if p < 4 { CALLS } else { 0 });
+    }
+    Ok(())
+}
+
+/// A thread gives one name the values from this one on: the replies, fewer where memory was refused.
+fn puts(
+    alloc: Global,
+    shared: &AnyShared<DirectoryObject>,
+    mut seat: AnySeat<DirectoryObject>,
+    first: u64,
+) -> Vec<DirectoryResp>
+    requires { IsSeatOf shared.now seat }
+{
+    let mut replies = Vec::new(alloc);
+    for i in 0..CALLS {
+        let (Some(name), Some(value)) = (Name::read(b"shared"), Amount::new(first.wrapping_add(i)))
+        else {
+            continue;
+        };
+        if let Ok(answer) = seat.apply(alloc, shared, DirectoryInv::Put(name, value)) {
+            let _ = replies.push(answer.reply);
+        }
+    }
+    replies
+}
+
+/// What threads with these seats are answered; `None` where memory was refused.
+fn on_a_directory<R: Threads + Sync>(
+    rt: &R,
+    alloc: Global,
+    shared: &AnyShared<DirectoryObject>,
+    seats: Vec<AnySeat<DirectoryObject>>,
+) -> Option<Vec<Vec<DirectoryResp>>>
+    requires { All (IsSeatOf shared.now) seats.items }
+{
+    let turns = AtomicU64::new(0);
+    thread::map_vec(
+        rt,
+        seats,
+        &|seat: AnySeat<DirectoryObject>| -> Vec<DirectoryResp>
+            requires { IsSeatOf shared.now seat }
+        { puts(alloc, shared, seat, next_first(&turns)) },
+    )
+    .ok()
+}
+
+/// Unmarks the values that were there before a thread's; how many of its replies say that the name is new. `None`
+/// where one wasn't marked.
+fn unmark_before(marks: &mut [bool], replies: &[DirectoryResp]) -> Option<u64> {
+    let mut new = 0u64;
+    for reply in replies {
+        match *reply {
+            DirectoryResp::New => new = new.saturating_add(1),
+            DirectoryResp::Was(value) if unmark(marks, value.number()) => {}
+            _ => return None,
+        }
+    }
+    Some(new)
+}
+
+/// Unmarks the value that was found; whether it was marked.
+fn unmark_found(marks: &mut [bool], reply: DirectoryResp) -> bool {
+    match reply {
+        DirectoryResp::Found(value) => unmark(marks, value.number()),
+        _ => false,
+    }
+}
+
+/// The name is new once. Each value is the one before another one, once, but for the one that is left.
+#[test]
+fn four_threads_on_a_directory(rt: HostRuntime) -> Result<(), Fail> {
+    let alloc = rt.alloc();
+    let (shared, mut seats) = opened(&rt, alloc, DirectoryObject, THREADS + 1, CALLS);
+    let mut closer = last(&rt, &shared, &mut seats);
+    let Some(all) = on_a_directory(&rt, alloc, &shared, seats) else {
+        panic!(rt; "out of memory")
+    };
+    let mut marks = vec![in alloc; true; (THREADS * CALLS) as usize]?;
+    let mut new = 0u64;
+    for replies in all.iter() {
+        assert!(rt; replies.len() as u64 == CALLS);
+        let Some(more) = unmark_before(&mut marks, replies) else {
+            panic!(rt; "a value that was never there")
+        };
+        new = new.saturating_add(more);
+    }
+    assert!(rt; new == 1);
+    let Some(name) = Name::read(b"shared") else {
+        panic!(rt; "no name")
+    };
+    let Ok(answer) = closer.apply(alloc, &shared, DirectoryInv::Get(name)) else {
+        panic!(rt; "no answer")
+    };
+    assert!(rt; unmark_found(&mut marks, answer.reply));
+    assert!(rt; !marks.contains(&true));
+    assert!(rt; answer.version <= THREADS * CALLS + 1);
+    Ok(())
+}
