@@ -1,5 +1,5 @@
-//! What `unicheck` does: all of the program but its `main`. It reads the words of the command line and a recorded history,
-//! and writes whether that is linearizable.
+//! What `unicheck` does: all of the program but its `main`. It reads the words of the command line and a recorded
+//! history, and writes whether that is linearizable.
 #![tactic(auto)]
 
 mod judging;
