@@ -201,7 +201,7 @@ def paste(page, checks):
         "": "The script has no line.",
         "# so\r\nuniversal 1 queue 7 4\r\n": "Line 2: this page plays scripts that begin with \u201cuniversal 1 OBJECT N K\u201d, N from 1 to 6.",
         "universal 1 queue 2 4\ncall 0 deq\ntrim": "Line 3: \u201ctrim\u201d isn't played here, where there is one era.",
-        "universal 1 queue 2 4\nstep 1": "Line 2: P1 has no call pending; commands that are refused aren't played here.",
+        "universal 1 queue 2 4\nstep 1": "Line 2: P1 has no call pending; commands that are refused aren't played here. Was it made with another construction? Choose that in 3, and play again.",
         "universal 1 queue 2 4\ncall 0 put": "Scripts know no call `put` of a queue.",
     }.items():
         had = page.run("JSON.stringify(now.run)")
