@@ -104,7 +104,7 @@ static inline const char *universal_strerror(uint32_t status) {
  * book         4            2       16: the balances
  * machine      1            1       1
  *
- * Where a state has W words, an invocation I and a reply R, a call takes at most 4W + (6 + 2I + 4R)n + I + R + 8 steps on
+ * Where a state has W words, an invocation I and a reply R, a call takes at most 6W + (9 + 3I + 6R)n + I + R + 11 steps on
  * shared words.
  * ------------------------------------------------------------------------------------------------------------------ */
 
@@ -220,7 +220,8 @@ uint32_t universal_small_apply(universal_handle *seat, const uint64_t *invocatio
  * UNIVERSAL_WRONG_HANDLE: *seat has no seat of a small object, and nothing is changed. */
 uint32_t universal_small_follows(universal_handle *seat, uint64_t version, uint32_t *has_come);
 
-/* Closes a small object, by the last handle that has it, and writes its last state: that after all calls. The handle is the
+/* Closes a small object, by the last handle that has it, and writes its last state. That it is the state after a history with
+ * this seat's calls is proved, and that this history has all calls is tested. The handle is the
  * object's own or that of a seat, and has nothing afterwards. It takes no memory. Where all seats are lost, as with a thread
  * that died, the object's own handle closes it: drop the seats' handles before.
  *
