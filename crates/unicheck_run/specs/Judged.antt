@@ -1,5 +1,5 @@
 -- What a status says of the history that a text is.
-use Rattle.std.specs.Prelude.{◌≡◌, ◌++◌, ◌∷◌, ℕ, List, [], Option, IfSome, codes, true}
+use Rattle.std.specs.Prelude.{◌≡◌, ◌++◌, ◌∷◌, ◌⊎◌, ℕ, List, [], Option, None, Some, codes, true}
 use Rattle.std.specs.Io.KnownBytes.{Appends}
 use Rattle.seq_object.specs.Sequential.{Sequential}
 use Rattle.lin_check.specs.declared.event.Event.{Event}
@@ -20,10 +20,13 @@ pub record Says {S I R : Type 0} (object : Sequential S I R) (history : List (Ev
   pub linearizable : status ≡ 0 → IsLinearizable object history
   pub not_linearizable : status ≡ 1 → ¬ (IsLinearizable object history)
 
--- the same of the history that a text is, where it has the form of `call`, `return` and `lost`: then each line was read
+-- The same of the history that lines are. Where a line can't be read there is none: the status is 2, or 4 where memory was refused before
+-- that was seen.
 abbrev pub SaysOfLines : {S I R : Type 0} → Sequential S I R → Option (List (Event I R)) → (status : ℕ) → Type 0
-SaysOfLines object history status = IfSome history (λ history. Says object history status)
+SaysOfLines object None status = (status ≡ 2) ⊎ (status ≡ 4)
+SaysOfLines object (Some history) status = Says object history status
 
+-- the same of a text of the form of `call`, `return` and `lost`
 abbrev pub SaysOfText : {S I R : Type 0} → Sequential S I R → Wording I R → (text : List ℕ) → (status : ℕ) → Type 0
 SaysOfText object wording text status = is_own (lines_of text) ≡ true → SaysOfLines object (own_events wording (lines_of text)) status
 

@@ -75,7 +75,9 @@ impl From<AllocError> for Stop {
 
 /// Says what stopped the program, as far as the end takes it; the answer is the status.
 fn tell_stop<F: Write>(why: Stop, faults: &mut F) -> u8
-    ensures { ((result ≡ 2) ⊎ (result ≡ 3)) ⊎ (result ≡ 4) }
+    ensures status { ((result ≡ 2) ⊎ (result ≡ 3)) ⊎ (result ≡ 4) }
+    ensures refused { (fault : Fault) → why ≡ Stop.Refused fault → result ≡ 2 }
+    ensures memory { why ≡ Stop.Memory → result ≡ 4 }
 {
     match why {
         Stop::Refused(fault) => {
