@@ -28,7 +28,8 @@ pub fn small_calls_apart_are_answered_in_turn<O: SmallObject>()
 pub fn word_calls_apart_are_answered_in_turn<O: WordObject>()
     ensures { (o : O) (n row : ℕ) → IsNarrow (O.sequential o)
         → (e : WordsExecution (O.sequential o) n row (opened_table (O.sequential o) n row)) (told : List (Answered ℕ ℕ))
-        → observed_in (O.sequential o) (opened (O.sequential o) n) (events (O.sequential o) n row e) ≡ one_after_another told
+        → observed_in (O.sequential o) (opened (O.sequential o) n) (events (O.sequential o) n row e)
+        ≡ one_after_another told
         → AreAnsweredInTurn (O.sequential o) told }
 {}
 
