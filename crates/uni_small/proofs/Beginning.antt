@@ -109,6 +109,7 @@ module _ (object : Sequential (List ℕ) (List ℕ) (List ℕ)) (sizes : Sizes) 
         is_open = set_at_elsewhere g.atomic.open_call p _ q apart;
         next = set_at_elsewhere g.atomic.next_nth p _ q apart;
         agreed = refl;
+        told = set_at_elsewhere g.told p number q apart;
         acts = invoked_other q p (length l.own) inv g.acts apart;
       }) h
 
@@ -118,6 +119,7 @@ module _ (object : Sequential (List ℕ) (List ℕ) (List ℕ)) (sizes : Sizes) 
     spare = mine.spare;
     apart = mine.apart;
     held = record { long = mine.held.long; words = mine.held.words };
+    told = set_at_same g.told p number ∙ is;
     call = record {
       is_open = set_at_same g.atomic.open_call p _;
       next = set_at_same g.atomic.next_nth p _;

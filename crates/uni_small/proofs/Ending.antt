@@ -139,27 +139,27 @@ module _ {O : Type 0} (sizes : Sizes) (inv reply : List ℕ) (version : ℕ) (me
 
   ends : (s words : ℕ) (own : Buffers) (me3 me4 : Me Seen (View O)) → words + (sizes.invocation + sizes.reply + 1) ≤ announced_steps sizes
       → IsLeft me2 (record (local_of me2) { stage = Last s []; spare = own.spare; held = own.held.items; steps = (local_of me2).steps + words }) me3
-      → HasEnded s me3 me4 → CallEnds (announced_steps sizes) me inv reply version own me4
+      → HasEnded s me3 me4 → CallEnds (announced_steps sizes) (length (local_of me).own + 1) me inv reply version own me4
   ends s words own me3 me4 few there returned =
       let a = left_more me me2 me3 (λ l. record l { stage = Last s []; spare = own.spare; held = own.held.items; steps = l.steps + words }) (announces (went (local_of me) sizes.invocation (Idle inv)) inv) begun there in
       let b = left_more me me3 me4 (λ l. record (returns l s reply) { steps = l.steps + sizes.reply })
       (record (announces (went (local_of me) sizes.invocation (Idle inv)) inv) { stage = Last s []; spare = own.spare; held = own.held.items; steps = (local_of me).steps + sizes.invocation + 1 + words }) a returned.0 in
       let count : (local_of me).steps + sizes.invocation + 1 + words + sizes.reply ≡ (local_of me).steps + (words + (sizes.invocation + sizes.reply + 1)) = omega (arith) in
       let same : (local_of me3).after ≡ (local_of me).after = ap (λ (m : Me Seen (View O)). (local_of m).after) a in
-      subst (λ v. CallEnds (announced_steps sizes) me inv reply v own me4) (sym returned.1) (
+      subst (λ v. CallEnds (announced_steps sizes) (length (local_of me).own + 1) me inv reply v own me4) (sym returned.1) (
         words + (sizes.invocation + sizes.reply + 1),
         few,
         subst (λ v. v < version_in s) same returned.2,
-        b ∙ (λ k. (with_local me.0 (record (returns (record (local_of me) { inv = inv; spare = own.spare; held = own.held.items }) s reply) { steps = count k }), me.1)),
+        b ∙ (λ k. (with_local me.0 (record (returns (record (local_of me) { inv = inv; told = length (local_of me).own + 1; spare = own.spare; held = own.held.items }) s reply) { steps = count k }), me.1)),
       )
 
   -- the first attempt ends it
-  pub ends_first : (s : ℕ) (own : Buffers) (me3 me4 : Me Seen (View O)) → EndsWithin sizes (attempt_steps sizes) 0 me2 (Some s) own me3 → HasEnded s me3 me4 → CallEnds (announced_steps sizes) me inv reply version own me4
+  pub ends_first : (s : ℕ) (own : Buffers) (me3 me4 : Me Seen (View O)) → EndsWithin sizes (attempt_steps sizes) 0 me2 (Some s) own me3 → HasEnded s me3 me4 → CallEnds (announced_steps sizes) (length (local_of me).own + 1) me inv reply version own me4
   ends_first s own me3 me4 h returned = ends s h.0 own me3 me4 (let f = h.1 in let e = steps_are sizes in omega arith) h.3 returned
 
   -- the second one does
   pub ends_second : (s : ℕ) (own0 own : Buffers) (me3 me4 me5 : Me Seen (View O)) → EndsWithin sizes (attempt_steps sizes) 0 me2 None own0 me3 → EndsWithin sizes (attempt_steps sizes) 1 me3 (Some s) own me4 → HasEnded s me4 me5
-      → CallEnds (announced_steps sizes) me inv reply version own me5
+      → CallEnds (announced_steps sizes) (length (local_of me).own + 1) me inv reply version own me5
   ends_second s own0 own me3 me4 me5 failed h returned =
       let a = left_more me2 me3 me4 (λ l. record l { stage = Last s []; spare = own.spare; held = own.held.items; steps = l.steps + h.0 })
       (record (local_of me2) { stage = Ready 1; spare = own0.spare; held = own0.held.items; steps = (local_of me2).steps + failed.0 }) failed.3 h.3 in
@@ -169,7 +169,7 @@ module _ {O : Type 0} (sizes : Sizes) (inv reply : List ℕ) (version : ℕ) (me
 
   -- both have failed
   pub ends_last : (s : ℕ) (own0 own : Buffers) (me3 me4 me5 me6 : Me Seen (View O)) → EndsWithin sizes (attempt_steps sizes) 0 me2 None own0 me3 → EndsWithin sizes (attempt_steps sizes) 1 me3 None own me4
-      → Goes me4 (Last s []) me5 → HasEnded s me5 me6 → CallEnds (announced_steps sizes) me inv reply version own me6
+      → Goes me4 (Last s []) me5 → HasEnded s me5 me6 → CallEnds (announced_steps sizes) (length (local_of me).own + 1) me inv reply version own me6
   ends_last s own0 own me3 me4 me5 me6 failed again turned returned =
       let a = left_more me2 me3 me4 (λ l. record l { stage = Ready 2; spare = own.spare; held = own.held.items; steps = l.steps + again.0 })
       (record (local_of me2) { stage = Ready 1; spare = own0.spare; held = own0.held.items; steps = (local_of me2).steps + failed.0 }) failed.3 again.3 in
@@ -244,26 +244,30 @@ ended_direct sizes most tries me ended own me1 h = ap (λ (m : Me Seen (View _))
 
 -- a call that a direct attempt brought in returns
 pub directly_ends : {O : Type 0} (sizes : Sizes) (inv reply : List ℕ) (version : ℕ) (me me1 me2 : Me Seen (View O)) (s : ℕ) (own : Buffers) → TriesWithin sizes (attempt_steps sizes) me inv (Some s) own me1
-    → ReplyEnds me1 s reply sizes.reply me2 → version ≡ version_in s → (local_of me1).after < version_in s → CallEnds (call_steps sizes) me inv reply version own me2
+    → ReplyEnds me1 s reply sizes.reply me2 → version ≡ version_in s → (local_of me1).after < version_in s
+    → (told : ℕ) × CallEnds (call_steps sizes) told me inv reply version own me2
 directly_ends sizes inv reply version me me1 me2 s own h returned is later =
     let b = left_more me me1 me2 (λ l. record (returns l s reply) { steps = l.steps + sizes.reply }) (tried_directly (local_of me) inv (Some s) own h.0) h.3 returned in
     let count : (local_of me).steps + h.0 + sizes.reply ≡ (local_of me).steps + (h.0 + sizes.reply) = add_assoc (local_of me).steps h.0 sizes.reply in
-    let same : (local_of me1).after ≡ (local_of me).after = ap (λ (m : Me Seen (View _)). (local_of m).after) h.3 in
-    subst (λ v. CallEnds (call_steps sizes) me inv reply v own me2) (sym is) (
-      h.0 + sizes.reply,
-      (let f = h.1 in omega arith),
-      subst (λ v. v < version_in s) same later,
-      b ∙ (λ k. (with_local me.0 (record (returns (record (local_of me) { inv = inv; spare = own.spare; held = own.held.items }) s reply) { steps = count k }), me.1)),
+    let same : (local_of me1).after ≡ (local_of me).after = ap (λ (m : Me Seen (View _)). (local_of m).after) h.3 in (
+      (local_of me).told,
+      subst (λ v. CallEnds (call_steps sizes) (local_of me).told me inv reply v own me2) (sym is) (
+        h.0 + sizes.reply,
+        (let f = h.1 in omega arith),
+        subst (λ v. v < version_in s) same later,
+        b ∙ (λ k. (with_local me.0 (record (returns (record (local_of me) { inv = inv; spare = own.spare; held = own.held.items }) s reply) { steps = count k }), me.1)),
+      ),
     )
 
 -- a call that is announced after it
 pub announced_ends : {O : Type 0} (sizes : Sizes) (inv reply : List ℕ) (version : ℕ) (me me1 me2 : Me Seen (View O)) (own0 own : Buffers) → TriesWithin sizes (attempt_steps sizes) me inv None own0 me1
-    → CallEnds (announced_steps sizes) me1 inv reply version own me2 → CallEnds (call_steps sizes) me inv reply version own me2
+    → CallEnds (announced_steps sizes) (length (local_of me1).own + 1) me1 inv reply version own me2 → (told : ℕ) × CallEnds (call_steps sizes) told me inv reply version own me2
 announced_ends sizes inv reply version me me1 me2 own0 own h rest =
     let after : Local → Local = (λ l. record {
       stage = Idle [];
       direct = false;
       inv = inv;
+      told = length l.own + 1;
       spare = own.spare;
       held = own.held.items;
       after = version;
@@ -273,10 +277,13 @@ announced_ends sizes inv reply version me me1 me2 own0 own h rest =
     let b = left_more me me1 me2 after (tried_directly (local_of me) inv None own0 h.0) h.3 rest.3 in
     let count : (local_of me).steps + h.0 + rest.0 ≡ (local_of me).steps + (h.0 + rest.0) = add_assoc (local_of me).steps h.0 rest.0 in
     let same : (local_of me1).after ≡ (local_of me).after = ap (λ (m : Me Seen (View _)). (local_of m).after) h.3 in (
-      h.0 + rest.0,
-      (let f = h.1 in let g = rest.1 in omega arith),
-      subst (λ v. v < version) same rest.2,
-      b ∙ (λ k. (with_local me.0 (record (after (local_of me)) { steps = count k }), me.1)),
+      length (local_of me).own + 1,
+      (
+        h.0 + rest.0,
+        (let f = h.1 in let g = rest.1 in omega arith),
+        subst (λ v. v < version) same rest.2,
+        b ∙ (λ k. (with_local me.0 (record (after (local_of me)) { steps = count k }), me.1)),
+      ),
     )
 
 -- a direct attempt goes on after its check

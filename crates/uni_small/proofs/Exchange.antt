@@ -402,6 +402,7 @@ module _ {O : Type 0} (meaning : O â†’ Meaning) (o : O) (sizes : Sizes) (id : â„
           spare = f.mine.spare;
           apart = f.mine.apart;
           held = f.mine.held;
+          told = f.mine.told;
           call = call_at object sizes g p l (Writing tries s image seen written) f.mine stage;
           attempt = elim (lt_cases s (128 * g.version)) [
             | inl old â†¦ (let a = at_it.0 in let b = old.0 in omega arith)
@@ -444,6 +445,7 @@ module _ {O : Type 0} (meaning : O â†’ Meaning) (o : O) (sizes : Sizes) (id : â„
                   spare = h.spare;
                   apart = other;
                   held = record { long = h.held.long; words = h.held.words };
+                  told = h.told;
                   call = call_stays object sizes steadily few g local f.sound seen now.1.1 now.1.4 p f.inside now.1.2 out (2 * p + l.spare) b_inside written exactly q (local q) (local q).stage inside h.call;
                   attempt = attempt_stays object sizes steadily few g local f.sound seen now.1.1 now.1.4 p f.inside now.1.2 out (2 * p + l.spare) b_inside written exactly q (2 * q + (local q).spare) (local q).stage inside other h.attempt;
                   ordered = ordered_stays object sizes steadily few g local f.sound seen now.1.1 now.1.4 p f.inside now.1.2 out (2 * p + l.spare) b_inside written exactly q (local q).after (local q).own h.ordered;
@@ -452,6 +454,7 @@ module _ {O : Type 0} (meaning : O â†’ Meaning) (o : O) (sizes : Sizes) (id : â„
                   spare = omega arith;
                   apart = (Î» e. let c = f.mine.spare in omega arith);
                   held = record { long = f.mine.held.long; words = f.mine.held.words };
+                  told = f.mine.told;
                   call = open_stays object sizes steadily few g local f.sound seen now.1.1 now.1.4 p f.inside now.1.2 out (2 * p + l.spare) b_inside written exactly p l.inv l.own f.inside call;
                   attempt = (
                     subst (Î» b. b < 2 * sizes.processes) (sym named) b_inside,
@@ -526,6 +529,7 @@ module _ {O : Type 0} (meaning : O â†’ Meaning) (o : O) (sizes : Sizes) (id : â„
           spare = f.mine.spare;
           apart = f.mine.apart;
           held = f.mine.held;
+          told = f.mine.told;
           call = (closed, refl);
           attempt = tt;
           ordered = f.mine.ordered;
@@ -713,12 +717,14 @@ module _ {O : Type 0} (meaning : O â†’ Meaning) (o : O) (sizes : Sizes) (id : â„
               is_open = refl;
               next = refl;
               agreed = refl;
+              told = sym (set_at_elsewhere g.told p number q apart);
               acts = refl;
             })
             (record {
               spare = h.spare;
               apart = other;
               held = record { long = h.held.long; words = h.held.words };
+              told = h.told;
               call = call_stays object sizes steadily_own few g1 local1 sound1 all long1 full1 p f.inside known1 out1 (2 * p + l.spare) b_inside written1 exactly1 q (local q) (local q).stage inside h.call;
               attempt = attempt_stays object sizes steadily_own few g1 local1 sound1 all long1 full1 p f.inside known1 out1 (2 * p + l.spare) b_inside written1 exactly1 q (2 * q + (local q).spare) (local q).stage inside other h.attempt;
               ordered = ordered_stays object sizes steadily_own few g1 local1 sound1 all long1 full1 p f.inside known1 out1 (2 * p + l.spare) b_inside written1 exactly1 q (local q).after (local q).own h.ordered;
@@ -741,6 +747,7 @@ module _ {O : Type 0} (meaning : O â†’ Meaning) (o : O) (sizes : Sizes) (id : â„
           spare = omega arith;
           apart = (Î» e. let c = f.mine.spare in omega (arith, e));
           held = record { long = f.mine.held.long; words = f.mine.held.words };
+          told = f.mine.told;
           call = record {
             is_open = open2.is_open;
             next = open2.next;

@@ -24,6 +24,7 @@ pub mod Seating
 pub mod Closing
 pub mod Joining
 pub mod Running
+pub mod Resting
 pub mod Executing
 pub mod Linearity
 pub mod Progressing

@@ -103,7 +103,7 @@ module _ {O : Type 0} (meaning : O → Meaning) (o : O) (sizes : Sizes) (id : �
 
   -- the process goes to another stage, of the same call
   at_next : (g : Board) (stage : Stage) → IsAt object sizes g p l → IsCallAt object sizes g p l stage → IsAttemptAt object sizes g p (2 * p + l.spare) stage → IsAt object sizes g p (goes l stage)
-  at_next g stage was call attempt = record { spare = was.spare; apart = was.apart; held = was.held; call = by_stage stage call; attempt = attempt; ordered = was.ordered } where
+  at_next g stage was call attempt = record { spare = was.spare; apart = was.apart; held = was.held; told = was.told; call = by_stage stage call; attempt = attempt; ordered = was.ordered } where
     by_stage : (stage : Stage) → IsCallAt object sizes g p l stage → IsCallAt object sizes g p (goes l stage) stage
     by_stage (Idle stored) c = c
     by_stage (Ready t) c = c
@@ -460,6 +460,7 @@ module _ {O : Type 0} (meaning : O → Meaning) (o : O) (sizes : Sizes) (id : �
           spare = f.mine.spare;
           apart = f.mine.apart;
           held = f.mine.held;
+          told = f.mine.told;
           call = (call_at object sizes g p l (Idle []) f.mine stage).0;
           attempt = (
             omega arith,
@@ -543,6 +544,7 @@ module _ {O : Type 0} (meaning : O → Meaning) (o : O) (sizes : Sizes) (id : �
           spare = f.mine.spare;
           apart = f.mine.apart;
           held = f.mine.held;
+          told = f.mine.told;
           call = subst (IsCallAt object sizes g p (knows l (version_in s))) (sym stage) closed;
           attempt = f.mine.attempt;
           ordered = record {

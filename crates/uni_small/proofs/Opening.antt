@@ -139,6 +139,7 @@ module _ (object : Sequential (List ℕ) (List ℕ) (List ℕ)) (sizes : Sizes) 
       spare = omega arith;
       apart = λ e. omega (arith, e);
       held = held p;
+      told = refl;
       call = (record { none_open = refl; next = refl; announced = refl; in_is = zeros sizes.processes p; acts = refl }, refl);
       attempt = tt;
       ordered = record {

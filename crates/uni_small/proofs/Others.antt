@@ -17,6 +17,7 @@ module _ (object : Sequential (List ℕ) (List ℕ) (List ℕ)) (sizes : Sizes) 
     pub is_open : atomic'.open_call q ≡ g.atomic.open_call q
     pub next : atomic'.next_nth q ≡ g.atomic.next_nth q
     pub agreed : atomic'.agreed ≡ g.atomic.agreed
+    pub told : told' q ≡ g.told q
     pub acts : acts_by q acts' ≡ acts_by q g.acts
 
   module _ (q b : ℕ) (spares : Spares q b) where
@@ -74,6 +75,7 @@ module _ (object : Sequential (List ℕ) (List ℕ) (List ℕ)) (sizes : Sizes) 
     spare = h.spare;
     apart = h.apart;
     held = record { long = h.held.long; words = λ which i either below. spares.buffer which i either ∙ h.held.words which i either below };
+    told = spares.told ∙ h.told;
     call = call_stays q (2 * q + l.spare) spares l l.stage h.call;
     attempt = attempt_stays q (2 * q + l.spare) spares l.stage h.attempt;
     ordered = subst (λ agreed. IsOrdered object agreed g.calls_in_version g.version q l.after l.own) (sym spares.agreed) h.ordered;

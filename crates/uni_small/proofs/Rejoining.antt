@@ -28,7 +28,7 @@ module _ {O : Type 0} (meaning : O → Meaning) (o : O) (sizes : Sizes) (id : �
 
   -- it is where it was
   at_same : (g : Board) → IsAt object sizes g p l → IsAt object sizes g p (rests l)
-  at_same g was = record { spare = was.spare; apart = was.apart; held = was.held; call = by_stage l.stage was.call; attempt = was.attempt; ordered = was.ordered } where
+  at_same g was = record { spare = was.spare; apart = was.apart; held = was.held; told = was.told; call = by_stage l.stage was.call; attempt = was.attempt; ordered = was.ordered } where
     by_stage : (stage : Stage) → IsCallAt object sizes g p l stage → IsCallAt object sizes g p (rests l) stage
     by_stage (Idle stored) c = c
     by_stage (Ready t) c = c
@@ -58,6 +58,7 @@ module _ {O : Type 0} (meaning : O → Meaning) (o : O) (sizes : Sizes) (id : �
         at_same g f.mine,
         (
           refl,
+          a ∙ f.mine.told,
           omega (arith, a, t, c),
           f.mine.held.long ∙ ap (λ (z : Sizes). 2 * buffer_words z) (sym f.processes),
           omega (arith, b, c),
@@ -109,6 +110,7 @@ module _ {O : Type 0} (meaning : O → Meaning) (o : O) (sizes : Sizes) (id : �
           spare = spare_small (buffer_in s == 2 * p + 1);
           apart = subst (λ c. 2 * p + spare_at p s ≢ c) here (spare_apart p (buffer_in s) (buffer_in s == 2 * p + 1) refl);
           held = record { long = f.mine.held.long; words = f.mine.held.words };
+          told = f.mine.told;
           call = call_again g s l.stage l.direct f.mine.call;
           attempt = attempt_again g (2 * p + spare_at p s) begun (f.sound.board.begun p f.inside);
           ordered = f.mine.ordered;

@@ -47,6 +47,7 @@ module _ {O : Type 0} (meaning : O â†’ Meaning) (o : O) (sizes : Sizes) (id : â„
           spare = f.mine.spare;
           apart = f.mine.apart;
           held = f.mine.held;
+          told = f.mine.told;
           call = call_at object sizes g p l (Last s loaded) f.mine stage;
           attempt = (was.0, was.1, was.2, reply_found s loaded stage (omega arith) named f);
           ordered = f.mine.ordered;
@@ -134,12 +135,14 @@ module _ {O : Type 0} (meaning : O â†’ Meaning) (o : O) (sizes : Sizes) (id : â„
               is_open = set_at_elsewhere g.atomic.open_call p None q apart;
               next = refl;
               agreed = refl;
+              told = refl;
               acts = responded_other q p (length l.own) x g.acts apart;
             }) h)
             (record {
               spare = f.mine.spare;
               apart = f.mine.apart;
               held = record { long = f.mine.held.long; words = f.mine.held.words };
+              told = f.mine.told;
               call = (
                 record {
                   none_open = set_at_same g.atomic.open_call p None;

@@ -3,8 +3,8 @@
 use Rattle.uni_small.proofs.Vocabulary.{AreWhole, List, Option, ap, drop, take, sym, ◌∙◌, None, most_calls, inl, inr, Invoke, Linearize, Respond, Sizes, Some, [], arith, refl, suc, zero, ℕ, ◌<◌, ◌∷◌, ◌≡◌, read_image, slice_index, held_place}
 use Rattle.std.proofs.lemmas.List.{get_or-drop, get_or-take}
 use Rattle.uni_small.specs.Image.{counter_sizes, sample_counter}
-use Rattle.uni_small.specs.Execution.{Execution, history, last_moment, opened_moment}
-use Rattle.uni_small.specs.Execution.Next.{Store, Announce, Begin, Start, Copy, Look, Ask, Check, CheckOwn, Write, Bring, BringOwn, Reply}
+use Rattle.uni_small.specs.Execution.{Execution, goes_on, history, last_moment, opened_moment}
+use Rattle.uni_small.specs.Execution.Next.{Store, Announce, Begin, Start, Copy, Look, Ask, Check, CheckOwn, Write, Bring, BringOwn, Recount, Reply, Restart}
 use Rattle.uni_small.specs.Execution.Execution.{Ends, Step}
 use Rattle.uni_small.specs.Progress.{steps_of_call}
 use Rattle.uni_small.proofs.Progressing.{whole_none, whole_push}
@@ -39,8 +39,9 @@ before_sum zero below = refl
 before_sum (suc zero) below = refl
 before_sum (suc (suc i)) below = absurd (omega arith)
 
-one_call : Execution sample_counter sizes (opened_moment sample_counter sizes)
-one_call =
+-- up to the exchange by which it takes effect, where a process may stop for good
+abbrev stopped_call : Execution sample_counter sizes (opened_moment sample_counter sizes)
+stopped_call =
     Step 0 one (Store [] 5 refl one room) (
     Step 0 one (Announce (5 ∷ []) refl refl (omega arith)) (
     Step 0 one (Start 0 refl (omega arith)) (
@@ -49,8 +50,10 @@ one_call =
     Step 0 one (Check 0 0 (0 ∷ 0 ∷ 0 ∷ []) (Some (5 ∷ []) ∷ []) refl refl whole refl refl) (
     Step 0 one (Write 0 0 (read_image sizes (0 ∷ 0 ∷ 0 ∷ [])) (Some (5 ∷ []) ∷ []) (Some (5 ∷ []) ∷ []) 0 0 refl (inl (refl, refl), omega arith, λ i below. absurd (omega arith)) none_below) (
     Step 0 one (Write 0 0 (read_image sizes (0 ∷ 0 ∷ 0 ∷ [])) (Some (5 ∷ []) ∷ []) (Some (5 ∷ []) ∷ []) 1 2 refl (inl (refl, refl), omega arith, before_sum) two_below) (
-    Step 0 one (Bring 0 0 (read_image sizes (0 ∷ 0 ∷ 0 ∷ [])) (Some (5 ∷ []) ∷ []) 3 refl written refl) (
-    Step 0 one (Reply 129 [] refl refl) Ends)))))))))
+    Step 0 one (Bring 0 0 (read_image sizes (0 ∷ 0 ∷ 0 ∷ [])) (Some (5 ∷ []) ∷ []) 3 refl written refl) Ends))))))))
+
+one_call : Execution sample_counter sizes (opened_moment sample_counter sizes)
+one_call = goes_on sample_counter sizes stopped_call (Step 0 one (Reply 129 [] refl refl) Ends)
 
 sample_history : history sample_counter sizes one_call
     ≡ Invoke 0 0 (5 ∷ []) ∷ Linearize (record { process = 0; nth = 0; inv = 5 ∷ [] }) ∷ Respond 0 0 (0 ∷ []) ∷ []
@@ -69,6 +72,21 @@ sample_words = refl
 
 none_whole : AreWhole sizes (None ∷ [])
 none_whole = whole_push sizes [] None (whole_none sizes) (λ inv e. absurd (cc))
+
+-- Its seat is taken over: the announcement tells one call, so it begins again, finds that it is in, and is answered the same.
+taken_over : Execution sample_counter sizes (opened_moment sample_counter sizes)
+taken_over = goes_on sample_counter sizes stopped_call (
+    Step 0 one Recount (
+    Step 0 one Restart (
+    Step 0 one (Start 0 refl (omega arith)) (
+    Step 0 one (Look 0 129 (1 ∷ 0 ∷ 5 ∷ []) [] refl refl (whole_none sizes) one) (
+    Step 0 one (Check 0 129 (1 ∷ 0 ∷ 5 ∷ []) (None ∷ []) refl refl none_whole refl refl) (
+    Step 0 one (Reply 129 [] refl refl) Ends))))))
+
+taken_over_history : history sample_counter sizes taken_over
+    ≡ Invoke 0 0 (5 ∷ []) ∷ Linearize (record { process = 0; nth = 0; inv = 5 ∷ [] }) ∷ Respond 0 0 (0 ∷ []) ∷ []
+unfolding taken_over
+taken_over_history = refl
 
 -- a call that is attempted directly
 direct_call : Execution sample_counter sizes (opened_moment sample_counter sizes)

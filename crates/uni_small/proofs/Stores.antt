@@ -102,12 +102,14 @@ module _ {O : Type 0} (meaning : O â†’ Meaning) (o : O) (sizes : Sizes) (id : â„
               is_open = refl;
               next = refl;
               agreed = refl;
+              told = refl;
               acts = refl;
             }) h)
             (record {
               spare = f.mine.spare;
               apart = f.mine.apart;
               held = record { long = f.mine.held.long; words = f.mine.held.words };
+              told = f.mine.told;
               call = (record { none_open = closed.none_open; next = closed.next; announced = closed.announced; in_is = closed.in_is; acts = closed.acts }, more);
               attempt = tt;
               ordered = f.mine.ordered;
@@ -206,12 +208,14 @@ module _ {O : Type 0} (meaning : O â†’ Meaning) (o : O) (sizes : Sizes) (id : â„
               is_open = refl;
               next = refl;
               agreed = refl;
+              told = refl;
               acts = refl;
             }) h)
             (record {
               spare = f.mine.spare;
               apart = f.mine.apart;
               held = held_set object sizes g g' p l.spare k x l.held f.mine.spare room other_buffer same_spot other_spot f.mine.held;
+              told = f.mine.told;
               call = subst (IsCallAt object sizes g' p (wrote l k (held_place sizes l.spare k) x)) (sym stage') (attempted_wrote g buffer' l.direct call);
               attempt = subst (IsAttemptAt object sizes g' p (2 * p + l.spare)) (sym stage') (
                 was.0,

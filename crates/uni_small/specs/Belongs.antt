@@ -46,6 +46,10 @@ version_of seat = seat.seat.me.0.known.local.after
 abbrev pub word_steps_of : {O : Type 0} → SmallSeat O → ℕ
 word_steps_of seat = seat.seat.me.0.known.local.steps
 
+-- how many of its calls its announcement tells
+abbrev pub announced_by : {O : Type 0} → SmallSeat O → ℕ
+announced_by seat = seat.seat.me.0.known.local.told
+
 -- what a process knows of its buffers: which one is its spare one, and the words of both
 pub record AreBuffers (sizes : Sizes) (l : Local) (own : Buffers) : Type 0 where
   pub spare : l.spare ≡ own.spare

@@ -120,6 +120,7 @@ module _ (object : Sequential (List ℕ) (List ℕ) (List ℕ)) (sizes : Sizes) 
     pub spare : l.spare ≤ 1
     pub apart : 2 * p + l.spare ≢ g.current
     pub held : AreHeld g p l.held
+    pub told : g.told p ≡ l.told
     pub call : IsCallAt g p l l.stage
     pub attempt : IsAttemptAt g p (2 * p + l.spare) l.stage
     pub ordered : IsOrdered object g.atomic.agreed g.calls_in_version g.version p l.after l.own

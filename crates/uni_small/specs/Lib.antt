@@ -18,3 +18,4 @@ pub mod Belongs
 pub mod Final
 pub mod Ended
 pub mod Orphans
+pub mod Resting

@@ -1,36 +1,40 @@
--- Seats of processes whose thread stopped.
-use Rattle.std.specs.Prelude.{◌≡◌, ℕ, ◌<◌, List}
+-- Seats without an owner.
+use Rattle.std.specs.Prelude.{◌≡◌, true, ℕ, ◌+◌, ◌*◌, ◌<◌, List, [], ◌∷◌, ◌++◌, Option, Some, None}
+use Rattle.uni_small.specs.Image.{buffer_words}
 use Rattle.uni_small.specs.View.{Returned}
-use Rattle.uni_small.specs.Standing.{IsOf, local_of}
+use Rattle.uni_small.specs.Plays.{has_begun}
+use Rattle.uni_small.specs.Standing.{IsOf, attempt_steps, local_of}
 use Rattle.uni_small.specs.declared.log.SmallShared.{SmallShared}
-use Rattle.uni_small.specs.declared.orphan.SmallAbandoned.{SmallAbandoned}
 use Rattle.uni_small.specs.declared.orphan.SmallOrphan.{SmallOrphan}
+use Rattle.uni_small.specs.declared.sizes.Sizes.{Sizes}
 
--- the orphan is one of this object's: nothing else is known of where it stands but that its call has begun
+-- the orphan is one of this object's: nothing else is known of where it stands
 pub record IsOrphanOf {O : Type 0} (shared : SmallShared O) (orphan : SmallOrphan O) : Type 0 where
   pub table : orphan.seat.table_id ≡ shared.table.shared.table_id
   pub inside : orphan.p < shared.setup.sizes.processes
   pub of : IsOf shared.setup.object shared.setup.sizes orphan.p orphan.seat.me
 
--- its process, the calls that had returned, and the call that had begun, which ends with this reply in this version
+-- its process, its calls that have returned, and how many word steps it has taken
 abbrev pub orphan_process : {O : Type 0} → SmallOrphan O → ℕ
 orphan_process orphan = orphan.p
 
 abbrev pub calls_before : {O : Type 0} → SmallOrphan O → List Returned
 calls_before orphan = (local_of orphan.seat.me).own
 
-abbrev pub call_ended : {O : Type 0} → SmallOrphan O → (reply : List ℕ) → (version : ℕ) → Returned
-call_ended orphan reply version =
-    record { inv = (local_of orphan.seat.me).inv; reply = reply; after = (local_of orphan.seat.me).after; version = version }
+abbrev pub steps_before : {O : Type 0} → SmallOrphan O → ℕ
+steps_before orphan = (local_of orphan.seat.me).steps
 
--- a seat whose call had not begun is one of this object's; its process, and the calls that had returned
-pub record IsAbandonedOf {O : Type 0} (shared : SmallShared O) (abandoned : SmallAbandoned O) : Type 0 where
-  pub table : abandoned.seat.table_id ≡ shared.table.shared.table_id
-  pub inside : abandoned.p < shared.setup.sizes.processes
-  pub of : IsOf shared.setup.object shared.setup.sizes abandoned.p abandoned.seat.me
+-- a call of it has begun and has not returned
+abbrev pub IsInCall : {O : Type 0} → SmallOrphan O → Type 0
+IsInCall orphan = has_begun (local_of orphan.seat.me).stage (local_of orphan.seat.me).direct ≡ true
 
-abbrev pub abandoned_process : {O : Type 0} → SmallAbandoned O → ℕ
-abandoned_process abandoned = abandoned.p
+-- its calls once it is taken over: with the one that it was in, which has returned with this reply, in this version
+abbrev pub calls_after : {O : Type 0} → SmallOrphan O → (reply : List ℕ) → (version : Option ℕ) → List Returned
+calls_after orphan reply None = calls_before orphan
+calls_after orphan reply (Some version) =
+    let l = local_of orphan.seat.me in
+    calls_before orphan ++ record { inv = l.inv; reply = reply; after = l.after; version = version } ∷ []
 
-abbrev pub calls_returned : {O : Type 0} → SmallAbandoned O → List Returned
-calls_returned abandoned = (local_of abandoned.seat.me).own
+-- how many word steps it takes at most to take over a seat: its announcement and both buffers are loaded, and its call begins again
+abbrev pub take_over_steps : Sizes → ℕ
+take_over_steps sizes = 2 * buffer_words sizes + 2 * attempt_steps sizes + sizes.reply + 3

@@ -185,17 +185,21 @@ has_begun (Reading tries s copy seen) direct = if direct then false else true
 has_begun (Writing tries s image seen written) direct = if direct then false else true
 has_begun (Last s loaded) direct = true
 
+-- the call of a process, if it has begun, was announced, and so its announcement tells it
+abbrev pub TellsCall : Local → Type 0
+TellsCall l = has_begun l.stage l.direct ≡ true → l.told ≡ length l.own + 1
+
 -- how many calls a process has begun, of which so many have returned
 abbrev pub begun_by : (begun : Bool) → (own : ℕ) → ℕ
 begun_by true own = own + 1
 begun_by false own = own
 
--- Whatever a process is at, it may load its announcement, which is at most the number of calls that it has begun: a call by a direct
--- attempt isn't announced.
+-- Whatever a process is at, it may load its announcement, which tells at most as many calls as it has begun: a call by a direct attempt isn't
+-- announced.
 abbrev pub HasRecounted : {O : Type 0} → Step Seen → Me Seen (View O) → (found : ℕ) → Me Seen (View O) → Type 0
 HasRecounted step me found me' =
     let l = me.0.known.local in
-    IsLeft me (rests l) me' × (found ≤ begun_by (has_begun l.stage l.direct) (length l.own)) × (length l.held ≡ 2 * buffer_words me.0.known.sizes)
+    IsLeft me (rests l) me' × (found ≡ l.told) × (found ≤ begun_by (has_begun l.stage l.direct) (length l.own)) × (length l.held ≡ 2 * buffer_words me.0.known.sizes)
     × (begun_by (has_begun l.stage l.direct) (length l.own) ≤ most_calls)
 
 -- and what its buffers hold

@@ -174,15 +174,16 @@ TriesWithin sizes most me inv ended own me' =
     (words : ℕ) × (words ≤ most) × IsEnd sizes ended × IsLeft me (tried_directly (local_of me) inv ended own words) me'
 
 -- a call has returned with this reply after at most so many word steps, and is in this version, which is greater than the one that it
--- comes after
-abbrev pub CallEnds : {O : Type 0} → (most : ℕ) → Me Seen (View O) → (inv reply : List ℕ) → (version : ℕ) → Buffers → Me Seen (View O) → Type 0
-CallEnds most me inv reply version own me' =
+-- comes after; the announcement of its process tells so many calls then
+abbrev pub CallEnds : {O : Type 0} → (most told : ℕ) → Me Seen (View O) → (inv reply : List ℕ) → (version : ℕ) → Buffers → Me Seen (View O) → Type 0
+CallEnds most told me inv reply version own me' =
     let l = local_of me in
     (words : ℕ) × (words ≤ most) × (l.after < version)
     × IsLeft me (record {
       stage = Idle [];
       direct = false;
       inv = inv;
+      told = told;
       spare = own.spare;
       held = own.held.items;
       after = version;

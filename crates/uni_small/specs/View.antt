@@ -1,5 +1,5 @@
 -- What a seat knows.
-use Rattle.std.specs.Prelude.{Bool, false, true, ℕ, ◌+◌, ◌-◌, List, [], ◌∷◌, ◌++◌, Option, slice_set}
+use Rattle.std.specs.Prelude.{Bool, false, true, ℕ, ◌+◌, ◌-◌, List, [], ◌∷◌, ◌++◌, Option, length, slice_set}
 use Rattle.uni_small.specs.Image.{Image}
 use Rattle.uni_small.specs.Board.{version_in}
 use Rattle.uni_small.specs.declared.sizes.Sizes.{Sizes}
@@ -36,14 +36,15 @@ pub data Stage : Type 0 where
   -- the call is in, its reply is in the buffer that s names, and these words of it are loaded
   Last : (s : ℕ) → (loaded : List ℕ) → Stage
 
--- of one process: its stage, the invocation of its latest call, which of its buffers is its spare one, the words of both, the version that
--- its next calls come after, its calls that have returned, and how many word steps it has taken
+-- of one process: its stage, the invocation of its latest call, how many calls its announcement tells, which of its buffers is its spare one, the
+-- words of both, the version that its next calls come after, its calls that have returned, and how many word steps it has taken
 pub record Local : Type 0 where
   pub stage : Stage
   -- whether its call is attempted directly, and isn't announced: true from the beginning of a direct attempt until its call is announced, or has
   -- returned; so also between calls, where a direct attempt has failed
   pub direct : Bool
   pub inv : List ℕ
+  pub told : ℕ
   pub spare : ℕ
   pub held : List ℕ
   pub after : ℕ
@@ -60,7 +61,7 @@ pub record Known : Type 0 where
   pub taken : List ProcessReturned
 
 abbrev pub at_rest : (held : List ℕ) → Local
-at_rest held = record { stage = Idle []; direct = false; inv = []; spare = 1; held = held; after = 0; own = []; steps = 0 }
+at_rest held = record { stage = Idle []; direct = false; inv = []; told = 0; spare = 1; held = held; after = 0; own = []; steps = 0 }
 
 abbrev pub everyone : Sizes → (held : List ℕ) → Known
 everyone sizes held = record { sizes = sizes; first = 0; count = sizes.processes; local = at_rest held; taken = [] }
@@ -71,7 +72,7 @@ goes l stage = record l { stage = stage; steps = l.steps + 1 }
 
 -- after it has announced its next call, of this invocation
 abbrev pub announces : Local → (inv : List ℕ) → Local
-announces l inv = record l { stage = Ready 0; direct = false; inv = inv; steps = l.steps + 1 }
+announces l inv = record l { stage = Ready 0; direct = false; inv = inv; told = length l.own + 1; steps = l.steps + 1 }
 
 -- after it has begun a direct attempt, with these words of the buffer
 abbrev pub begins_directly : Local → (s : ℕ) → (copy : List ℕ) → Local

@@ -1,5 +1,5 @@
 //! A call from its start to its answer, and what a seat asks between calls.
-ghost use Rattle.std.specs.Prelude.{◌≡◌, ◌↔◌, ◌+◌, ◌*◌, ◌<◌, ◌≤◌, ◌++◌};
+ghost use Rattle.std.specs.Prelude.{ℕ, ◌≡◌, ◌↔◌, ◌+◌, ◌*◌, ◌<◌, ◌≤◌, ◌++◌};
 ghost use Rattle.std.specs.Prelude.{◌∷◌, []};
 ghost use Rattle.std.specs.Prelude.{IsErr, IsTrue, IfOk, OnOk, OnErr, length};
 ghost use Rattle.uni_small.specs.View.Stage.{Idle};
@@ -11,7 +11,7 @@ ghost use Rattle.uni_small.specs.Standing.{CallEnds, GoesBy, IsAnnounced, IsOf, 
 ghost use Rattle.uni_small.specs.Standing.{call_steps, local_of};
 ghost use Rattle.uni_small.specs.Belongs.{AreBuffers, IsSeatOf, HasRoom, calls_made, calls_of, own_calls, process_of};
 ghost use Rattle.uni_small.specs.Belongs.{invocation_width_of, reply_width_of, sizes_of, taken_calls, version_of};
-ghost use Rattle.uni_small.specs.Belongs.{word_steps_of};
+ghost use Rattle.uni_small.specs.Belongs.{announced_by, word_steps_of};
 
 use crate::log::SmallShared;
 use crate::object::SmallObject;
@@ -90,8 +90,8 @@ impl<O: SmallObject> SmallShared<O> {
         requires own { AreBuffers self.now.setup.sizes (local_of seat.old.me) own.old }
         requires room { HasRoom self.now.setup.sizes room.old }
         ensures same { (seat.new.table_id ≡ seat.old.table_id) × (seat.new.id ≡ seat.old.id) }
-        ensures ends { CallEnds (announced_steps self.now.setup.sizes) seat.old.me invocation.now reply.new result
-            own.new seat.new.me }
+        ensures ends { CallEnds (announced_steps self.now.setup.sizes) (length (local_of seat.old.me).own + 1)
+            seat.old.me invocation.now reply.new result own.new seat.new.me }
         ensures own { AreBuffers self.now.setup.sizes (local_of seat.new.me) own.new }
         ensures room { HasRoom self.now.setup.sizes room.new }
     {
@@ -129,8 +129,8 @@ impl<O: SmallObject> SmallShared<O> {
         requires own { AreBuffers self.now.setup.sizes (local_of seat.old.me) own.old }
         requires room { HasRoom self.now.setup.sizes room.old }
         ensures same { (seat.new.table_id ≡ seat.old.table_id) × (seat.new.id ≡ seat.old.id) }
-        ensures ends { CallEnds (call_steps self.now.setup.sizes) seat.old.me invocation.now reply.new result
-            own.new seat.new.me }
+        ensures ends { (told : ℕ) × CallEnds (call_steps self.now.setup.sizes) told
+            seat.old.me invocation.now reply.new result own.new seat.new.me }
         ensures own { AreBuffers self.now.setup.sizes (local_of seat.new.me) own.new }
         ensures room { HasRoom self.now.setup.sizes room.new }
     {
@@ -184,6 +184,52 @@ impl<O: SmallObject> SmallSeat<O> {
             return Err(CallsSpent);
         }
         let version = shared.call(
+            &mut self.seat,
+            self.p,
+            self.made + 1,
+            &mut self.own,
+            &mut self.room,
+            invocation,
+            reply,
+        );
+        self.made += 1;
+        Ok(version)
+    }
+
+    /// Applies the invocation as `apply` does, but announces it at once, where `apply` makes a direct attempt first.
+    /// A thread that stops in such a call leaves an orphan, which can be taken over.
+    ///
+    /// It returns after at most `4 * W + (6 + 2 * I + 4 * R) * n + I + R + 8` word steps.
+    pub fn apply_announced(
+        &mut self,
+        shared: &SmallShared<O>,
+        invocation: &[u64],
+        reply: &mut [u64],
+    ) -> Result<u64, CallsSpent>
+        requires seat { IsSeatOf shared.now self.old }
+        requires invocation { length invocation.now ≡ invocation_width_of shared.now }
+        requires reply { length reply.old ≡ reply_width_of shared.now }
+        ensures kept { IsSeatOf shared.now self.new × (process_of self.new ≡ process_of self.old) }
+        ensures spent { IsErr result ↔ (calls_made self.old ≡ most_calls) }
+        ensures unchanged { OnErr result ((self.new ≡ self.old) × (reply.new ≡ reply.old)) }
+        ensures taken { taken_calls self.new ≡ taken_calls self.old }
+        ensures own { IfOk result (λ version. own_calls self.new ≡ own_calls self.old ++ record {
+          inv = invocation.now;
+          reply = reply.new;
+          after = version_of self.old;
+          version = version;
+        } ∷ []) }
+        ensures later { IfOk result (λ version. version_of self.old < version) }
+        ensures version { IfOk result (λ version. version_of self.new ≡ version) }
+        ensures made { OnOk result (calls_made self.new ≡ calls_made self.old + 1) }
+        ensures announced { OnOk result (announced_by self.new ≡ calls_made self.new) }
+        ensures few_steps { OnOk result (word_steps_of self.new
+            ≤ word_steps_of self.old + announced_steps (sizes_of shared.now)) }
+    {
+        if self.made == MAX_CALLS {
+            return Err(CallsSpent);
+        }
+        let version = shared.call_announced(
             &mut self.seat,
             self.p,
             self.made + 1,

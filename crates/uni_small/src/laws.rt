@@ -24,6 +24,7 @@ ghost use Rattle.uni_small.specs.declared.seat.Seen.{Seen};
 ghost use Rattle.uni_small.specs.Execution.{Execution, last_moment, opened_moment};
 ghost use Rattle.uni_small.specs.Linearized.{AreSizesOf, IsLinearized, KeepsOrder};
 ghost use Rattle.uni_small.specs.Progress.{KeepsBound, NeverBlocks};
+ghost use Rattle.uni_small.specs.Resting.{LeavesNoTrace};
 ghost use Rattle.uni_small.specs.declared.sizes.Sizes.{Sizes};
 ghost use Rattle.uni_small.specs.declared.view.View.{View};
 
@@ -181,4 +182,13 @@ pub fn every_call_is_wait_free<O: SmallObject>()
     ensures bound { (o : O) (sizes : Sizes) → AreSizesOf (O.meaning o) sizes
         → (e : Execution (O.meaning o).object sizes (opened_moment (O.meaning o).object sizes))
         → KeepsBound (O.meaning o).object sizes e }
+{}
+
+/// Whether a process that stopped has loaded the last word of a reply leaves no trace: what goes on after that load
+/// goes on without it as well, with the same words. So a call whose reply was not kept may be taken as pending; who
+/// takes it over is told its reply.
+pub fn last_load_leaves_no_trace<O: SmallObject>()
+    ensures { (o : O) (sizes : Sizes)
+        → (e : Execution (O.meaning o).object sizes (opened_moment (O.meaning o).object sizes))
+        → LeavesNoTrace (O.meaning o).object sizes e }
 {}

@@ -16,6 +16,6 @@ mod view;
 pub use apply::{CallsSpent, MAX_CALLS};
 pub use log::{MAX_PROCESSES, SmallOpenFault, SmallShared};
 pub use object::SmallObject;
-pub use orphan::{SmallAbandoned, SmallOrphan};
+pub use orphan::SmallOrphan;
 pub use seat::SmallSeat;
 pub use sizes::MAX_WIDTH;

@@ -1,33 +1,41 @@
-//! Seats whose thread stopped.
+//! Seats without an owner.
 ghost use Rattle.std.specs.Prelude.{true, false, ◌≡◌, ◌+◌, ◌≤◌, [], length};
-ghost use Rattle.uni_small.specs.Plays.{has_begun};
-ghost use Rattle.uni_small.specs.Invariant.{most_calls};
+ghost use Rattle.uni_small.specs.Plays.{TellsCall};
 
-use crate::seat::Seen;
+use crate::seat::{Seen, SmallSeat};
 use crate::view::View;
 use atomic_table::Seat;
 
-/// The seat of a process whose thread stopped at some step of a call. Nothing is known of it but that the call has
-/// begun and has not returned, and how many calls have returned before it: a call by a direct attempt isn't announced,
-/// so the announcement alone doesn't tell.
+/// A process's place at the object that has no owner: its owner has left it, or has stopped for good, at any step
+/// of any call. Nothing is known of where it stands but that its call, if it is in one, was announced.
 #[derive(Drop)]
 pub struct SmallOrphan<O> {
     pub(crate) seat: Seat<Seen, View<O>>,
     pub(crate) p: u64,
-    pub(crate) made: u64,
     pub ghost stands: { (seat.me.0.known.first ≡ p) × (seat.me.0.known.count ≡ 1) × (seat.me.1 ≡ []) },
-    pub ghost begun: { has_begun seat.me.0.known.local.stage seat.me.0.known.local.direct ≡ true },
-    pub ghost counted: { (length seat.me.0.known.local.own ≡ made) × (made + 1 ≤ most_calls) },
+    pub ghost told: { TellsCall seat.me.0.known.local },
 }
 
-/// The seat of a process whose thread stopped at some step, but not in a call that had begun: between calls, or in a
-/// direct attempt that had not succeeded.
-#[derive(Drop)]
-pub struct SmallAbandoned<O> {
-    pub(crate) seat: Seat<Seen, View<O>>,
-    pub(crate) p: u64,
-    pub(crate) made: u64,
-    pub ghost stands: { (seat.me.0.known.first ≡ p) × (seat.me.0.known.count ≡ 1) × (seat.me.1 ≡ []) },
-    pub ghost none: { has_begun seat.me.0.known.local.stage seat.me.0.known.local.direct ≡ false },
-    pub ghost counted: { (length seat.me.0.known.local.own ≡ made) × (made ≤ most_calls) },
+impl<O> SmallSeat<O> {
+    ghost use Rattle.uni_small.specs.Belongs.{IsSeatOf, own_calls, process_of, word_steps_of};
+    ghost use Rattle.uni_small.specs.Orphans.{IsInCall, IsOrphanOf, calls_before, orphan_process, steps_before};
+    ghost use Rattle.uni_small.specs.declared.log.SmallShared.{SmallShared};
+
+    /// Leaves the seat: whoever has the orphan can take it over.
+    pub fn leave(self) -> SmallOrphan<O>
+        ensures orphan { (shared : SmallShared O) → IsSeatOf shared self → IsOrphanOf shared result }
+        ensures process { orphan_process result ≡ process_of self }
+        ensures calls { calls_before result ≡ own_calls self }
+        ensures steps { steps_before result ≡ word_steps_of self }
+        ensures between { IsInCall result → ⊥ }
+    {
+        let SmallSeat {
+            seat,
+            p,
+            made: _,
+            own: _,
+            room: _,
+        } = self;
+        SmallOrphan { seat, p }
+    }
 }

@@ -1,12 +1,12 @@
-//! The end of a call whose thread stopped at some step of it.
-ghost use Rattle.std.specs.Prelude.{true, false, ◌≡◌, ◌+◌, ◌*◌, ◌<◌, ◌≤◌, ◌++◌};
-ghost use Rattle.std.specs.Prelude.{◌∷◌, [], IfErr, IfOk, length};
+//! A seat whose owner stopped, or left, is taken over, also in the midst of a call.
+ghost use Rattle.std.specs.Prelude.{true, false, ◌≡◌, ◌≢◌, ◌↔◌, ◌+◌, ◌*◌, ◌<◌, ◌≤◌, ◌++◌};
+ghost use Rattle.std.specs.Prelude.{◌∷◌, [], IfErr, IfOk, None, length};
 ghost use Rattle.uni_small.specs.Image.{buffer_words};
-ghost use Rattle.uni_small.specs.Belongs.{AreBuffers, HasRoom, IsSeatOf, calls_made, own_calls, process_of};
-ghost use Rattle.uni_small.specs.Belongs.{reply_width_of};
+ghost use Rattle.uni_small.specs.Belongs.{AreBuffers, HasRoom, IsSeatOf, own_calls, process_of};
+ghost use Rattle.uni_small.specs.Belongs.{reply_width_of, sizes_of, word_steps_of};
 ghost use Rattle.uni_small.specs.Invariant.{most_calls};
-ghost use Rattle.uni_small.specs.Orphans.{IsAbandonedOf, IsOrphanOf, abandoned_process, call_ended};
-ghost use Rattle.uni_small.specs.Orphans.{calls_before, calls_returned, orphan_process};
+ghost use Rattle.uni_small.specs.Orphans.{IsInCall, IsOrphanOf, calls_after, calls_before, orphan_process};
+ghost use Rattle.uni_small.specs.Orphans.{steps_before, take_over_steps};
 ghost use Rattle.uni_small.specs.Plays.{IsLeft, has_begun, stage_of};
 ghost use Rattle.uni_small.specs.Standing.{IsOf, attempt_steps, local_of};
 ghost use Rattle.uni_small.specs.View.Stage.{Idle};
@@ -14,7 +14,7 @@ ghost use Rattle.uni_small.specs.View.Stage.{Idle};
 use crate::log::SmallShared;
 use crate::log::open::room;
 use crate::object::SmallObject;
-use crate::orphan::{SmallAbandoned, SmallOrphan};
+use crate::orphan::SmallOrphan;
 use crate::seat::{Buffers, Room, Seen, SmallSeat};
 use crate::view::View;
 use atomic_table::Seat;
@@ -120,79 +120,62 @@ impl<O: SmallObject> SmallShared<O> {
 }
 
 impl<O: SmallObject> SmallOrphan<O> {
-    /// Ends the call, and writes its reply: the seat, which goes on, and a version in which the call is. What
-    /// the thread that stopped kept for itself isn't read.
+    /// Takes the seat over. Of its calls `made` have returned; if its former owner had begun one more, that is
+    /// ended by what the shared words tell: its reply is written, and the answer has a version in which it is.
+    /// Else the answer has none, and the reply stays as it was. The seat goes on with its next call. What the former
+    /// owner kept for itself isn't read.
     ///
-    /// The error is the orphan, where memory was refused.
+    /// It returns after at most `take_over_steps` word steps, whatever the other seats do.
+    ///
+    /// The error is the orphan, where memory was refused; nothing is changed then.
     pub fn resume(
         self,
         alloc: Global,
         shared: &SmallShared<O>,
+        made: u64,
         reply: &mut [u64],
-    ) -> Result<(SmallSeat<O>, u64), SmallOrphan<O>>
+    ) -> Result<(SmallSeat<O>, Option<u64>), SmallOrphan<O>>
         requires orphan { IsOrphanOf shared.now self }
+        requires made { made ≡ length (calls_before self) }
         requires reply { length reply.old ≡ reply_width_of shared.now }
         ensures seat { IfOk result (λ it. IsSeatOf shared.now it.0 × (process_of it.0 ≡ orphan_process self)) }
-        ensures calls { IfOk result (λ it. own_calls it.0 ≡ calls_before self ++ call_ended self reply.new it.1 ∷ []) }
-        ensures made { IfOk result (λ it. calls_made it.0 ≡ length (calls_before self) + 1) }
-        ensures err { IfErr result (λ it. it ≡ self) }
+        ensures ended { IfOk result (λ it. (it.1 ≢ None) ↔ IsInCall self) }
+        ensures calls { IfOk result (λ it. own_calls it.0 ≡ calls_after self reply.new it.1) }
+        ensures unchanged { IfOk result (λ it. it.1 ≡ None → reply.new ≡ reply.old) }
+        ensures few_steps { IfOk result (λ it. word_steps_of it.0
+            ≤ steps_before self + take_over_steps (sizes_of shared.now)) }
+        ensures err { IfErr result (λ it. (it ≡ self) × (reply.new ≡ reply.old)) }
     {
-        let Ok(mut place) = room(alloc, &shared.setup.sizes) else {
+        let Ok(mut room) = room(alloc, &shared.setup.sizes) else {
             return Err(self);
         };
         let words = shared.buffer_words();
         let Ok(held) = (vec![in alloc; 0u64; (2 * words) as usize]) else {
             return Err(self);
         };
-        let SmallOrphan { mut seat, p, made } = self;
+        let SmallOrphan { mut seat, p } = self;
         let mut own = Buffers { spare: 0, held };
-        shared.recount(&mut seat, p);
-        let made = made + 1;
-        let version = shared.resume(&mut seat, p, made, &mut own, &mut place, reply);
-        Ok((
-            SmallSeat {
+        let told = shared.recount(&mut seat, p);
+        if told <= made {
+            shared.rejoin(&mut seat, p, &mut own);
+            let seat = SmallSeat {
                 seat,
                 p,
                 made,
                 own,
-                room: place,
-            },
-            version,
-        ))
-    }
-}
-
-impl<O: SmallObject> SmallAbandoned<O> {
-    /// The seat, which goes on with its next call: that it had begun to attempt one directly leaves no trace.
-    ///
-    /// The error is the seat as it was, where memory was refused.
-    pub fn rejoin(
-        self,
-        alloc: Global,
-        shared: &SmallShared<O>,
-    ) -> Result<SmallSeat<O>, SmallAbandoned<O>>
-        requires abandoned { IsAbandonedOf shared.now self }
-        ensures seat { IfOk result (λ it. IsSeatOf shared.now it × (process_of it ≡ abandoned_process self)) }
-        ensures calls { IfOk result (λ it. own_calls it ≡ calls_returned self) }
-        ensures err { IfErr result (λ it. it ≡ self) }
-    {
-        let Ok(place) = room(alloc, &shared.setup.sizes) else {
-            return Err(self);
-        };
-        let words = shared.buffer_words();
-        let Ok(held) = (vec![in alloc; 0u64; (2 * words) as usize]) else {
-            return Err(self);
-        };
-        let SmallAbandoned { mut seat, p, made } = self;
-        let mut own = Buffers { spare: 0, held };
-        shared.recount(&mut seat, p);
-        shared.rejoin(&mut seat, p, &mut own);
-        Ok(SmallSeat {
+                room,
+            };
+            return Ok((seat, None));
+        }
+        let made = made + 1;
+        let version = shared.resume(&mut seat, p, made, &mut own, &mut room, reply);
+        let seat = SmallSeat {
             seat,
             p,
             made,
             own,
-            room: place,
-        })
+            room,
+        };
+        Ok((seat, Some(version)))
     }
 }

@@ -43,3 +43,14 @@ pub struct SmallSeat<O> {
     pub ghost untried: { seat.me.0.known.local.direct ≡ false },
     pub ghost counted: { (length seat.me.0.known.local.own ≡ made) × (made ≤ most_calls) },
 }
+
+impl<O> SmallSeat<O> {
+    ghost use Rattle.uni_small.specs.Belongs.{calls_made, own_calls};
+
+    /// How many calls of the seat have returned.
+    pub fn made(&self) -> u64
+        ensures { (result ≡ calls_made self.now) × (result ≡ length (own_calls self.now)) }
+    {
+        self.made
+    }
+}

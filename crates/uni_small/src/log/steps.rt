@@ -339,6 +339,7 @@ impl<O: SmallObject> SmallShared<O> {
         requires of { IsOf self.now.setup.object self.now.setup.sizes p seat.old.me }
         ensures same { (seat.new.table_id ≡ seat.old.table_id) × (seat.new.id ≡ seat.old.id) }
         ensures left { IsLeft seat.old.me (rests (local_of seat.old.me)) seat.new.me }
+        ensures is { result ≡ (local_of seat.old.me).told }
         ensures told { result ≤ begun_by (has_begun (stage_of seat.old.me) (local_of seat.old.me).direct)
             (length (local_of seat.old.me).own) }
         ensures long { length (local_of seat.old.me).held ≡ 2 * buffer_words self.now.setup.sizes }
