@@ -18,9 +18,20 @@ use crate::object::SmallObject;
 use crate::seat::{Buffers, Room, Seen, SmallSeat};
 use crate::view::View;
 use atomic_table::Seat;
+use std::hint::spin_loop;
 
 /// The greatest number of calls of a process.
 pub const MAX_CALLS: u64 = 1_125_899_906_842_624;
+
+/// How many times a process pauses after a direct attempt that has failed.
+const PAUSES: u64 = 40;
+
+/// Lets the process that was first go on from its own buffer, which it needn't copy.
+fn pause() {
+    for _ in 0..PAUSES {
+        spin_loop();
+    }
+}
 
 /// The seat has made all the calls that it can make, which are 2^50.
 #[derive(Debug, Clone, Copy, PartialEq, Eq, Drop)]
@@ -137,6 +148,7 @@ impl<O: SmallObject> SmallShared<O> {
         if let Some(s) = self.attempt_directly(seat, p, own, room, invocation) {
             return self.load_reply(seat, p, s, reply);
         }
+        pause();
         self.call_announced(seat, p, number, own, room, invocation, reply)
     }
 }
@@ -149,7 +161,7 @@ impl<O: SmallObject> SmallSeat<O> {
     ///
     /// Where a state has W words, an invocation I and a reply R, it returns after at most
     /// `6 * W + (9 + 3 * I + 6 * R) * n + I + R + 11` word steps with n processes, whatever the other seats do,
-    /// and takes no memory and no lock.
+    /// and takes no memory and no lock. Where its direct attempt fails it pauses 40 times, which touches no word.
     ///
     /// The call comes after all calls that are in the version which the seat has, and its own version is
     /// greater; the seat has that one then.
