@@ -18,6 +18,7 @@ use Rattle.universal_c.proofs.held.Opened.TheSendSync as opened
 use Rattle.universal_c.proofs.held.Seated.TheSendSync as seated
 use Rattle.universal_c.proofs.small.SmallOpened.TheSendSync as small
 use Rattle.universal_c.proofs.small.SmallPlace.TheSendSync as place
+use Rattle.universal_c.proofs.small.SmallLeft.TheSendSync as left
 
 room : (τ : Ty) (p : Ptr) → Keyless (room_for τ p)
 room τ (block_ptr b o) = tt
@@ -53,5 +54,5 @@ words_send = struct_send (declared.shape Words.the_type) (search sendable, (sear
 pub held_send : IsSend Held.the_row
 held_send = recorded_send (Held.the_field).row _ _ (Held.the_type).to_one (enum_send (enum.shape Held.the_type) (
   (opened.the_field_send, tt),
-  ((seated.the_field_send, tt), ((words_send, tt), ((crossing.Vec-send WordEntry.the_row entry.the_send, tt), ((small.the_field_send, tt), ((place.the_field_send, tt), (tt, tt)))))),
+  ((seated.the_field_send, tt), ((words_send, tt), ((crossing.Vec-send WordEntry.the_row entry.the_send, tt), ((small.the_field_send, tt), ((place.the_field_send, tt), ((left.the_field_send, tt), (tt, tt))))))),
 ))

@@ -4,4 +4,5 @@ pub mod Meaning
 pub mod Owned
 pub mod SmallCalls
 pub mod SmallMeaning
+pub mod SmallOrphans
 pub mod Told

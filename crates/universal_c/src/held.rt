@@ -6,7 +6,7 @@ ghost use Rattle.uni_words.specs.Belongs.{object_of, own_calls, process_of, proc
 ghost use Rattle.universal_c.specs.Asks.{AsksOf};
 
 use crate::object::Object;
-use crate::small::{SmallOpened, SmallPlace};
+use crate::small::{SmallLeft, SmallOpened, SmallPlace};
 use seq_object::CallId;
 use std::alloc::Global;
 use std::sync::Arc;
@@ -43,6 +43,8 @@ pub enum Held {
     Small(SmallOpened),
     /// A seat of a small object.
     Place(SmallPlace),
+    /// A seat of a small object without an owner.
+    Left(SmallLeft),
     /// Nothing.
     Nothing,
 }

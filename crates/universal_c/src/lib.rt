@@ -11,6 +11,7 @@ mod open;
 mod small;
 mod small_close;
 mod small_kind;
+mod small_left;
 mod small_open;
 mod small_turn;
 mod status;

@@ -3,15 +3,17 @@ ghost use Rattle.std.specs.Prelude.{◌≡◌, ◌≢◌, ◌==◌, ◌+◌, ◌
 ghost use Rattle.std.specs.Prelude.{[], IfOk, IfErr, IsErrOf, OnErr, OnOk, length, vec_len};
 ghost use Rattle.uni_small.specs.Belongs.{AreFirstSeats, IsSeatOf, calls_made, invocation_width_of, known_calls};
 ghost use Rattle.uni_small.specs.Belongs.{object_of, own_calls, process_of, processes_of, reply_width_of, sizes_of};
-ghost use Rattle.uni_small.specs.Belongs.{version_of, width_of};
+ghost use Rattle.uni_small.specs.Belongs.{announced_by, version_of, width_of, word_steps_of};
 ghost use Rattle.uni_small.specs.Final.{IsFinal};
 ghost use Rattle.uni_small.specs.Invariant.{most_calls};
+ghost use Rattle.uni_small.specs.Orphans.{IsInCall, IsOrphanOf, calls_after, calls_before, orphan_process};
+ghost use Rattle.uni_small.specs.Orphans.{steps_before, take_over_steps};
 ghost use Rattle.universal_c.specs.SmallMeaning.{small_meaning, small_sizes, state_words};
 
 use crate::small_kind::SmallKind;
 use std::alloc::Global;
 use std::sync::Arc;
-use uni_small::{SmallOpenFault, SmallSeat, SmallShared};
+use uni_small::{SmallOpenFault, SmallOrphan, SmallSeat, SmallShared};
 
 /// A small object, with its seats that are still to be given out, the last one first.
 #[derive(Drop)]
@@ -29,6 +31,23 @@ pub struct SmallPlace {
     pub ghost fits: { IsSeatOf shared.value seat },
 }
 
+/// A seat that has no owner, with the small object that it is one of.
+#[derive(Drop)]
+pub struct SmallLeft {
+    shared: Arc<SmallShared<SmallKind>>,
+    orphan: SmallOrphan<SmallKind>,
+    pub ghost fits: { IsOrphanOf shared.value orphan },
+}
+
+/// How a call begins.
+#[derive(Clone, Copy, Drop)]
+pub enum Beginning {
+    /// By a direct attempt, and by its announcement only after that failed.
+    Direct,
+    /// By its announcement.
+    Announced,
+}
+
 /// Why a call was not made.
 #[derive(Clone, Copy, Drop)]
 pub enum CallFault {
@@ -36,6 +55,15 @@ pub enum CallFault {
     Width,
     /// The seat has made all the calls that it can make.
     Spent,
+}
+
+/// Why a seat was not taken over.
+#[derive(Clone, Copy, Drop)]
+pub enum ResumeFault {
+    /// The reply hasn't as many words as those of the object.
+    Width,
+    /// Memory was refused.
+    Memory,
 }
 
 /// Why there is no further seat.
@@ -133,7 +161,12 @@ impl SmallPlace {
     /// Applies an invocation, and writes the reply: a version in which the call is. It takes no lock and no memory.
     /// Errors, in this order: the invocation or the reply hasn't as many words as those of the object; the seat
     /// has made 2^50 calls. After either nothing is changed.
-    pub(crate) fn apply(&mut self, invocation: &[u64], reply: &mut [u64]) -> Result<u64, CallFault>
+    pub(crate) fn apply(
+        &mut self,
+        beginning: Beginning,
+        invocation: &[u64],
+        reply: &mut [u64],
+    ) -> Result<u64, CallFault>
         ensures shared { self.new.shared ≡ self.old.shared }
         ensures width { let shared = self.old.shared.value in IsErrOf result CallFault.Width
             ↔ ((length invocation.now ≢ invocation_width_of shared)
@@ -144,6 +177,8 @@ impl SmallPlace {
         ensures unchanged { OnErr result ((self.new.seat ≡ self.old.seat) × (reply.new ≡ reply.old)) }
         ensures called { IfOk result
             (MakesCall self.old.shared.value self.old.seat self.new.seat invocation.now reply.new) }
+        ensures announced { beginning ≡ Beginning.Announced
+            → OnOk result (announced_by self.new.seat ≡ calls_made self.new.seat) }
     {
         let shared = &*self.shared;
         if invocation.len() as u64 != shared.invocation_width()
@@ -151,7 +186,11 @@ impl SmallPlace {
         {
             return Err(CallFault::Width);
         }
-        match self.seat.apply(&self.shared, invocation, reply) {
+        let called = match beginning {
+            Beginning::Direct => self.seat.apply(&self.shared, invocation, reply),
+            Beginning::Announced => self.seat.apply_announced(&self.shared, invocation, reply),
+        };
+        match called {
             Ok(version) => Ok(version),
             Err(_) => Err(CallFault::Spent),
         }
@@ -192,6 +231,58 @@ impl SmallPlace {
                 Ok(())
             }
             Err(shared) => Err(SmallPlace { shared, seat }),
+        }
+    }
+}
+
+impl SmallPlace {
+    /// Leaves the seat.
+    pub(crate) fn leave(self) -> SmallLeft
+        ensures shared { result.shared ≡ self.shared }
+        ensures process { orphan_process result.orphan ≡ process_of self.seat }
+        ensures calls { calls_before result.orphan ≡ own_calls self.seat }
+        ensures between { IsInCall result.orphan → ⊥ }
+    {
+        let SmallPlace { shared, seat } = self;
+        SmallLeft {
+            shared,
+            orphan: seat.leave(),
+        }
+    }
+}
+
+impl SmallLeft {
+    ghost use Rattle.universal_c.specs.SmallOrphans.{Resumes, ended_in};
+
+    /// Takes the seat over, of whose calls `made` have returned: the seat, and the version of the call that it was
+    /// in, if it was in one, whose reply is written.
+    /// Errors, in this order: the reply hasn't as many words as those of the object; memory was refused. The seat
+    /// without an owner comes back, and nothing is changed.
+    pub(crate) fn resume(
+        self,
+        alloc: Global,
+        made: u64,
+        reply: &mut [u64],
+    ) -> Result<(SmallPlace, Option<u64>), (SmallLeft, ResumeFault)>
+        requires made { made ≡ length (calls_before self.orphan) }
+        ensures shared { IfOk result (λ it. it.0.shared ≡ self.shared) }
+        ensures wide { OnOk result (length reply.old ≡ reply_width_of self.shared.value) }
+        ensures width { IfErr result (λ it.
+            (it.1 ≡ ResumeFault.Width) ↔ (length reply.old ≢ reply_width_of self.shared.value)) }
+        ensures resumed { IfOk result (λ it. (process_of it.0.seat ≡ orphan_process self.orphan)
+            × ((it.1 ≢ None) ↔ IsInCall self.orphan)
+            × (own_calls it.0.seat ≡ calls_after self.orphan reply.new it.1)
+            × (word_steps_of it.0.seat ≤ steps_before self.orphan + take_over_steps (sizes_of self.shared.value))) }
+        ensures unended { IfOk result (λ it. it.1 ≡ None → reply.new ≡ reply.old) }
+        ensures unchanged { IfErr result (λ it. (it.0 ≡ self) × (reply.new ≡ reply.old)) }
+    {
+        if reply.len() as u64 != self.shared.reply_width() {
+            return Err((self, ResumeFault::Width));
+        }
+        let SmallLeft { shared, orphan } = self;
+        match orphan.resume(alloc, &shared, made, reply) {
+            Ok((seat, version)) => Ok((SmallPlace { shared, seat }, version)),
+            Err(orphan) => Err((SmallLeft { shared, orphan }, ResumeFault::Memory)),
         }
     }
 }

@@ -3,10 +3,11 @@ ghost use Rattle.std.specs.Prelude.{◌≡◌, ◌≢◌, ◌↔◌, ◌⊎◌, 
 ghost use Rattle.std.specs.declared.option.Option.TheVariants.{None, Some};
 ghost use Rattle.universal_c.specs.SmallCalls.{HasAskedVersion, HasCalledSmall, HasFirstPlace, HasOtherWidths};
 ghost use Rattle.universal_c.specs.SmallCalls.{HasWidths, IsSpent, place_in, shared_in, small_left_in};
+ghost use Rattle.universal_c.specs.SmallOrphans.{TellsCalls};
 
 use crate::handle::Handle;
 use crate::held::Held;
-use crate::small::{CallFault, SmallOpened};
+use crate::small::{Beginning, CallFault, SmallOpened};
 use crate::status::{BAD_WIDTH, DONE, FULL, MEMORY, NO_SEAT, WRONG_HANDLE};
 use std::alloc::Global;
 use std::mem::replace;
@@ -91,7 +92,13 @@ pub extern "C" fn universal_small_seat(
     }
 }
 
-fn apply_to(held: &mut Held, invocation: &[u64], reply: &mut [u64], version: &mut u64) -> u32
+fn apply_to(
+    held: &mut Held,
+    beginning: Beginning,
+    invocation: &[u64],
+    reply: &mut [u64],
+    version: &mut u64,
+) -> u32
     ensures same { shared_in (Some held.new) ≡ shared_in (Some held.old) }
     ensures wrong { (result ≡ 7) ↔ (place_in (Some held.old) ≡ None) }
     ensures width { (result ≡ 11) ↔ HasOtherWidths (Some held.old) invocation.now reply.old }
@@ -102,11 +109,12 @@ fn apply_to(held: &mut Held, invocation: &[u64], reply: &mut [u64], version: &mu
         × (reply.new ≡ reply.old) × (version.new ≡ version.old) }
     ensures called { result ≡ 0 →
         HasCalledSmall (Some held.old) (Some held.new) invocation.now reply.new version.new }
+    ensures announced { beginning ≡ Beginning.Announced → result ≡ 0 → TellsCalls (Some held.new) }
 {
     let Held::Place(place) = held else {
         return WRONG_HANDLE;
     };
-    match place.apply(invocation, reply) {
+    match place.apply(beginning, invocation, reply) {
         Ok(present) => {
             *version = present;
             DONE
@@ -141,7 +149,42 @@ pub extern "C" fn universal_small_apply(
 {
     match replace(seat, Handle::empty(alloc)).into_box() {
         Some(mut held) => {
-            let status = apply_to(&mut held, invocation, reply, version);
+            let status = apply_to(&mut held, Beginning::Direct, invocation, reply, version);
+            *seat = Handle::of(held);
+            status
+        }
+        None => WRONG_HANDLE,
+    }
+}
+
+/// A call by a seat of a small object, which is announced at once: a seat that may be taken over in the midst of a
+/// call makes its calls by this one. It takes no lock and no memory.
+/// 0: it is done, the reply is written, and the version is one in which the call is. 7: the handle has no seat of
+/// a small object. 11: the invocation or the reply hasn't as many words as those of the object. 4: the seat has
+/// made 2^50 calls. In this order; after each but 0 nothing is changed, and there is no other status.
+#[unsafe(no_mangle)]
+pub extern "C" fn universal_small_apply_announced(
+    alloc: Global,
+    seat: &mut Handle,
+    invocation: &[u64],
+    reply: &mut [u64],
+    version: &mut u64,
+) -> u32
+    ensures same { shared_in seat.new.value ≡ shared_in seat.old.value }
+    ensures wrong { (result ≡ 7) ↔ (place_in seat.old.value ≡ None) }
+    ensures width { (result ≡ 11) ↔ HasOtherWidths seat.old.value invocation.now reply.old }
+    ensures spent { (result ≡ 4) ↔ (HasWidths seat.old.value invocation.now reply.old × IsSpent seat.old.value) }
+    ensures status { (result ≡ 0) ⊎ (result ≡ 4) ⊎ (result ≡ 7) ⊎ (result ≡ 11) }
+    ensures kept { result ≡ 7 → seat.new.value ≡ seat.old.value }
+    ensures unchanged { result ≢ 0 → (place_in seat.new.value ≡ place_in seat.old.value)
+        × (reply.new ≡ reply.old) × (version.new ≡ version.old) }
+    ensures called { result ≡ 0 →
+        HasCalledSmall seat.old.value seat.new.value invocation.now reply.new version.new }
+    ensures announced { result ≡ 0 → TellsCalls seat.new.value }
+{
+    match replace(seat, Handle::empty(alloc)).into_box() {
+        Some(mut held) => {
+            let status = apply_to(&mut held, Beginning::Announced, invocation, reply, version);
             *seat = Handle::of(held);
             status
         }

@@ -1,0 +1,137 @@
+//! Seats of small objects without an owner: how one is left, and how it is taken over.
+ghost use Rattle.std.specs.Prelude.{◌≡◌, ◌≢◌, ◌↔◌, ◌⊎◌};
+ghost use Rattle.std.specs.declared.option.Option.TheVariants.{None, Some};
+ghost use Rattle.universal_c.specs.SmallCalls.{place_in};
+ghost use Rattle.universal_c.specs.SmallOrphans.{HasLeft, HasMade, HasOtherReply, HasResumed, orphan_in, seated_in};
+
+use crate::handle::Handle;
+use crate::held::Held;
+use crate::small::ResumeFault;
+use crate::status::{BAD_WIDTH, DONE, MEMORY, WRONG_HANDLE};
+use std::alloc::Global;
+use std::mem::replace;
+
+fn leave(held: &mut Held) -> u32
+    ensures same { seated_in (Some held.new) ≡ seated_in (Some held.old) }
+    ensures status { (result ≡ 0) ⊎ (result ≡ 7) }
+    ensures wrong { (result ≡ 7) ↔ (place_in (Some held.old) ≡ None) }
+    ensures kept { result ≡ 7 → held.new ≡ held.old }
+    ensures left { result ≡ 0 → HasLeft (Some held.old) (Some held.new) }
+{
+    match replace(held, Held::Nothing) {
+        Held::Place(place) => {
+            *held = Held::Left(place.leave());
+            DONE
+        }
+        other => {
+            *held = other;
+            WRONG_HANDLE
+        }
+    }
+}
+
+/// Leaves a seat of a small object, between calls: the handle has the seat without an owner then, which can be taken
+/// over. It takes no memory.
+/// 0: it is done. 7: the handle has no seat of a small object, and nothing is changed.
+#[unsafe(no_mangle)]
+pub extern "C" fn universal_small_leave(alloc: Global, seat: &mut Handle) -> u32
+    ensures same { seated_in seat.new.value ≡ seated_in seat.old.value }
+    ensures status { (result ≡ 0) ⊎ (result ≡ 7) }
+    ensures wrong { (result ≡ 7) ↔ (place_in seat.old.value ≡ None) }
+    ensures kept { result ≡ 7 → seat.new.value ≡ seat.old.value }
+    ensures left { result ≡ 0 → HasLeft seat.old.value seat.new.value }
+{
+    match replace(seat, Handle::empty(alloc)).into_box() {
+        Some(mut held) => {
+            let status = leave(&mut held);
+            *seat = Handle::of(held);
+            status
+        }
+        None => WRONG_HANDLE,
+    }
+}
+
+fn resume(
+    alloc: Global,
+    held: &mut Held,
+    made: u64,
+    reply: &mut [u64],
+    ended: &mut u32,
+    version: &mut u64,
+) -> u32
+    requires made { HasMade (Some held.old) made }
+    ensures same { seated_in (Some held.new) ≡ seated_in (Some held.old) }
+    ensures wrong { (result ≡ 7) ↔ (orphan_in (Some held.old) ≡ None) }
+    ensures width { (result ≡ 11) ↔ HasOtherReply (Some held.old) reply.old }
+    ensures status { (result ≡ 0) ⊎ (result ≡ 3) ⊎ (result ≡ 7) ⊎ (result ≡ 11) }
+    ensures unchanged { result ≢ 0 → (held.new ≡ held.old) × (reply.new ≡ reply.old)
+        × (ended.new ≡ ended.old) × (version.new ≡ version.old) }
+    ensures resumed { result ≡ 0 →
+        HasResumed (Some held.old) (Some held.new) reply.new ended.new version.new }
+    ensures unended { result ≡ 0 → ended.new ≡ 0 → (reply.new ≡ reply.old) × (version.new ≡ version.old) }
+{
+    match replace(held, Held::Nothing) {
+        Held::Left(left) => match left.resume(alloc, made, reply) {
+            Ok((place, of_call)) => {
+                *held = Held::Place(place);
+                *ended = 0;
+                if let Some(present) = of_call {
+                    *ended = 1;
+                    *version = present;
+                }
+                DONE
+            }
+            Err((left, fault)) => {
+                *held = Held::Left(left);
+                match fault {
+                    ResumeFault::Width => BAD_WIDTH,
+                    ResumeFault::Memory => MEMORY,
+                }
+            }
+        },
+        other => {
+            *held = other;
+            WRONG_HANDLE
+        }
+    }
+}
+
+/// Takes over a seat of a small object that has no owner, of whose calls `made` have returned. If its former owner had
+/// begun one more, that is ended: its reply is written, and `ended` is 1, and `version` is one in which the call is;
+/// else `ended` is 0, and reply and version stay. The handle has the seat then.
+///
+/// The caller answers for this: the former owner takes no more steps, has made its calls by
+/// `universal_small_apply_announced`, and of them `made` have returned. A call whose reply was loaded, but not kept,
+/// may be counted as one that has not returned: it gets the same reply again.
+///
+/// 0: it is done. 7: the handle has no seat without an owner. 11: the reply hasn't as many words as those of the
+/// object. 3: memory was refused. In this order; after each but 0 nothing is changed.
+#[unsafe(no_mangle)]
+pub extern "C" fn universal_small_resume(
+    alloc: Global,
+    seat: &mut Handle,
+    made: u64,
+    reply: &mut [u64],
+    ended: &mut u32,
+    version: &mut u64,
+) -> u32
+    requires made { HasMade seat.old.value made }
+    ensures same { seated_in seat.new.value ≡ seated_in seat.old.value }
+    ensures wrong { (result ≡ 7) ↔ (orphan_in seat.old.value ≡ None) }
+    ensures width { (result ≡ 11) ↔ HasOtherReply seat.old.value reply.old }
+    ensures status { (result ≡ 0) ⊎ (result ≡ 3) ⊎ (result ≡ 7) ⊎ (result ≡ 11) }
+    ensures unchanged { result ≢ 0 → (seat.new.value ≡ seat.old.value) × (reply.new ≡ reply.old)
+        × (ended.new ≡ ended.old) × (version.new ≡ version.old) }
+    ensures resumed { result ≡ 0 →
+        HasResumed seat.old.value seat.new.value reply.new ended.new version.new }
+    ensures unended { result ≡ 0 → ended.new ≡ 0 → (reply.new ≡ reply.old) × (version.new ≡ version.old) }
+{
+    match replace(seat, Handle::empty(alloc)).into_box() {
+        Some(mut held) => {
+            let status = resume(alloc, &mut held, made, reply, ended, version);
+            *seat = Handle::of(held);
+            status
+        }
+        None => WRONG_HANDLE,
+    }
+}
