@@ -14,6 +14,8 @@ pub use apart::{
 #[cfg(test)]
 mod follows;
 #[cfg(test)]
+mod left;
+#[cfg(test)]
 mod machines;
 #[cfg(test)]
 mod replays;

@@ -31,7 +31,7 @@ pub(crate) fn opened<O: SmallObject>(
 }
 
 /// The last seat, taken out.
-fn last<O: SmallObject>(
+pub(crate) fn last<O: SmallObject>(
     rt: &impl Abort,
     shared: &SmallShared<O>,
     seats: &mut Vec<SmallSeat<O>>,
