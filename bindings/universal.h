@@ -214,6 +214,34 @@ uint32_t universal_small_seat(universal_handle *object, universal_handle *seat, 
 uint32_t universal_small_apply(universal_handle *seat, const uint64_t *invocation, size_t invocation_count, uint64_t *reply,
                                size_t reply_count, uint64_t *version);
 
+/* The next three are for who keeps objects in memory that outlives a process, as universal_shared.h does: a seat is taken over
+ * after its owner's death. */
+
+/* A call by a seat of a small object, as universal_small_apply, but announced at once: no direct attempt is made. A seat that may be
+ * taken over after its owner's death makes its calls by this one alone.
+ *
+ * The statuses are those of universal_small_apply. */
+uint32_t universal_small_apply_announced(universal_handle *seat, const uint64_t *invocation, size_t invocation_count,
+                                         uint64_t *reply, size_t reply_count, uint64_t *version);
+
+/* Leaves a seat, which is between two calls: the handle has the seat of a process without an owner then.
+ *
+ * UNIVERSAL_WRONG_HANDLE: *seat has no seat of a small object, and nothing is changed. */
+uint32_t universal_small_leave(universal_handle *seat);
+
+/* Takes over a seat without an owner, of which `made` calls have returned. Where its former owner had begun one more, that is
+ * ended: *ended is 1, the reply is written, and *version is one that the call is in. Else *ended is 0, and the reply and *version
+ * are as they were. The handle has a seat then, which goes on.
+ *
+ * What the caller vouches for: the former owner takes no more steps. Exactly `made` of its calls have returned; or one more, whose
+ * reply it hasn't, and which is told as one that had begun, with the same reply. All were made by
+ * universal_small_apply_announced.
+ *
+ * UNIVERSAL_WRONG_HANDLE: *seat has no seat without an owner. UNIVERSAL_BAD_WIDTH: the reply hasn't as many words as those of the
+ * object. UNIVERSAL_MEMORY. In this order; after each nothing is changed. */
+uint32_t universal_small_resume(universal_handle *seat, uint64_t made, uint64_t *reply, size_t reply_count, uint32_t *ended,
+                                uint64_t *version);
+
 /* Asks whether a version has come, by one load: *has_come is 1 or 0. 1: all later calls of this seat come after all calls that
  * are in that version. It is always 1 of a version that a call was answered, so that whoever was told so can rely on it.
  *
