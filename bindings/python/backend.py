@@ -7,7 +7,7 @@ from pathlib import Path
 
 HERE = Path(__file__).resolve().parent
 OUT = HERE.parent / "out"
-LIBRARIES = ["libuniversal.so", "libuniversal_text.so"]
+LIBRARIES = ["libuniversal.so", "libuniversal_shared.so", "libuniversal_text.so"]
 NAME, VERSION, TAG = "fednayup_universal", "0.2.0", "py3-none-linux_x86_64"
 METADATA = f"""Metadata-Version: 2.1
 Name: fednayup-universal

@@ -34,7 +34,7 @@ __all__ = ["Differs", "Entry", "Fault", "Log", "Refused", "Reply", "Seat", "in_t
 
 
 class Fault(IntEnum):
-    """Why a call was refused, as `universal.h` numbers it."""
+    """Why a call was refused, as `universal.h` numbers it, and from 20 on `universal_shared.h`."""
 
     BAD_COUNT = 1
     BAD_ROW = 2
@@ -47,6 +47,14 @@ class Fault(IntEnum):
     DIFFERS = 9
     BAD_CAPACITY = 10
     BAD_WIDTH = 11
+    NOT_A_SEGMENT = 20
+    OTHER_LIBRARY = 21
+    OTHER_OBJECT = 22
+    ADDRESS = 23
+    SYSTEM = 24
+    TAKEN = 25
+    BAD_KIND = 26
+    NOT_EMPTY = 27
 
 
 class Refused(Exception):

@@ -21,11 +21,17 @@ def one_at_a_time() -> bool:
     return is_enabled is None or bool(is_enabled())
 
 
-def load(kind: type[_Library], name: str, variable: str, signatures: Mapping[str, Sequence[object]]) -> _Library:
+def load(
+    kind: type[_Library],
+    name: str,
+    variable: str,
+    signatures: Mapping[str, Sequence[object]],
+    use_errno: bool = False,
+) -> _Library:
     """The library of this name: where the variable says, else in this package, else in `bindings/out`."""
     places = [PACKAGE / f"{name}.so", PACKAGE.parent.parent / "out" / f"{name}.so"]
     path = os.environ.get(variable) or str(next((place for place in places if place.exists()), places[0]))
-    library = kind(path)
+    library = kind(path, use_errno=use_errno)
     for function_name, takes in signatures.items():
         function = getattr(library, function_name)
         function.argtypes = takes

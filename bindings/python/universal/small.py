@@ -20,26 +20,18 @@ from queue import Full
 from typing import Any, Generic, TypeVar, cast
 
 from . import _LIBRARY, Fault, Refused, _Held, _number, _Shared, _tables, in_threads
+from ._calls import BookCalls, Calls, CounterCalls, CountersCalls, MachineCalls, MapCalls, Over, QueueCalls
+from ._calls import RegisterCalls, Short, StackCalls
 
 __all__ = ["Book", "Counter", "Counters", "Full", "Machine", "Map", "Over", "Queue", "Register", "Short", "Small"]
 __all__ += ["Stack", "in_threads"]
 
 
-class Over(Exception):
-    """A balance would be too great. Nothing is changed."""
-
-
-class Short(Exception):
-    """A balance is too small. Nothing is changed."""
-
-
 _State = TypeVar("_State")
 
 
-class _Seat(_Held, Generic[_State]):
+class _Seat(Calls, _Held, Generic[_State]):
     """A process of a small object, which makes its calls. `process` is which it is, and `version` that of its latest call."""
-
-    _replies = 1
 
     def __init__(self, object_: Small[Any, Any]) -> None:
         super().__init__()
@@ -121,7 +113,7 @@ class Small(_Shared[_S], Generic[_S, _State]):
         return cast(_State, self._seats_of._state(_words(self, self._width)))
 
 
-class Counter(_Seat[int]):
+class Counter(CounterCalls, _Seat[int]):
     """A seat of a counter modulo 2^64, 0 at the start. The last state is the sum."""
 
     @classmethod
@@ -129,16 +121,12 @@ class Counter(_Seat[int]):
         """A counter for n processes. Raises `Refused`: n isn't from 1 to 64; memory was refused."""
         return Small._open(cls, 1, _LIBRARY.universal_open_counter, _number(n, 64))
 
-    def add(self, number: int) -> int:
-        """Adds a number modulo 2^64: the sum before."""
-        return self._apply(number % (1 << 64))[0]
-
     @classmethod
     def _state(cls, words: list[int]) -> int:
         return words[0]
 
 
-class Register(_Seat[int]):
+class Register(RegisterCalls, _Seat[int]):
     """A seat of a register of 64 bits, 0 at the start. The last state is the value."""
 
     @classmethod
@@ -146,27 +134,12 @@ class Register(_Seat[int]):
         """A register for n processes. Raises as `Counter.open`."""
         return Small._open(cls, 1, _LIBRARY.universal_open_register64, _number(n, 64))
 
-    def read(self) -> int:
-        """The value."""
-        return self._apply(0, 0, 0)[0]
-
-    def write(self, value: int) -> int:
-        """Writes a value: the one before."""
-        return self._apply(1, _number(value, 64), 0)[0]
-
-    def compare_exchange(self, expected: int, value: int) -> int:
-        """Writes a value where the register has the expected one: the value before.
-
-        So it has written where that is the expected one.
-        """
-        return self._apply(2, _number(expected, 64), _number(value, 64))[0]
-
     @classmethod
     def _state(cls, words: list[int]) -> int:
         return words[0]
 
 
-class Counters(_Seat[list[int]]):
+class Counters(CountersCalls, _Seat[list[int]]):
     """A seat of an array of counters modulo 2^64, each 0 at the start. The last state is their list."""
 
     @classmethod
@@ -177,29 +150,14 @@ class Counters(_Seat[list[int]]):
         """
         return Small._open(cls, count, _LIBRARY.universal_open_counters, _number(n, 64), _number(count, 32))
 
-    def add(self, index: int, number: int) -> int:
-        """Adds a number modulo 2^64 to the counter at an index: the sum before. Raises `IndexError`: there is none."""
-        if not 0 <= index < self._width:
-            raise IndexError(f"there is no counter {index}")
-        return self._apply(index, number % (1 << 64))[0]
-
 
 class _Row(_Seat[list[int]]):
     @classmethod
     def _state(cls, words: list[int]) -> list[int]:
         return words[1 : 1 + words[0]]
 
-    def _put(self, number: int) -> None:
-        if number == 0:
-            raise ValueError("0 can't be put in")
-        if self._apply(_number(number, 64))[0] == 0:
-            raise Full
 
-    def _take(self) -> int | None:
-        return self._apply(0)[0] or None
-
-
-class Queue(_Row):
+class Queue(QueueCalls, _Row):
     """A seat of a queue of numbers from 1 to 2^64 - 1. The last state is their list, the oldest one first."""
 
     @classmethod
@@ -210,16 +168,8 @@ class Queue(_Row):
         """
         return Small._open(cls, 1 + capacity, _LIBRARY.universal_open_queue, _number(n, 64), _number(capacity, 32))
 
-    def put(self, number: int) -> None:
-        """Puts a number in. Raises `Full`, which is `queue.Full`."""
-        self._put(number)
 
-    def take(self) -> int | None:
-        """Takes the oldest number out."""
-        return self._take()
-
-
-class Stack(_Row):
+class Stack(StackCalls, _Row):
     """A seat of a stack of numbers from 1 to 2^64 - 1. The last state is their list, the newest one last."""
 
     @classmethod
@@ -227,19 +177,9 @@ class Stack(_Row):
         """A stack of at most `capacity` numbers for n processes. Raises as `Queue.open`."""
         return Small._open(cls, 1 + capacity, _LIBRARY.universal_open_stack, _number(n, 64), _number(capacity, 32))
 
-    def push(self, number: int) -> None:
-        """Puts a number on. Raises `Full`, which is `queue.Full`."""
-        self._put(number)
 
-    def pop(self) -> int | None:
-        """Takes the newest number off."""
-        return self._take()
-
-
-class Map(_Seat[dict[int, int]]):
+class Map(MapCalls, _Seat[dict[int, int]]):
     """A seat of a map from words to words. The last state is a dictionary, with the oldest key first."""
-
-    _replies = 2
 
     @classmethod
     def open(cls, n: int, capacity: int) -> Small[Map, dict[int, int]]:
@@ -249,70 +189,24 @@ class Map(_Seat[dict[int, int]]):
         """
         return Small._open(cls, 1 + 2 * capacity, _LIBRARY.universal_open_map, _number(n, 64), _number(capacity, 32))
 
-    def _before(self, operation: int, key: int, value: int) -> int | None:
-        kind, before = self._apply(operation, _number(key, 64), _number(value, 64))
-        if kind == 2:
-            raise Full
-        return before if kind == 1 else None
-
-    def get(self, key: int) -> int | None:
-        """The value of a key."""
-        return self._before(0, key, 0)
-
-    def insert(self, key: int, value: int) -> int | None:
-        """Gives a key a value: the value before. Raises `Full`, which is `queue.Full`: a new key has no room."""
-        return self._before(1, key, value)
-
-    def remove(self, key: int) -> int | None:
-        """Takes a key out: its value."""
-        return self._before(2, key, 0)
-
     @classmethod
     def _state(cls, words: list[int]) -> dict[int, int]:
         return dict(zip(words[1 : 1 + 2 * words[0] : 2], words[2::2]))
 
 
-class Book(_Seat[list[int]]):
+class Book(BookCalls, _Seat[list[int]]):
     """A seat of a book of sixteen accounts, each with a balance up to 999,999,999,999 that is 0 at the start.
 
     The last state is the list of the balances.
     """
-
-    _replies = 2
 
     @classmethod
     def open(cls, n: int) -> Small[Book, list[int]]:
         """A book for n processes. Raises as `Counter.open`."""
         return Small._open(cls, 16, _LIBRARY.universal_open_book, _number(n, 64))
 
-    def _number_of(self, operation: int, account: int, target: int, amount: int) -> int:
-        if not (0 <= account < 16 and 0 <= target < 16 and 0 <= amount < 10**12):
-            raise ValueError("an account isn't from 0 to 15, or an amount isn't from 0 to 999999999999")
-        kind, number = self._apply(operation, account, target, amount)
-        if kind == 1:
-            raise Over
-        if kind == 2:
-            raise Short
-        return number
 
-    def deposit(self, account: int, amount: int) -> int:
-        """Puts an amount into an account: its balance. Raises `Over`."""
-        return self._number_of(0, account, 0, amount)
-
-    def withdraw(self, account: int, amount: int) -> int:
-        """Takes an amount out of an account: its balance. Raises `Short`."""
-        return self._number_of(1, account, 0, amount)
-
-    def transfer(self, source: int, target: int, amount: int) -> None:
-        """Takes an amount out of an account, and puts it into another one. Raises `Over` and `Short`."""
-        self._number_of(2, source, target, amount)
-
-    def total(self) -> int:
-        """The sum of all balances."""
-        return self._number_of(3, 0, 0, 0)
-
-
-class Machine(_Seat[int]):
+class Machine(MachineCalls, _Seat[int]):
     """A seat of a machine by its tables. The last state is the number of its state."""
 
     @classmethod
@@ -322,10 +216,6 @@ class Machine(_Seat[int]):
         Raises `Refused`: the tables aren't those of a machine; and then as `Counter.open`.
         """
         return Small._open(cls, 1, _LIBRARY.universal_open_small_machine, _number(n, 64), *_tables(next, reply))
-
-    def call(self, invocation: int) -> int:
-        """A call: the reply. An invocation past the tables is the last one."""
-        return self._apply(_number(invocation, 64))[0]
 
     @classmethod
     def _state(cls, words: list[int]) -> int:
