@@ -18,11 +18,12 @@
 #include <stdlib.h>
 #include <string.h>
 #include <sys/mman.h>
+#include <sys/prctl.h>
 #include <sys/wait.h>
 #include <time.h>
 #include <unistd.h>
 
-enum { SEATS = 64, KEYS = 8, CAPACITY = 24, ACCOUNTS = 16, NUMBERS = 1 << 26 };
+enum { SEATS = 64, KEYS = 8, CAPACITY = 24, ACCOUNTS = 16, NUMBERS = 1 << 28 };
 
 /* What is wrong. */
 enum { TWICE, VERSION, UNKNOWN, ORDER, CALLS, WORDS, STATUS, BALANCE, WRONGS };
@@ -201,6 +202,7 @@ static char **arguments;
 static pid_t begin(universal_shared_segment *segment, uint64_t p) {
     pid_t pid = fork();
     if (pid) return pid;
+    prctl(PR_SET_PDEATHSIG, SIGKILL);
     if (!by_exec) work(segment, p);
     char a[16], b[16], c[16];
     snprintf(a, 16, "%d", file), snprintf(b, 16, "%d", diaries), snprintf(c, 16, "%d", (int)p);
@@ -276,9 +278,13 @@ static bool fits(universal_shared_seat *seat) {
         left += value != 0;
     }
     uint64_t in = 0, out = 0;
-    for (uint64_t i = 0; i < NUMBERS; i++) {
-        in += all->in[i] != 0, out += all->out[i] != 0;
-        lost += all->in[i] && !all->out[i], unknown += all->out[i] && !all->in[i];
+    for (uint64_t p = 0; p < n; p++) {
+        const diary *d = &all->of[p];
+        uint64_t most = d->numbers[0] > d->numbers[1] ? d->numbers[0] : d->numbers[1];
+        for (uint64_t i = number(p, 0); i <= number(p, most); i++) {
+            in += all->in[i] != 0, out += all->out[i] != 0;
+            lost += all->in[i] && !all->out[i], unknown += all->out[i] && !all->in[i];
+        }
     }
     printf("%s: %lu answers; %lu went in, %lu came out, of these %lu at the end; lost %lu, not known to have gone in "
            "%lu\n",

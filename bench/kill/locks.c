@@ -16,6 +16,7 @@
 #include <stdlib.h>
 #include <string.h>
 #include <sys/mman.h>
+#include <sys/prctl.h>
 #include <sys/wait.h>
 #include <time.h>
 #include <unistd.h>
@@ -105,6 +106,7 @@ static uint64_t call(uint64_t number) {
 }
 
 static void work(uint64_t p) {
+    prctl(PR_SET_PDEATHSIG, SIGKILL);
     if (!all->of[p].seed) all->of[p].seed = 88172645463325252ull + p * 977;
     while (!all->stop && all->of[p].puts + 2 < NUMBERS / n) {
         uint64_t number = draw(&all->of[p].seed) & 1 ? p * (NUMBERS / n) + all->of[p].puts++ + 1 : 0,

@@ -13,6 +13,7 @@
 #include <stdio.h>
 #include <stdlib.h>
 #include <string.h>
+#include <sys/prctl.h>
 #include <sys/wait.h>
 #include <time.h>
 #include <unistd.h>
@@ -64,7 +65,10 @@ static uint64_t draw(uint64_t *x) { return *x ^= *x << 13, *x ^= *x >> 7, *x ^= 
 
 static pid_t start(int64_t me) {
     pid_t pid = fork();
-    if (pid == 0) work(me);
+    if (pid == 0) {
+        prctl(PR_SET_PDEATHSIG, SIGKILL);
+        work(me);
+    }
     return pid;
 }
 
