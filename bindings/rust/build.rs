@@ -1,5 +1,5 @@
-//! Links the static library `libuniversal.a` of the folder that `UNIVERSAL_LIB` names, as `bindings/install` makes one, or of
-//! `../out`, which `bindings/test` makes.
+//! Links the static libraries `libuniversal.a` and `libuniversal_shared.a` of the folder that `UNIVERSAL_LIB` names, as
+//! `bindings/install` makes one, or of `../out`, which `bindings/test` makes.
 use std::env;
 use std::path::PathBuf;
 
@@ -9,9 +9,11 @@ fn main() {
         Some(folder) => PathBuf::from(folder),
         None => PathBuf::from(env::var_os("CARGO_MANIFEST_DIR").expect("cargo sets it")).join("../out"),
     };
-    let library = folder.join("libuniversal.a");
-    println!("cargo:rerun-if-changed={}", library.display());
-    assert!(library.exists(), "{} isn't there: UNIVERSAL_LIB names the folder of libuniversal.a", library.display());
     println!("cargo:rustc-link-search=native={}", folder.display());
-    println!("cargo:rustc-link-lib=static=universal");
+    for name in ["universal", "universal_shared"] {
+        let library = folder.join(format!("lib{name}.a"));
+        println!("cargo:rerun-if-changed={}", library.display());
+        assert!(library.exists(), "{} isn't there: UNIVERSAL_LIB names its folder", library.display());
+        println!("cargo:rustc-link-lib=static={name}");
+    }
 }

@@ -2,7 +2,7 @@
 //!
 //! [`small`] has a counter, a register, a queue, a stack, a map and more on words of 64 bits, whose seats make calls
 //! without end. A [`Log`] is a tally, a sticky register, a register or a machine of two tables on words of 31 bits, and
-//! tells all its calls in the end.
+//! tells all its calls in the end. In [`shared`] processes share the objects of [`small`], and any may be killed.
 //!
 //! A [`Log`] is an object that `n` processes share. It gives out a [`Seat`] for each, and a seat makes up to `k`
 //! calls, from any thread. A call takes no lock and no memory, and ends within `12n + 15` steps on shared words,
@@ -29,6 +29,7 @@
 
 mod raw;
 pub mod register;
+pub mod shared;
 pub mod small;
 
 use raw::Handle;

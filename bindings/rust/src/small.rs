@@ -108,7 +108,8 @@ pub type Book = SmallSeat<kinds::Book>;
 /// A seat of a machine by its tables. The last state is the number of its state.
 pub type Machine = SmallSeat<kinds::Machine>;
 
-/// The seat has made all the calls that it can make, which are 2^50. Nothing is changed.
+/// The seat makes no more calls: it has made all that it can, which are 2^50. Nothing is changed. Of a process's seat it also
+/// says that the process was forked from that which claimed it.
 #[derive(Clone, Copy, Debug, PartialEq, Eq)]
 pub struct Spent;
 
@@ -311,29 +312,12 @@ impl<K: Kind> SmallSeat<K> {
         self.version = version;
         Ok(reply)
     }
-
-    fn ask(&mut self, invocation: &[u64]) -> Result<u64, Spent> {
-        let [reply] = self.apply(invocation)?;
-        Ok(reply)
-    }
-
-    fn put_in(&mut self, number: NonZeroU64) -> Result<(), PutFault> {
-        match self.ask(&[number.get()])? {
-            0 => Err(PutFault::Full),
-            _ => Ok(()),
-        }
-    }
 }
 
 impl Counter {
     /// A counter for `n` processes. Errors: `BadCount`, `Memory`.
     pub fn open(n: u64) -> Result<Small<kinds::Counter>, Fault> {
         Small::opened(1, |object| raw::open_counter(n, object))
-    }
-
-    /// Adds a number: the sum before.
-    pub fn add(&mut self, number: u64) -> Result<u64, Spent> {
-        self.ask(&[number])
     }
 }
 
@@ -342,33 +326,12 @@ impl Register {
     pub fn open(n: u64) -> Result<Small<kinds::Register>, Fault> {
         Small::opened(1, |object| raw::open_register64(n, object))
     }
-
-    /// The value.
-    pub fn read(&mut self) -> Result<u64, Spent> {
-        self.ask(&[0, 0, 0])
-    }
-
-    /// Writes a value: the one before.
-    pub fn write(&mut self, value: u64) -> Result<u64, Spent> {
-        self.ask(&[1, value, 0])
-    }
-
-    /// Writes a value where the register has the expected one: the value before. So it has written where that is the
-    /// expected one.
-    pub fn compare_exchange(&mut self, expected: u64, value: u64) -> Result<u64, Spent> {
-        self.ask(&[2, expected, value])
-    }
 }
 
 impl Counters {
     /// So many counters for `n` processes. Errors: `BadCount`; `BadCapacity` for more than 65,536 counters; `Memory`.
     pub fn open(n: u64, count: u32) -> Result<Small<kinds::Counters>, Fault> {
         Small::opened(count as usize, |object| raw::open_counters(n, count, object))
-    }
-
-    /// Adds a number to the counter at an index: the sum before. Where there is none, nothing is changed, and that is 0.
-    pub fn add(&mut self, index: u64, number: u64) -> Result<u64, Spent> {
-        self.ask(&[index, number])
     }
 }
 
@@ -378,32 +341,12 @@ impl Queue {
     pub fn open(n: u64, capacity: u32) -> Result<Small<kinds::Queue>, Fault> {
         Small::opened(1 + capacity as usize, |object| raw::open_queue(n, capacity, object))
     }
-
-    /// Puts a number in.
-    pub fn put(&mut self, number: NonZeroU64) -> Result<(), PutFault> {
-        self.put_in(number)
-    }
-
-    /// Takes the oldest number out.
-    pub fn take(&mut self) -> Result<Option<NonZeroU64>, Spent> {
-        Ok(NonZeroU64::new(self.ask(&[0])?))
-    }
 }
 
 impl Stack {
     /// A stack of at most `capacity` numbers for `n` processes. The errors are those of [`Queue::open`].
     pub fn open(n: u64, capacity: u32) -> Result<Small<kinds::Stack>, Fault> {
         Small::opened(1 + capacity as usize, |object| raw::open_stack(n, capacity, object))
-    }
-
-    /// Puts a number on.
-    pub fn push(&mut self, number: NonZeroU64) -> Result<(), PutFault> {
-        self.put_in(number)
-    }
-
-    /// Takes the newest number off.
-    pub fn pop(&mut self) -> Result<Option<NonZeroU64>, Spent> {
-        Ok(NonZeroU64::new(self.ask(&[0])?))
     }
 }
 
@@ -413,69 +356,12 @@ impl Map {
     pub fn open(n: u64, capacity: u32) -> Result<Small<kinds::Map>, Fault> {
         Small::opened(1 + 2 * capacity as usize, |object| raw::open_map(n, capacity, object))
     }
-
-    /// The value of a key.
-    pub fn get(&mut self, key: u64) -> Result<Option<u64>, Spent> {
-        let [kind, value] = self.apply(&[0, key, 0])?;
-        Ok((kind == 1).then_some(value))
-    }
-
-    /// Gives a key a value: the value before.
-    pub fn insert(&mut self, key: u64, value: u64) -> Result<Option<u64>, PutFault> {
-        let [kind, before] = self.apply(&[1, key, value])?;
-        match kind {
-            2 => Err(PutFault::Full),
-            _ => Ok((kind == 1).then_some(before)),
-        }
-    }
-
-    /// Takes a key out: its value.
-    pub fn remove(&mut self, key: u64) -> Result<Option<u64>, Spent> {
-        let [kind, value] = self.apply(&[2, key, 0])?;
-        Ok((kind == 1).then_some(value))
-    }
 }
 
 impl Book {
     /// A book for `n` processes. Errors: `BadCount`, `Memory`.
     pub fn open(n: u64) -> Result<Small<kinds::Book>, Fault> {
         Small::opened(16, |object| raw::open_book(n, object))
-    }
-
-    fn call(&mut self, operation: u64, accounts: [u8; 2], amount: u64) -> Result<u64, BookFault> {
-        if accounts.iter().any(|account| *account > 15) {
-            return Err(BookFault::NoAccount);
-        }
-        if amount > 999_999_999_999 {
-            return Err(BookFault::NoAmount);
-        }
-        let [kind, number] = self.apply(&[operation, accounts[0].into(), accounts[1].into(), amount])?;
-        match kind {
-            1 => Err(BookFault::Over),
-            2 => Err(BookFault::Short),
-            _ => Ok(number),
-        }
-    }
-
-    /// Puts an amount into an account: its balance. Error: each of [`BookFault`] but `Short`.
-    pub fn deposit(&mut self, account: u8, amount: u64) -> Result<u64, BookFault> {
-        self.call(0, [account, 0], amount)
-    }
-
-    /// Takes an amount out of an account: its balance. Error: each of [`BookFault`] but `Over`.
-    pub fn withdraw(&mut self, account: u8, amount: u64) -> Result<u64, BookFault> {
-        self.call(1, [account, 0], amount)
-    }
-
-    /// Takes an amount out of an account, and puts it into another one.
-    pub fn transfer(&mut self, from: u8, to: u8, amount: u64) -> Result<(), BookFault> {
-        self.call(2, [from, to], amount).map(drop)
-    }
-
-    /// The sum of all balances.
-    pub fn total(&mut self) -> Result<u64, Spent> {
-        let [_, sum] = self.apply(&[3, 0, 0, 0])?;
-        Ok(sum)
     }
 }
 
@@ -484,9 +370,150 @@ impl Machine {
     pub fn open(n: u64, tables: crate::Machine<'_>) -> Result<Small<kinds::Machine>, Fault> {
         Small::opened(1, |object| raw::open_small_machine(n, tables, object))
     }
-
-    /// A call: the reply. An invocation past the tables is the last one.
-    pub fn call(&mut self, invocation: u64) -> Result<u64, Spent> {
-        self.ask(&[invocation])
-    }
 }
+
+/// The calls of each kind of object, by the words of invocations and replies: of the seats of a thread, and of a process.
+macro_rules! calls {
+    ($seat:ident) => {
+        impl<K: Kind> $seat<K> {
+            fn ask(&mut self, invocation: &[u64]) -> Result<u64, Spent> {
+                let [reply] = self.apply(invocation)?;
+                Ok(reply)
+            }
+
+            fn put_in(&mut self, number: NonZeroU64) -> Result<(), PutFault> {
+                match self.ask(&[number.get()])? {
+                    0 => Err(PutFault::Full),
+                    _ => Ok(()),
+                }
+            }
+        }
+
+        impl $seat<kinds::Counter> {
+            /// Adds a number: the sum before.
+            pub fn add(&mut self, number: u64) -> Result<u64, Spent> {
+                self.ask(&[number])
+            }
+        }
+
+        impl $seat<kinds::Register> {
+            /// The value.
+            pub fn read(&mut self) -> Result<u64, Spent> {
+                self.ask(&[0, 0, 0])
+            }
+
+            /// Writes a value: the one before.
+            pub fn write(&mut self, value: u64) -> Result<u64, Spent> {
+                self.ask(&[1, value, 0])
+            }
+
+            /// Writes a value where the register has the expected one: the value before. So it has written where that is the
+            /// expected one.
+            pub fn compare_exchange(&mut self, expected: u64, value: u64) -> Result<u64, Spent> {
+                self.ask(&[2, expected, value])
+            }
+        }
+
+        impl $seat<kinds::Counters> {
+            /// Adds a number to the counter at an index: the sum before. Where there is none, nothing is changed, and that is 0.
+            pub fn add(&mut self, index: u64, number: u64) -> Result<u64, Spent> {
+                self.ask(&[index, number])
+            }
+        }
+
+        impl $seat<kinds::Queue> {
+            /// Puts a number in.
+            pub fn put(&mut self, number: NonZeroU64) -> Result<(), PutFault> {
+                self.put_in(number)
+            }
+
+            /// Takes the oldest number out.
+            pub fn take(&mut self) -> Result<Option<NonZeroU64>, Spent> {
+                Ok(NonZeroU64::new(self.ask(&[0])?))
+            }
+        }
+
+        impl $seat<kinds::Stack> {
+            /// Puts a number on.
+            pub fn push(&mut self, number: NonZeroU64) -> Result<(), PutFault> {
+                self.put_in(number)
+            }
+
+            /// Takes the newest number off.
+            pub fn pop(&mut self) -> Result<Option<NonZeroU64>, Spent> {
+                Ok(NonZeroU64::new(self.ask(&[0])?))
+            }
+        }
+
+        impl $seat<kinds::Map> {
+            /// The value of a key.
+            pub fn get(&mut self, key: u64) -> Result<Option<u64>, Spent> {
+                let [kind, value] = self.apply(&[0, key, 0])?;
+                Ok((kind == 1).then_some(value))
+            }
+
+            /// Gives a key a value: the value before.
+            pub fn insert(&mut self, key: u64, value: u64) -> Result<Option<u64>, PutFault> {
+                let [kind, before] = self.apply(&[1, key, value])?;
+                match kind {
+                    2 => Err(PutFault::Full),
+                    _ => Ok((kind == 1).then_some(before)),
+                }
+            }
+
+            /// Takes a key out: its value.
+            pub fn remove(&mut self, key: u64) -> Result<Option<u64>, Spent> {
+                let [kind, value] = self.apply(&[2, key, 0])?;
+                Ok((kind == 1).then_some(value))
+            }
+        }
+
+        impl $seat<kinds::Book> {
+            fn call(&mut self, operation: u64, accounts: [u8; 2], amount: u64) -> Result<u64, BookFault> {
+                if accounts.iter().any(|account| *account > 15) {
+                    return Err(BookFault::NoAccount);
+                }
+                if amount > 999_999_999_999 {
+                    return Err(BookFault::NoAmount);
+                }
+                let [kind, number] = self.apply(&[operation, accounts[0].into(), accounts[1].into(), amount])?;
+                match kind {
+                    1 => Err(BookFault::Over),
+                    2 => Err(BookFault::Short),
+                    _ => Ok(number),
+                }
+            }
+
+            /// Puts an amount into an account: its balance. Error: each of [`BookFault`] but `Short`.
+            pub fn deposit(&mut self, account: u8, amount: u64) -> Result<u64, BookFault> {
+                self.call(0, [account, 0], amount)
+            }
+
+            /// Takes an amount out of an account: its balance. Error: each of [`BookFault`] but `Over`.
+            pub fn withdraw(&mut self, account: u8, amount: u64) -> Result<u64, BookFault> {
+                self.call(1, [account, 0], amount)
+            }
+
+            /// Takes an amount out of an account, and puts it into another one.
+            pub fn transfer(&mut self, from: u8, to: u8, amount: u64) -> Result<(), BookFault> {
+                self.call(2, [from, to], amount).map(drop)
+            }
+
+            /// The sum of all balances.
+            pub fn total(&mut self) -> Result<u64, Spent> {
+                let [_, sum] = self.apply(&[3, 0, 0, 0])?;
+                Ok(sum)
+            }
+        }
+
+        impl $seat<kinds::Machine> {
+            /// A call: the reply. An invocation past the tables is the last one.
+            pub fn call(&mut self, invocation: u64) -> Result<u64, Spent> {
+                self.ask(&[invocation])
+            }
+        }
+    };
+}
+
+pub(crate) use calls;
+calls!(SmallSeat);
