@@ -29,9 +29,26 @@ public enum Fault {
     /** A balance would be too great: a reply, too. */
     OVER,
     /** A balance is too small: a reply, too. */
-    SHORT;
+    SHORT,
+    /** The file is no segment, or not a whole one. This and the next are of {@link Shared} alone. */
+    NOT_A_SEGMENT,
+    /** The segment was made by another version or build of the library. */
+    OTHER_LIBRARY,
+    /** The segment has another kind or another number of seats. */
+    OTHER_OBJECT,
+    /** The segment's address is taken in this process. */
+    ADDRESS,
+    /** The seat has a living owner. */
+    TAKEN;
 
     static Fault of(int status) {
-        return values()[status - 1];
+        return switch (status) {
+            case 20, 27 -> NOT_A_SEGMENT;
+            case 21 -> OTHER_LIBRARY;
+            case 22, 26 -> OTHER_OBJECT;
+            case 23 -> ADDRESS;
+            case 25 -> TAKEN;
+            default -> values()[status - 1];
+        };
     }
 }

@@ -23,8 +23,42 @@ public final class Small<S extends Small.Seat> implements AutoCloseable {
     private final int width;
     private final Seats<S> seats;
 
-    private interface Seats<S> {
-        S of(Handle handle, long process, int width);
+    /** Makes a seat of its place. */
+    interface Seats<S> {
+        S of(Place place, long process, int width);
+    }
+
+    /** Where a seat's calls are made: among the threads of this process, or among processes. */
+    interface Place {
+        void apply(MemorySegment words, long count, MemorySegment reply, long replies, MemorySegment version) throws Refused;
+
+        void follows(long version, MemorySegment answer) throws Refused;
+
+        long[] finish(int width) throws Refused;
+
+        void close();
+    }
+
+    private record AmongThreads(Handle handle) implements Place {
+        @Override
+        public void apply(MemorySegment words, long count, MemorySegment reply, long replies, MemorySegment version) throws Refused {
+            handle.call(at -> (int) Universal.SMALL_APPLY.invokeExact(at, words, count, reply, replies, version));
+        }
+
+        @Override
+        public void follows(long version, MemorySegment answer) throws Refused {
+            handle.call(at -> (int) Universal.SMALL_FOLLOWS.invokeExact(at, version, answer));
+        }
+
+        @Override
+        public long[] finish(int width) throws Refused {
+            return Small.finish(handle, width);
+        }
+
+        @Override
+        public void close() {
+            handle.close();
+        }
     }
 
     private Small(int width, Seats<S> seats) {
@@ -58,7 +92,7 @@ public final class Small<S extends Small.Seat> implements AutoCloseable {
         try (Arena arena = Arena.ofConfined()) {
             MemorySegment process = arena.allocate(JAVA_LONG);
             handle.call(at -> (int) Universal.SMALL_SEAT.invokeExact(at, seat.at(), process));
-            return seats.of(seat, process.get(JAVA_LONG, 0), width);
+            return seats.of(new AmongThreads(seat), process.get(JAVA_LONG, 0), width);
         } catch (Refused refused) {
             seat.close();
             throw refused;
@@ -104,7 +138,7 @@ public final class Small<S extends Small.Seat> implements AutoCloseable {
     public abstract static sealed class Seat implements AutoCloseable {
         private static final int MOST = 4;
 
-        private final Handle handle;
+        private final Place place;
         private final int width;
         private final Arena arena = Arena.ofAuto();
         private final MemorySegment invocation = arena.allocate(JAVA_LONG, MOST), reply = arena.allocate(JAVA_LONG, 2);
@@ -114,8 +148,8 @@ public final class Small<S extends Small.Seat> implements AutoCloseable {
         /** Which process it is, from 0 to n - 1. */
         public final long process;
 
-        private Seat(Handle handle, long process, int width) {
-            this.handle = handle;
+        private Seat(Place place, long process, int width) {
+            this.place = place;
             this.process = process;
             this.width = width;
         }
@@ -128,15 +162,21 @@ public final class Small<S extends Small.Seat> implements AutoCloseable {
         /**
          * Whether a version has come: all later calls of this seat come after all calls that are in it then. It is always true
          * of one that a call was answered.
+         *
+         * @throws UnsupportedOperationException it is a seat of a {@link Shared}
          */
         public final synchronized boolean follows(long version) throws Refused {
-            handle.call(at -> (int) Universal.SMALL_FOLLOWS.invokeExact(at, version, answer));
+            place.follows(version, answer);
             return answer.get(JAVA_INT, 0) != 0;
         }
 
-        /** Closes the object, by the last that has it: the words of the last state. Refused: another has it. */
+        /**
+         * Closes the object, by the last that has it: the words of the last state. Refused: another has it.
+         *
+         * @throws UnsupportedOperationException it is a seat of a {@link Shared}
+         */
         public final synchronized long[] finish() throws Refused {
-            long[] state = Small.finish(handle, width);
+            long[] state = place.finish(width);
             close();
             return state;
         }
@@ -144,15 +184,13 @@ public final class Small<S extends Small.Seat> implements AutoCloseable {
         /** Lets the seat go; at a seat that was let go or has finished it does nothing. */
         @Override
         public final synchronized void close() {
-            handle.close();
+            place.close();
         }
 
         /** A call: the words of its reply. */
         final synchronized long[] apply(int replies, long... words) throws Refused {
-            handle.at();
             MemorySegment.copy(words, 0, invocation, JAVA_LONG, 0, words.length);
-            handle.call(at -> (int) Universal.SMALL_APPLY.invokeExact(at, invocation, (long) words.length, reply,
-                    (long) replies, answer));
+            place.apply(invocation, words.length, reply, replies, answer);
             version = answer.get(JAVA_LONG, 0);
             return new long[] {reply.get(JAVA_LONG, 0), reply.get(JAVA_LONG, 8)};
         }
@@ -164,8 +202,8 @@ public final class Small<S extends Small.Seat> implements AutoCloseable {
 
     /** A seat of a counter modulo 2^64, 0 at the start. A state is the sum. */
     public static final class Counter extends Seat {
-        private Counter(Handle handle, long process, int width) {
-            super(handle, process, width);
+        Counter(Place place, long process, int width) {
+            super(place, process, width);
         }
 
         /** A counter for n processes. */
@@ -181,8 +219,8 @@ public final class Small<S extends Small.Seat> implements AutoCloseable {
 
     /** A seat of a register of 64 bits, 0 at the start. A state is the value. */
     public static final class Register extends Seat {
-        private Register(Handle handle, long process, int width) {
-            super(handle, process, width);
+        Register(Place place, long process, int width) {
+            super(place, process, width);
         }
 
         /** A register for n processes. */
@@ -208,8 +246,8 @@ public final class Small<S extends Small.Seat> implements AutoCloseable {
 
     /** A seat of an array of counters modulo 2^64, each 0 at the start. A state is each sum. */
     public static final class Counters extends Seat {
-        private Counters(Handle handle, long process, int width) {
-            super(handle, process, width);
+        Counters(Place place, long process, int width) {
+            super(place, process, width);
         }
 
         /** So many counters for n processes. Refused: there are more than 65,536. */
@@ -225,8 +263,8 @@ public final class Small<S extends Small.Seat> implements AutoCloseable {
 
     /** A seat of a queue of numbers that aren't 0. A state is how many there are, and then they, the oldest one first. */
     public static final class Queue extends Seat {
-        private Queue(Handle handle, long process, int width) {
-            super(handle, process, width);
+        Queue(Place place, long process, int width) {
+            super(place, process, width);
         }
 
         /** A queue of at most {@code capacity} numbers for n processes. Refused: capacity is more than 65,535. */
@@ -247,8 +285,8 @@ public final class Small<S extends Small.Seat> implements AutoCloseable {
 
     /** A seat of a stack of numbers that aren't 0. A state is how many there are, and then they, the newest one last. */
     public static final class Stack extends Seat {
-        private Stack(Handle handle, long process, int width) {
-            super(handle, process, width);
+        Stack(Place place, long process, int width) {
+            super(place, process, width);
         }
 
         /** A stack of at most {@code capacity} numbers for n processes. Refused: capacity is more than 65,535. */
@@ -269,8 +307,8 @@ public final class Small<S extends Small.Seat> implements AutoCloseable {
 
     /** A seat of a map. A state is how many keys there are, and then each with its value, the oldest key first. */
     public static final class Map extends Seat {
-        private Map(Handle handle, long process, int width) {
-            super(handle, process, width);
+        Map(Place place, long process, int width) {
+            super(place, process, width);
         }
 
         /** A map of at most {@code capacity} keys for n processes. Refused: capacity is more than 32,767. */
@@ -304,8 +342,8 @@ public final class Small<S extends Small.Seat> implements AutoCloseable {
 
     /** A seat of a book of sixteen accounts, each with a balance up to 999,999,999,999. A state is the balances. */
     public static final class Book extends Seat {
-        private Book(Handle handle, long process, int width) {
-            super(handle, process, width);
+        Book(Place place, long process, int width) {
+            super(place, process, width);
         }
 
         /** A book for n processes. */
@@ -347,8 +385,8 @@ public final class Small<S extends Small.Seat> implements AutoCloseable {
 
     /** A seat of a machine by its tables. A state is the number of its state. */
     public static final class Machine extends Seat {
-        private Machine(Handle handle, long process, int width) {
-            super(handle, process, width);
+        Machine(Place place, long process, int width) {
+            super(place, process, width);
         }
 
         /** The machine of two tables with a row for each state, an entry for each invocation; state 0 is the start. */

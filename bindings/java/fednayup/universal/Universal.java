@@ -22,7 +22,7 @@ import java.nio.file.StandardCopyOption;
 
 /** The functions of {@code universal.h}, by {@code java.lang.foreign}, from Java 22 on. */
 final class Universal {
-    private static final SymbolLookup LIBRARY = library();
+    private static final SymbolLookup LIBRARY = library("libuniversal.so", "universal.library");
 
     static final MethodHandle OPEN_TALLY = status("universal_open_tally", JAVA_LONG, JAVA_LONG, ADDRESS);
     static final MethodHandle OPEN_STICKY = status("universal_open_sticky", JAVA_LONG, JAVA_LONG, ADDRESS);
@@ -52,15 +52,15 @@ final class Universal {
 
     private Universal() {}
 
-    /** The library whose path the property {@code universal.library} tells, else the one that lies in the jar. */
-    private static SymbolLookup library() {
-        String path = System.getProperty("universal.library");
+    /** The library whose path the property tells, else the one that lies in the jar. */
+    static SymbolLookup library(String name, String property) {
+        String path = System.getProperty(property);
         if (path != null) {
             return SymbolLookup.libraryLookup(Path.of(path), Arena.global());
         }
-        try (InputStream inJar = Universal.class.getResourceAsStream("libuniversal.so")) {
+        try (InputStream inJar = Universal.class.getResourceAsStream(name)) {
             if (inJar == null) {
-                throw new UnsatisfiedLinkError("no library in the jar: tell its path by -Duniversal.library=PATH");
+                throw new UnsatisfiedLinkError("no " + name + " in the jar: tell its path by -D" + property + "=PATH");
             }
             Path copy = Files.createTempFile("libuniversal", ".so");
             try {
@@ -125,21 +125,32 @@ final class Universal {
     static final class Handle implements AutoCloseable {
         private static final Cleaner CLEANER = Cleaner.create();
 
-        /** What is let go once. It doesn't name its handle. */
-        private record Held(MemorySegment at) implements Runnable {
+        /** What is let go once, by a function of the library. It doesn't name its handle. */
+        private record Held(MemorySegment at, MethodHandle drop) implements Runnable {
             @Override
             public void run() {
                 try {
-                    DROP.invokeExact(at);
+                    drop.invokeExact(at);
                 } catch (Throwable wrong) {
                     throw new AssertionError(wrong);
                 }
             }
         }
 
-        private final Held held = new Held(Arena.ofAuto().allocate(ADDRESS));
-        private final Cleaner.Cleanable letGo = CLEANER.register(this, held);
+        private final Held held;
+        private final Cleaner.Cleanable letGo;
         private boolean gone;
+
+        /** A handle that has nothing yet. */
+        Handle() {
+            this(Arena.ofAuto().allocate(ADDRESS), DROP);
+        }
+
+        /** What this function lets go. */
+        Handle(MemorySegment at, MethodHandle drop) {
+            held = new Held(at, drop);
+            letGo = CLEANER.register(this, held);
+        }
 
         /** A call with the handle, which stays until that has returned. */
         void call(With call) throws Refused {

@@ -1,0 +1,171 @@
+import java.io.File;
+import java.nio.file.FileAlreadyExistsException;
+import java.nio.file.Files;
+import java.nio.file.NoSuchFileException;
+import java.nio.file.Path;
+import java.util.List;
+import java.util.OptionalLong;
+import fednayup.universal.Fault;
+import fednayup.universal.Refused;
+import fednayup.universal.Shared;
+import fednayup.universal.Shared.Kind;
+import fednayup.universal.Small;
+
+/**
+ * Objects that processes share: each call, each refusal, and a process that is killed. With the words {@code add NAME SEATS} it is such
+ * a process: it adds 1 to a counter for good; with {@code add NAME SEATS CALLS} so many times.
+ */
+public final class SharedCalls {
+    private interface Action {
+        void run() throws Exception;
+    }
+
+    private static void is(Object found, Object wanted) {
+        if (!found.equals(wanted)) {
+            throw new AssertionError(found + " is not " + wanted);
+        }
+    }
+
+    private static void refuses(Fault fault, Action action) throws Exception {
+        try {
+            action.run();
+        } catch (Refused refused) {
+            is(refused.fault, fault);
+            return;
+        }
+        throw new AssertionError("not refused: " + fault);
+    }
+
+    private static void throwsA(Class<?> kind, Action action) {
+        try {
+            action.run();
+        } catch (Exception thrown) {
+            is(thrown.getClass(), kind);
+            return;
+        }
+        throw new AssertionError("not thrown: " + kind);
+    }
+
+    private static String name(String of) {
+        return "java." + ProcessHandle.current().pid() + "." + of;
+    }
+
+    /** The one seat of a new object, whose name is gone. */
+    private static <S extends Small.Seat> S only(Kind<S> kind) throws Exception {
+        try (Shared<S> object = Shared.create(name("only"), 1, kind)) {
+            Shared.unlink(name("only"));
+            return object.claim().seat();
+        }
+    }
+
+    private static void objects() throws Exception {
+        try (Small.Counter counter = only(Kind.counter())) {
+            is(List.of(counter.add(5), counter.add(-1), counter.add(0)), List.of(0L, 5L, 4L));
+            is(counter.version() > 0, true);
+            throwsA(UnsupportedOperationException.class, () -> counter.follows(1));
+            throwsA(UnsupportedOperationException.class, counter::finish);
+        }
+        Small.Register register = only(Kind.register());
+        is(List.of(register.write(-1), register.compareExchange(3, 9), register.read()), List.of(0L, -1L, -1L));
+        Small.Counters counters = only(Kind.counters(3));
+        is(List.of(counters.add(2, 8), counters.add(2, 1), counters.add(3, 1)), List.of(0L, 8L, 0L));
+        Small.Queue queue = only(Kind.queue(2));
+        is(List.of(queue.take(), queue.put(8), queue.put(9), queue.put(7), queue.take()), List.of(0L, true, true, false, 8L));
+        Small.Stack stack = only(Kind.stack(2));
+        is(List.of(stack.pop(), stack.push(8), stack.push(9), stack.push(7), stack.pop()), List.of(0L, true, true, false, 9L));
+        Small.Map map = only(Kind.map(1));
+        is(List.of(map.insert(7, 70), map.insert(7, 71), map.get(7)), List.of(OptionalLong.empty(), OptionalLong.of(70), OptionalLong.of(71)));
+        refuses(Fault.NO_ROOM, () -> map.insert(8, 1));
+        Small.Book book = only(Kind.book());
+        is(List.of(book.deposit(3, 10), book.total()), List.of(10L, 10L));
+        refuses(Fault.SHORT, () -> book.withdraw(3, 11));
+        Small.Machine machine = only(Kind.machine(new int[][] {{1}, {0}}, new int[][] {{7}, {8}}));
+        is(List.of(machine.call(0), machine.call(0)), List.of(7L, 8L));
+    }
+
+    private static void names() throws Exception {
+        String of = name("names");
+        try (Shared<Small.Map> made = Shared.create(of, 2, Kind.map(10)); Shared<Small.Map> again = Shared.attach(of, 2, Kind.map(10))) {
+            made.claim().seat().insert(1, 2);
+            is(again.claim().seat().get(1), OptionalLong.of(2));
+            throwsA(FileAlreadyExistsException.class, () -> Shared.create(of, 2, Kind.map(10)));
+            refuses(Fault.OTHER_OBJECT, () -> Shared.attach(of, 2, Kind.map(11)));
+            refuses(Fault.OTHER_OBJECT, () -> Shared.attach(of, 3, Kind.map(10)));
+            refuses(Fault.OTHER_OBJECT, () -> Shared.attach(of, 2, Kind.counter()));
+        } finally {
+            Shared.unlink(of);
+        }
+        throwsA(NoSuchFileException.class, () -> Shared.attach(of, 2, Kind.map(10)));
+        throwsA(NoSuchFileException.class, () -> Shared.unlink(of));
+        refuses(Fault.BAD_COUNT, () -> Shared.create(of, 65, Kind.counter()));
+        refuses(Fault.BAD_CAPACITY, () -> Shared.create(of, 2, Kind.queue(65536)));
+        refuses(Fault.BAD_TABLE, () -> Shared.create(of, 2, Kind.machine(new int[][] {{2}}, new int[][] {{0}})));
+        Path zeros = Path.of("/dev/shm/universal." + of);
+        Files.write(zeros, new byte[10_000]);
+        refuses(Fault.NOT_A_SEGMENT, () -> Shared.attach(of, 2, Kind.map(10)));
+        Files.delete(zeros);
+    }
+
+    private static void seats() throws Exception {
+        String of = name("seats");
+        try (Shared<Small.Counter> counter = Shared.create(of, 2, Kind.counter())) {
+            Shared.unlink(of);
+            Shared.Claimed<Small.Counter> one = counter.claim(1);
+            is(List.of(one.seat().process, one.last().was(), one.last().made()), List.of(1L, Shared.Was.NEW, 0L));
+            refuses(Fault.TAKEN, () -> counter.claim(1));
+            refuses(Fault.NO_SEAT, () -> counter.claim(2));
+            one.seat().add(5);
+            Small.Counter other = counter.claim().seat();
+            refuses(Fault.NO_SEAT, counter::claim);
+            is(other.add(1), 5L);
+            one.seat().close();
+            throwsA(IllegalStateException.class, () -> one.seat().add(1));
+            Shared.Last last = counter.claim(1).last();
+            is(List.of(last.was(), last.made(), last.ended(), last.invocation()[0], last.reply()[0], last.next() == null),
+                    List.of(Shared.Was.RELEASED, 1L, false, 5L, 0L, true));
+        }
+    }
+
+    private static void kills() throws Exception {
+        String of = name("kills");
+        try (Shared<Small.Counter> counter = Shared.create(of, 2, Kind.counter())) {
+            Small.Counter mine = counter.claim(0).seat();
+            long made = 0;
+            for (int k = 0; k < 5; k++) {
+                Process process = new ProcessBuilder(ProcessHandle.current().info().command().orElseThrow(), "--enable-native-access=ALL-UNNAMED",
+                        "-Duniversal.library=" + System.getProperty("universal.library"),
+                        "-Duniversal.shared.library=" + System.getProperty("universal.shared.library"),
+                        "-cp", System.getProperty("java.class.path"), "SharedCalls", "add", of, "2").redirectError(ProcessBuilder.Redirect.INHERIT)
+                        .redirectOutput(new File("/dev/null")).start();
+                for (long before = mine.add(0); process.isAlive() && mine.add(0) < before + 1000;) {
+                    Thread.sleep(1);
+                }
+                process.destroyForcibly().waitFor();
+                Shared.Claimed<Small.Counter> dead = counter.claim(1);
+                is(List.of(dead.last().was(), dead.last().made() > made), List.of(Shared.Was.DIED, true));
+                made = dead.last().made();
+                is(List.of(mine.add(0), dead.last().invocation()[0], dead.last().reply()[0]), List.of(made, 1L, made - 1));
+                dead.seat().close();
+            }
+        } finally {
+            Shared.unlink(of);
+        }
+    }
+
+    private SharedCalls() {}
+
+    public static void main(String[] words) throws Exception {
+        if (words.length >= 3) {
+            long calls = words.length > 3 ? Long.parseLong(words[3]) : Long.MAX_VALUE;
+            Small.Counter seat = Shared.attach(words[1], Long.parseLong(words[2]), Kind.counter()).claim().seat();
+            for (long k = 0; k < calls; k++) {
+                seat.add(1);
+            }
+            return;
+        }
+        objects();
+        names();
+        seats();
+        kills();
+    }
+}
