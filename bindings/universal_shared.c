@@ -28,7 +28,8 @@
 #include <sys/vfs.h>
 #include <unistd.h>
 
-/* ---- The library's memory: from the arena of this thread, where it has one, and else from the C library. ---- */
+/* ---- The library's memory: from the arena of this thread, where a segment is made or a seat claimed. A call has none.
+ */
 
 typedef struct arena {
     char *next, *end;
@@ -36,48 +37,36 @@ typedef struct arena {
 
 static _Thread_local arena *current;
 
-/* Segments have addresses of this range alone, so that what is freed can be told. Each begins at a multiple of STEP. */
-#define LOW 0x200000000000ull
-#define HIGH 0x2f0000000000ull
-#define STEP (1ull << 30)
-#define PAGE 4096ull
-
 static uint64_t up(uint64_t x, uint64_t to) { return (x + to - 1) / to * to; }
-
-static bool is_in_segment(const void *at) { return (uintptr_t)at >= LOW && (uintptr_t)at < HIGH; }
 
 /* A block has its size before it. */
 static size_t *size_of(void *block) { return (size_t *)block - 2; }
 
 void *shared_malloc(size_t size) {
-    if (size > PTRDIFF_MAX) return NULL;
-    size_t whole = 16 + up(size, 16);
-    char *at = NULL;
-    if (!current) {
-        at = malloc(whole);
-    } else if (whole <= (size_t)(current->end - current->next)) {
-        at = current->next;
-        current->next += whole;
-    }
-    if (!at) return NULL;
-    *(size_t *)at = size;
-    return at + 16;
+    size_t room = current ? (size_t)(current->end - current->next) : 0;
+    if (room < 32 || size > room - 32) return NULL;
+    size_t *at = (size_t *)current->next;
+    current->next += 16 + up(size, 16);
+    *at = size;
+    return at + 2;
 }
 
-void shared_free(void *block) {
-    if (block && !is_in_segment(block)) free(size_of(block));
-}
+/* An arena is let go as a whole. */
+void shared_free(void *block) { (void)block; }
 
 void *shared_realloc(void *block, size_t size) {
     void *at = shared_malloc(size);
-    if (at && block) {
-        memcpy(at, block, *size_of(block) < size ? *size_of(block) : size);
-        shared_free(block);
-    }
+    if (at && block) memcpy(at, block, *size_of(block) < size ? *size_of(block) : size);
     return at;
 }
 
-/* ---- What a segment has. ---- */
+/* ---- What a segment has. */
+
+/* Segments have addresses of this range alone, which Linux leaves free. Each begins at a multiple of STEP. */
+#define LOW 0x200000000000ull
+#define HIGH 0x2f0000000000ull
+#define STEP (1ull << 30)
+#define PAGE 4096ull
 
 typedef struct head {
     char magic[8];
@@ -162,8 +151,7 @@ static uint32_t open_object(const universal_shared_kind *kind, uint64_t n, unive
     }
 }
 
-/* ---- Making one: in memory of this process alone, at the address that it will have; then it is written to the file.
- */
+/* ---- Making one: in memory of this process alone, at its final address; then it is written to the file. */
 
 /* More than the library can take, where it opens the object; what it doesn't touch costs nothing. */
 static uint64_t room_of(const universal_shared_kind *kind, const widths *w, uint64_t n) {
@@ -263,7 +251,7 @@ uint32_t universal_shared_bytes(const universal_shared_kind *kind, uint64_t n, u
     return UNIVERSAL_DONE;
 }
 
-/* ---- What this process has of segments and seats. ---- */
+/* ---- What this process has of segments and seats. */
 
 struct universal_shared_segment {
     universal_shared_segment *next;
@@ -297,13 +285,13 @@ static uint64_t generation;
 static uint64_t *page;
 
 /* The child of a fork that called no handler comes to know it here. */
-static void is_child_told(void) {
+static void notice_fork(void) {
     if (!*page) seats = NULL, *page = ++generation;
 }
 
 static void before_fork(void) {
     pthread_mutex_lock(&mutex);
-    is_child_told();
+    notice_fork();
 }
 static void in_parent(void) { pthread_mutex_unlock(&mutex); }
 static void in_child(void) {
@@ -416,7 +404,7 @@ static uint32_t judged(int fd, const universal_shared_kind *kind, uint64_t n, st
     if (told->layout != LAYOUT || told->version != UNIVERSAL_VERSION || told->build != UNIVERSAL_SHARED_BUILD)
         return UNIVERSAL_SHARED_OTHER_LIBRARY;
     bool is_whole = told->sum == sum_of(told) && told->length == (uint64_t)file->st_size && told->address % STEP == 0 &&
-                    is_in_segment((void *)told->address) && told->length <= HIGH - told->address;
+                    told->address >= LOW && told->address < HIGH && told->length <= HIGH - told->address;
     if (!is_whole) return UNIVERSAL_SHARED_NOT_A_SEGMENT;
     bool is_same = told->object == kind->object && told->capacity == capacity_of(kind) && told->n == n &&
                    told->tables == sum_of_tables(kind);
@@ -473,7 +461,7 @@ void universal_shared_detach(universal_shared_segment *segment) {
     pthread_mutex_unlock(&mutex);
 }
 
-/* ---- Names. ---- */
+/* ---- Names. */
 
 static bool is_path(const char *name, char path[PATH_MAX]) {
     int length = snprintf(path, PATH_MAX, "%s%s", strchr(name, '/') ? "" : "/dev/shm/universal.", name);
@@ -536,7 +524,7 @@ uint32_t universal_shared_unlink(const char *name) {
     return is_path(name, path) && !unlink(path) ? UNIVERSAL_DONE : UNIVERSAL_SHARED_SYSTEM;
 }
 
-/* ---- Seats. ---- */
+/* ---- Seats. */
 
 /* The owner of a seat has a record lock on one byte of the file, past its end, by an open file of its own. The system
  * lets it go as the owner dies, however it dies, and no process number is compared. It is never waited for. */
@@ -605,7 +593,7 @@ uint32_t universal_shared_claim(universal_shared_segment *segment, int64_t proce
     if (!mine) return UNIVERSAL_MEMORY;
     uint32_t status = UNIVERSAL_SHARED_TAKEN;
     pthread_mutex_lock(&mutex);
-    is_child_told();
+    notice_fork();
     for (uint64_t p = first; p < end && status == UNIVERSAL_SHARED_TAKEN; p++) status = claimed(segment, p, mine, last);
     pthread_mutex_unlock(&mutex);
     if (status == UNIVERSAL_DONE) {
@@ -643,7 +631,7 @@ uint64_t universal_shared_made(const universal_shared_seat *seat) { return seat-
 
 void universal_shared_release(universal_shared_seat *seat) {
     pthread_mutex_lock(&mutex);
-    is_child_told();
+    notice_fork();
     if (seat->generation == *page) {
         seat->entry->was = UNIVERSAL_SHARED_RELEASED;
         in_order();
