@@ -101,7 +101,7 @@ typedef struct universal_shared_last {
     uint64_t process;       /* which seat it is, from 0 to n - 1 */
     uint64_t was;           /* UNIVERSAL_SHARED_NEW, _RELEASED or _DIED */
     uint64_t made;          /* how many calls were made */
-    uint64_t ended;         /* 1: this claim ended the last of them, so no owner was told its reply before */
+    uint64_t ended;         /* 1: this claim ended the last of them, whose reply nobody was told. 0 says nothing */
     uint64_t version;       /* a version that the last call is in; 0 where none was made */
     uint64_t invocation[4]; /* the words of the last call */
     uint64_t reply[2];      /* and of its reply */

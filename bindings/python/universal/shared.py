@@ -111,7 +111,7 @@ class Last(NamedTuple):
     was: Was
     #: how many calls were made
     made: int
-    #: whether this claim ended the last of them, so that no owner was told its reply before
+    #: whether this claim ended the last of them, whose reply nobody was told; `False` says nothing
     ended: bool
     #: a version that the last call is in; 0 where none was made
     version: int

@@ -147,7 +147,7 @@ pub struct Last {
     pub was: Was,
     /// How many calls were made.
     pub made: u64,
-    /// Whether this claim ended the last of them, so that no owner was told its reply before.
+    /// Whether this claim ended the last of them, whose reply nobody was told. `false` says nothing.
     pub ended: bool,
     /// A version that the last call is in; 0 where none was made.
     pub version: u64,

@@ -134,7 +134,7 @@ public final class Shared<S extends Small.Seat> implements AutoCloseable {
      *
      * @param was what became of the seat before
      * @param made how many calls were made
-     * @param ended whether this claim ended the last of them, so that no owner was told its reply before
+     * @param ended whether this claim ended the last of them, whose reply nobody was told; {@code false} says nothing
      * @param version a version that the last call is in; 0 where none was made
      * @param invocation four words, of which the first are those of the last call
      * @param reply two words, of which the first are those of its reply
