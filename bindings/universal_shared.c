@@ -226,7 +226,7 @@ static uint32_t made_alone(const universal_shared_kind *kind, uint64_t n, head *
         uint64_t reply[2] = {0}, version = 0;
         uint32_t ended = 0;
         status = resumed(entry_of(h, 0), &trial, &seat, reply, w.reply, &ended, &version);
-        h->arena_bytes = up(2 * (uint64_t)(trial.next - (char *)h - h->arenas), PAGE);
+        h->arena_bytes = up(2 * ((uint64_t)(trial.next - (char *)h) - h->arenas), PAGE);
     }
     if (status != UNIVERSAL_DONE) {
         munmap(h, *room);
