@@ -45,12 +45,14 @@ static void a_child_keeps_no_seat(void) {
     if (!owner) {
         if (universal_shared_claim(segment, 0, &seat, &last) || add(seat, 1, &before)) _exit(9);
         if (!fork()) {
+            alarm(60); /* where the test fails meanwhile, as below */
             status = add(seat, 1, &before);
             char c;
             if (write(told[1], &status, sizeof status) != sizeof status || read(go[0], &c, 1) < 0) _exit(9);
             universal_shared_release(seat);
             _exit(0);
         }
+        alarm(60);
         pause();
     }
     expect(read(told[0], &status, sizeof status) == sizeof status && status == UNIVERSAL_WRONG_HANDLE,
@@ -145,7 +147,7 @@ static void forks_amid_claims(void) {
         expect(ends(child) == 0, "a child claims a seat");
     }
     pid_t lives = fork(); /* (what it had of its parent's locks it has let go) */
-    if (!lives) pause(), _exit(0);
+    if (!lives) alarm(60), pause(), _exit(0);
     stops = true;
     for (int t = 0; t < 2; t++) pthread_join(threads[t], NULL);
     for (int k = 0; k < 4; k++)
