@@ -39,7 +39,7 @@ def main(workers, all_jobs, kills):
         jobs.claim(workers), counts.claim(workers)  # the seats of this process
 
         def start(me):
-            worker = multiprocessing.Process(target=work, args=(me, jobs, counts))
+            worker = multiprocessing.Process(target=work, args=(me, jobs, counts), daemon=True)
             worker.start()
             return worker
 

@@ -125,7 +125,7 @@ def main(kind, method, kills, makes_again):
         shared = {"queue": SharedQueue, "map": SharedMap}[kind](name, CAPACITY, seats=WORKERS + 1, create=True)
 
     def start(p):
-        worker = context.Process(target=work, args=(shared, diary, kind, p, makes_again))
+        worker = context.Process(target=work, args=(shared, diary, kind, p, makes_again), daemon=True)
         worker.start()
         return worker
 
@@ -177,7 +177,7 @@ def with_value(method, kills):
     value, told = context.Value(c_uint64, 0), context.RawArray(c_uint64, WORKERS)
 
     def start(p):
-        worker = context.Process(target=add_with_lock, args=(value, told, p))
+        worker = context.Process(target=add_with_lock, args=(value, told, p), daemon=True)
         worker.start()
         return worker
 
