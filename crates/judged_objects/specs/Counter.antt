@@ -1,5 +1,5 @@
 -- The counter: its state is its sum, below 2^64.
-use Rattle.std.specs.Prelude.{◌≡◌, ◌+◌, ◌-◌, ◌%◌, ◌^◌, ℕ, if◌then◌else◌, List, [], ◌∷◌, map, Option, Some, None, option_map, codes, refl}
+use Rattle.std.specs.Prelude.{◌≡◌, ◌++◌, ◌+◌, ◌-◌, ◌%◌, ◌^◌, ℕ, if◌then◌else◌, List, [], ◌∷◌, map, Option, Some, None, option_map, codes, refl}
 use Rattle.std.specs.Fmt.{decimal}
 use Rattle.std.specs.Str.{bytes_eq}
 use Rattle.seq_object.specs.Sequential.{Sequential}
@@ -42,8 +42,13 @@ abbrev pub counter_resp_text : CounterResp → List ℕ
 counter_resp_text (Value v) = decimal v
 counter_resp_text Added = codes "ok"
 
+abbrev pub counter_inv_text : CounterInv → List ℕ
+counter_inv_text Read = codes "read"
+counter_inv_text (Add v) = codes "add " ++ decimal v
+counter_inv_text (GetAndAdd v) = codes "getadd " ++ decimal v
+
 abbrev pub counter_wording : Wording CounterInv CounterResp
-counter_wording = record { inv_of_words = counter_inv_of_words; resp_of_words = counter_resp_of_words; resp_text = counter_resp_text }
+counter_wording = record { inv_of_words = counter_inv_of_words; resp_of_words = counter_resp_of_words; inv_text = counter_inv_text; resp_text = counter_resp_text }
 
 a_number_is_added : map (counter_next 4) (Add 7 ∷ GetAndAdd 7 ∷ Read ∷ []) ≡ 11 ∷ 11 ∷ 4 ∷ []
 a_number_is_added = refl

@@ -5,3 +5,4 @@ pub mod Register
 pub mod Counter
 pub mod Map
 pub mod Set
+pub mod ByKey

@@ -46,6 +46,13 @@ map_answer entries (Remove k) = found (value_at entries k)
 abbrev pub map_object : Sequential (List Entry) MapInv MapResp
 map_object = record { initial = []; next = map_next; answer = map_answer }
 
+-- the key of an invocation
+abbrev pub map_key : MapInv → ℕ
+map_key (Get k) = k
+map_key (Put k v) = k
+map_key (Insert k v) = k
+map_key (Remove k) = k
+
 abbrev pub map_inv_of_words : List (List ℕ) → Option MapInv
 map_inv_of_words (name ∷ k ∷ []) =
     if bytes_eq name (codes "get") then option_map Get (number_of_word k)
@@ -69,8 +76,14 @@ map_resp_text (Value v) = decimal v
 map_resp_text Missing = codes "none"
 map_resp_text Written = codes "ok"
 
+abbrev pub map_inv_text : MapInv → List ℕ
+map_inv_text (Get v) = codes "get " ++ decimal v
+map_inv_text (Put u v) = (codes "put " ++ decimal u) ++ (codes " " ++ decimal v)
+map_inv_text (Insert u v) = (codes "insert " ++ decimal u) ++ (codes " " ++ decimal v)
+map_inv_text (Remove v) = codes "remove " ++ decimal v
+
 abbrev pub map_wording : Wording MapInv MapResp
-map_wording = record { inv_of_words = map_inv_of_words; resp_of_words = map_resp_of_words; resp_text = map_resp_text }
+map_wording = record { inv_of_words = map_inv_of_words; resp_of_words = map_resp_of_words; inv_text = map_inv_text; resp_text = map_resp_text }
 
 -- the entries 4: 40 and 7: 70
 abbrev sample : List Entry

@@ -1,5 +1,5 @@
 -- The register with compare and exchange: its state is its number.
-use Rattle.std.specs.Prelude.{◌≡◌, ◌==◌, ℕ, if◌then◌else◌, List, [], ◌∷◌, map, Option, Some, None, option_map, option_and_then, codes, refl}
+use Rattle.std.specs.Prelude.{◌≡◌, ◌++◌, ◌==◌, ℕ, if◌then◌else◌, List, [], ◌∷◌, map, Option, Some, None, option_map, option_and_then, codes, refl}
 use Rattle.std.specs.Fmt.{decimal}
 use Rattle.std.specs.Str.{bytes_eq}
 use Rattle.seq_object.specs.Sequential.{Sequential}
@@ -49,8 +49,13 @@ register_resp_text Written = codes "ok"
 register_resp_text Exchanged = codes "true"
 register_resp_text Kept = codes "false"
 
+abbrev pub register_inv_text : RegisterInv → List ℕ
+register_inv_text Read = codes "read"
+register_inv_text (Write v) = codes "write " ++ decimal v
+register_inv_text (Exchange u v) = (codes "cas " ++ decimal u) ++ (codes " " ++ decimal v)
+
 abbrev pub register_wording : Wording RegisterInv RegisterResp
-register_wording = record { inv_of_words = register_inv_of_words; resp_of_words = register_resp_of_words; resp_text = register_resp_text }
+register_wording = record { inv_of_words = register_inv_of_words; resp_of_words = register_resp_of_words; inv_text = register_inv_text; resp_text = register_resp_text }
 
 what_was_written_is_read : register_answer (register_next 4 (Write 7)) Read ≡ Value 7
 what_was_written_is_read = refl

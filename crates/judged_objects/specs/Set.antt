@@ -1,6 +1,7 @@
 -- The set of numbers: its state is the list of its numbers, in rising order.
 use Rattle.std.specs.Prelude.{◌≡◌, ◌==◌, ℕ, Bool, not, nat_lt, if◌then◌else◌, List, [], ◌∷◌, ◌++◌, filter, map, Option, Some, None, option_map, codes, refl}
 use Rattle.std.specs.List.{list_any}
+use Rattle.std.specs.Fmt.{decimal}
 use Rattle.std.specs.Str.{bytes_eq}
 use Rattle.seq_object.specs.Sequential.{Sequential}
 use Rattle.ready_objects.specs.Number.{number_of_word}
@@ -39,6 +40,12 @@ set_answer numbers (Contains v) = said (has numbers v)
 abbrev pub set : Sequential (List ℕ) SetInv SetResp
 set = record { initial = []; next = set_next; answer = set_answer }
 
+-- the number that an invocation is about
+abbrev pub set_key : SetInv → ℕ
+set_key (Add v) = v
+set_key (Remove v) = v
+set_key (Contains v) = v
+
 abbrev pub set_inv_of_words : List (List ℕ) → Option SetInv
 set_inv_of_words (name ∷ v ∷ []) =
     if bytes_eq name (codes "add") then option_map Add (number_of_word v)
@@ -56,8 +63,13 @@ abbrev pub set_resp_text : SetResp → List ℕ
 set_resp_text Yes = codes "true"
 set_resp_text No = codes "false"
 
+abbrev pub set_inv_text : SetInv → List ℕ
+set_inv_text (Add v) = codes "add " ++ decimal v
+set_inv_text (Remove v) = codes "remove " ++ decimal v
+set_inv_text (Contains v) = codes "contains " ++ decimal v
+
 abbrev pub set_wording : Wording SetInv SetResp
-set_wording = record { inv_of_words = set_inv_of_words; resp_of_words = set_resp_of_words; resp_text = set_resp_text }
+set_wording = record { inv_of_words = set_inv_of_words; resp_of_words = set_resp_of_words; inv_text = set_inv_text; resp_text = set_resp_text }
 
 a_number_stands_once_and_in_order : map (set_next (4 ∷ 7 ∷ [])) (Add 5 ∷ Add 7 ∷ Remove 4 ∷ Remove 5 ∷ Contains 4 ∷ [])
     ≡ (4 ∷ 5 ∷ 7 ∷ []) ∷ (4 ∷ 7 ∷ []) ∷ (7 ∷ []) ∷ (4 ∷ 7 ∷ []) ∷ (4 ∷ 7 ∷ []) ∷ []

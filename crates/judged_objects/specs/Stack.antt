@@ -1,5 +1,5 @@
 -- The stack without a bound: its state is the list of its numbers, the newest of them first.
-use Rattle.std.specs.Prelude.{◌≡◌, ℕ, if◌then◌else◌, List, [], ◌∷◌, map, Option, Some, None, option_map, codes, refl}
+use Rattle.std.specs.Prelude.{◌≡◌, ◌++◌, ℕ, if◌then◌else◌, List, [], ◌∷◌, map, Option, Some, None, option_map, codes, refl}
 use Rattle.std.specs.Fmt.{decimal}
 use Rattle.std.specs.Str.{bytes_eq}
 use Rattle.seq_object.specs.Sequential.{Sequential}
@@ -43,8 +43,12 @@ stack_resp_text Pushed = codes "ok"
 stack_resp_text (Popped v) = decimal v
 stack_resp_text Empty = codes "empty"
 
+abbrev pub stack_inv_text : StackInv → List ℕ
+stack_inv_text (Push v) = codes "push " ++ decimal v
+stack_inv_text Pop = codes "pop"
+
 abbrev pub stack_wording : Wording StackInv StackResp
-stack_wording = record { inv_of_words = stack_inv_of_words; resp_of_words = stack_resp_of_words; resp_text = stack_resp_text }
+stack_wording = record { inv_of_words = stack_inv_of_words; resp_of_words = stack_resp_of_words; inv_text = stack_inv_text; resp_text = stack_resp_text }
 
 a_number_comes_first : stack_next (4 ∷ []) (Push 7) ≡ 7 ∷ 4 ∷ []
 a_number_comes_first = refl

@@ -6,5 +6,6 @@ pub record Wording (I R : Type 0) : Type 0 where
   pub inv_of_words : List (List ℕ) → Option I
   -- the response that words are
   pub resp_of_words : List (List ℕ) → Option R
-  -- the text of a response
+  -- the texts of an invocation and of a response
+  pub inv_text : I → List ℕ
   pub resp_text : R → List ℕ

@@ -6,8 +6,9 @@ ghost use Rattle.seq_object.proofs.Cases.{exact_by_cases, other, itself_one, onl
 ghost use Rattle.judged_objects.specs.declared.counter.CounterInv.TheVariants.{Read, Add, GetAndAdd};
 ghost use Rattle.judged_objects.specs.declared.counter.CounterResp.TheVariants.{Value, Added};
 ghost use Rattle.judged_objects.specs.Counter.{counter, counter_wording};
+ghost use Rattle.lin_check.specs.Parts.{in_one_part};
 
-use crate::worded::{Worded, number};
+use crate::worded::{Worded, number, push_words};
 use lin_check::{Checkable, Event};
 use ready_objects::{is_text, push_number};
 use seq_object::SeqObject;
@@ -91,11 +92,26 @@ impl Checkable for Counter {
         *state
     }
 
+    ghost part = { λ _. 0 };
+
+    ghost parts = { λ _. in_one_part counter };
+
+    fn part_of(_inv: &CounterInv) -> u64 {
+        0
+    }
+
     fn ranks(
         alloc: Global,
         history: &[Event<CounterInv, CounterResp>],
     ) -> Result<Vec<u64>, AllocError> {
         lin_check::by_return(alloc, history)
+    }
+
+    fn guess(
+        _alloc: Global,
+        _history: &[Event<CounterInv, CounterResp>],
+    ) -> Result<Option<Vec<usize>>, AllocError> {
+        Ok(None)
     }
 }
 
@@ -118,6 +134,14 @@ impl Worded for Counter {
             [word] if is_text(word, "ok") => Some(CounterResp::Added),
             [word] => Some(CounterResp::Value(number(word)?)),
             _ => None,
+        }
+    }
+
+    fn push_inv(text: &mut Vec<u8>, inv: &CounterInv) -> Result<(), AllocError> {
+        match inv {
+            CounterInv::Read => text.extend_from_slice(b"read"),
+            CounterInv::Add(number) => push_words(text, "add ", *number),
+            CounterInv::GetAndAdd(number) => push_words(text, "getadd ", *number),
         }
     }
 

@@ -1,6 +1,6 @@
 //! Entries of a map as a state.
 
-ghost use Rattle.std.specs.Prelude.{◌≡◌, ◌==◌, ◌++◌, ◌∷◌, IfOk, IsTrue, Some, filter, nat_lt, not};
+ghost use Rattle.std.specs.Prelude.{◌≡◌, ◌≢◌, ◌↔◌, ◌==◌, ◌++◌, ◌∷◌, IfOk, IsTrue, Some, false, filter, nat_lt, not, true};
 ghost use Rattle.judged_objects.specs.Map.{value_at, with, without};
 
 use crate::numbers::mixed;
@@ -58,14 +58,15 @@ impl Entries {
 
 /// Whether two entries are the same.
 fn is_same_entry(a: Entry, b: Entry) -> bool
-    ensures { IsTrue result → a ≡ b }
+    ensures same { result ≡ true → a ≡ b }
+    ensures other { result ≡ false → a ≢ b }
 {
     a.key == b.key && a.value == b.value
 }
 
 /// Whether entries are the same ones in the same order.
 pub(crate) fn are_same(a: &[Entry], b: &[Entry]) -> bool
-    ensures { IsTrue result → a.now ≡ b.now }
+    ensures { IsTrue result ↔ a.now ≡ b.now }
 {
     if a.len() != b.len() {
         return false;

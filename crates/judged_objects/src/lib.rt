@@ -6,6 +6,7 @@ mod entries;
 mod map;
 mod numbers;
 mod queue;
+mod queue_order;
 mod register;
 mod set;
 mod stack;

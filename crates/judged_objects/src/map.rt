@@ -5,10 +5,11 @@ ghost use Rattle.std.proofs.Common.{refl};
 ghost use Rattle.seq_object.proofs.Cases.{exact_by_cases, other, itself_one, only_one, itself_two, only_two};
 ghost use Rattle.judged_objects.specs.declared.map.MapInv.TheVariants.{Get, Put, Insert, Remove};
 ghost use Rattle.judged_objects.specs.declared.map.MapResp.TheVariants.{Value, Missing, Written};
-ghost use Rattle.judged_objects.specs.Map.{found, map_object, map_wording};
+ghost use Rattle.judged_objects.specs.Map.{found, map_key, map_object, map_wording};
+ghost use Rattle.judged_objects.specs.ByKey.{map_by_key};
 
 use crate::entries::{Entries, are_same, value_at, with, without};
-use crate::worded::{Worded, number};
+use crate::worded::{Worded, number, push_words};
 use lin_check::{Checkable, Event};
 use ready_objects::{is_text, push_number};
 use seq_object::SeqObject;
@@ -119,8 +120,28 @@ impl Checkable for Map {
         state.key()
     }
 
+    ghost part = { map_key };
+
+    ghost parts = { λ _. map_by_key };
+
+    fn part_of(inv: &MapInv) -> u64 {
+        match inv {
+            MapInv::Get(key) => *key,
+            MapInv::Put(key, _) => *key,
+            MapInv::Insert(key, _) => *key,
+            MapInv::Remove(key) => *key,
+        }
+    }
+
     fn ranks(alloc: Global, history: &[Event<MapInv, MapResp>]) -> Result<Vec<u64>, AllocError> {
         lin_check::by_return(alloc, history)
+    }
+
+    fn guess(
+        _alloc: Global,
+        _history: &[Event<MapInv, MapResp>],
+    ) -> Result<Option<Vec<usize>>, AllocError> {
+        Ok(None)
     }
 }
 
@@ -147,6 +168,21 @@ impl Worded for Map {
             [word] if is_text(word, "none") => Some(MapResp::Missing),
             [word] => Some(MapResp::Value(number(word)?)),
             _ => None,
+        }
+    }
+
+    fn push_inv(text: &mut Vec<u8>, inv: &MapInv) -> Result<(), AllocError> {
+        match inv {
+            MapInv::Get(key) => push_words(text, "get ", *key),
+            MapInv::Put(key, value) => {
+                push_words(text, "put ", *key)?;
+                push_words(text, " ", *value)
+            }
+            MapInv::Insert(key, value) => {
+                push_words(text, "insert ", *key)?;
+                push_words(text, " ", *value)
+            }
+            MapInv::Remove(key) => push_words(text, "remove ", *key),
         }
     }
 

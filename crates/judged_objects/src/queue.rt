@@ -6,9 +6,11 @@ ghost use Rattle.seq_object.proofs.Cases.{exact_by_cases, other, itself_one, onl
 ghost use Rattle.judged_objects.specs.declared.queue.QueueInv.TheVariants.{Enq, Deq};
 ghost use Rattle.judged_objects.specs.declared.queue.QueueResp.TheVariants.{Added, Taken, Empty};
 ghost use Rattle.judged_objects.specs.Queue.{queue, queue_wording};
+ghost use Rattle.lin_check.specs.Parts.{in_one_part};
 
 use crate::numbers::Numbers;
-use crate::worded::{Worded, number};
+use crate::queue_order::queue_order;
+use crate::worded::{Worded, number, push_words};
 use lin_check::{Checkable, Event};
 use ready_objects::{is_text, push_number};
 use seq_object::SeqObject;
@@ -111,6 +113,14 @@ impl Checkable for Queue {
         state.key()
     }
 
+    ghost part = { λ _. 0 };
+
+    ghost parts = { λ _. in_one_part queue };
+
+    fn part_of(_inv: &QueueInv) -> u64 {
+        0
+    }
+
     /// Of two calls that put a number the one whose number is taken first is tried first; of others the one that
     /// returns first.
     fn ranks(
@@ -127,6 +137,13 @@ impl Checkable for Queue {
             }
         }
         Ok(ranks)
+    }
+
+    fn guess(
+        alloc: Global,
+        history: &[Event<QueueInv, QueueResp>],
+    ) -> Result<Option<Vec<usize>>, AllocError> {
+        queue_order(alloc, history)
     }
 }
 
@@ -147,6 +164,13 @@ impl Worded for Queue {
             [word] if is_text(word, "empty") => Some(QueueResp::Empty),
             [word] => Some(QueueResp::Taken(number(word)?)),
             _ => None,
+        }
+    }
+
+    fn push_inv(text: &mut Vec<u8>, inv: &QueueInv) -> Result<(), AllocError> {
+        match inv {
+            QueueInv::Enq(number) => push_words(text, "enq ", *number),
+            QueueInv::Deq => text.extend_from_slice(b"deq"),
         }
     }
 

@@ -6,8 +6,9 @@ ghost use Rattle.seq_object.proofs.Cases.{exact_by_cases, other, itself_one, onl
 ghost use Rattle.judged_objects.specs.declared.register.RegisterInv.TheVariants.{Read, Write, Exchange};
 ghost use Rattle.judged_objects.specs.declared.register.RegisterResp.TheVariants.{Value, Written, Exchanged, Kept};
 ghost use Rattle.judged_objects.specs.Register.{register, register_wording};
+ghost use Rattle.lin_check.specs.Parts.{in_one_part};
 
-use crate::worded::{Worded, number};
+use crate::worded::{Worded, number, push_words};
 use lin_check::{Checkable, Event};
 use ready_objects::{is_text, push_number};
 use seq_object::SeqObject;
@@ -100,11 +101,26 @@ impl Checkable for Register {
         *state
     }
 
+    ghost part = { λ _. 0 };
+
+    ghost parts = { λ _. in_one_part register };
+
+    fn part_of(_inv: &RegisterInv) -> u64 {
+        0
+    }
+
     fn ranks(
         alloc: Global,
         history: &[Event<RegisterInv, RegisterResp>],
     ) -> Result<Vec<u64>, AllocError> {
         lin_check::by_return(alloc, history)
+    }
+
+    fn guess(
+        _alloc: Global,
+        _history: &[Event<RegisterInv, RegisterResp>],
+    ) -> Result<Option<Vec<usize>>, AllocError> {
+        Ok(None)
     }
 }
 
@@ -129,6 +145,17 @@ impl Worded for Register {
             [word] if is_text(word, "false") => Some(RegisterResp::Kept),
             [word] => Some(RegisterResp::Value(number(word)?)),
             _ => None,
+        }
+    }
+
+    fn push_inv(text: &mut Vec<u8>, inv: &RegisterInv) -> Result<(), AllocError> {
+        match inv {
+            RegisterInv::Read => text.extend_from_slice(b"read"),
+            RegisterInv::Write(number) => push_words(text, "write ", *number),
+            RegisterInv::Exchange(old, new) => {
+                push_words(text, "cas ", *old)?;
+                push_words(text, " ", *new)
+            }
         }
     }
 

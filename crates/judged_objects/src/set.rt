@@ -5,10 +5,11 @@ ghost use Rattle.std.proofs.Common.{refl};
 ghost use Rattle.seq_object.proofs.Cases.{exact_by_cases, other, itself_one, only_one};
 ghost use Rattle.judged_objects.specs.declared.set.SetInv.TheVariants.{Add, Remove, Contains};
 ghost use Rattle.judged_objects.specs.declared.set.SetResp.TheVariants.{Yes, No};
-ghost use Rattle.judged_objects.specs.Set.{has, said, set, set_wording, with, without};
+ghost use Rattle.judged_objects.specs.Set.{has, said, set, set_key, set_wording, with, without};
+ghost use Rattle.judged_objects.specs.ByKey.{set_by_key};
 
 use crate::numbers::Numbers;
-use crate::worded::{Worded, number};
+use crate::worded::{Worded, number, push_words};
 use lin_check::{Checkable, Event};
 use ready_objects::is_text;
 use seq_object::SeqObject;
@@ -156,8 +157,27 @@ impl Checkable for Set {
         state.key()
     }
 
+    ghost part = { set_key };
+
+    ghost parts = { λ _. set_by_key };
+
+    fn part_of(inv: &SetInv) -> u64 {
+        match inv {
+            SetInv::Add(key) => *key,
+            SetInv::Remove(key) => *key,
+            SetInv::Contains(key) => *key,
+        }
+    }
+
     fn ranks(alloc: Global, history: &[Event<SetInv, SetResp>]) -> Result<Vec<u64>, AllocError> {
         lin_check::by_return(alloc, history)
+    }
+
+    fn guess(
+        _alloc: Global,
+        _history: &[Event<SetInv, SetResp>],
+    ) -> Result<Option<Vec<usize>>, AllocError> {
+        Ok(None)
     }
 }
 
@@ -178,6 +198,14 @@ impl Worded for Set {
             [word] if is_text(word, "true") => Some(SetResp::Yes),
             [word] if is_text(word, "false") => Some(SetResp::No),
             _ => None,
+        }
+    }
+
+    fn push_inv(text: &mut Vec<u8>, inv: &SetInv) -> Result<(), AllocError> {
+        match inv {
+            SetInv::Add(number) => push_words(text, "add ", *number),
+            SetInv::Remove(number) => push_words(text, "remove ", *number),
+            SetInv::Contains(number) => push_words(text, "contains ", *number),
         }
     }
 

@@ -6,9 +6,10 @@ ghost use Rattle.seq_object.proofs.Cases.{exact_by_cases, other, itself_one, onl
 ghost use Rattle.judged_objects.specs.declared.stack.StackInv.TheVariants.{Push, Pop};
 ghost use Rattle.judged_objects.specs.declared.stack.StackResp.TheVariants.{Pushed, Popped, Empty};
 ghost use Rattle.judged_objects.specs.Stack.{stack, stack_wording};
+ghost use Rattle.lin_check.specs.Parts.{in_one_part};
 
 use crate::numbers::Numbers;
-use crate::worded::{Worded, number};
+use crate::worded::{Worded, number, push_words};
 use lin_check::{Checkable, Event};
 use ready_objects::{is_text, push_number};
 use seq_object::SeqObject;
@@ -96,11 +97,26 @@ impl Checkable for Stack {
         state.key()
     }
 
+    ghost part = { λ _. 0 };
+
+    ghost parts = { λ _. in_one_part stack };
+
+    fn part_of(_inv: &StackInv) -> u64 {
+        0
+    }
+
     fn ranks(
         alloc: Global,
         history: &[Event<StackInv, StackResp>],
     ) -> Result<Vec<u64>, AllocError> {
         lin_check::by_return(alloc, history)
+    }
+
+    fn guess(
+        _alloc: Global,
+        _history: &[Event<StackInv, StackResp>],
+    ) -> Result<Option<Vec<usize>>, AllocError> {
+        Ok(None)
     }
 }
 
@@ -121,6 +137,13 @@ impl Worded for Stack {
             [word] if is_text(word, "empty") => Some(StackResp::Empty),
             [word] => Some(StackResp::Popped(number(word)?)),
             _ => None,
+        }
+    }
+
+    fn push_inv(text: &mut Vec<u8>, inv: &StackInv) -> Result<(), AllocError> {
+        match inv {
+            StackInv::Push(number) => push_words(text, "push ", *number),
+            StackInv::Pop => text.extend_from_slice(b"pop"),
         }
     }
 

@@ -1,12 +1,13 @@
 //! Objects whose calls and replies are written in words.
 
 ghost use Rattle.std.specs.Prelude.{◌≡◌, ◌++◌, List, Option, OnOk, ℕ};
+ghost use Rattle.std.specs.Fmt.{decimal};
 ghost use Rattle.ready_objects.specs.Number.{number_of_word};
 ghost use Rattle.ready_objects.specs.Words.{bytes_of};
 ghost use Rattle.judged_objects.specs.Wording.{Wording};
 
 use lin_check::Checkable;
-use ready_objects::Amount;
+use ready_objects::{Amount, push_number};
 use std::alloc::AllocError;
 
 /// An object that can be checked, and the words of its calls and replies.
@@ -21,6 +22,12 @@ pub trait Worded: Checkable {
     /// Reads a response from its words. `None` where the words are none.
     fn read_resp(words: &[&[u8]]) -> Option<Self::Resp>
         ensures { result ≡ wording.resp_of_words (bytes_of words.now) };
+
+    /// Writes an invocation after a text.
+    ///
+    /// An `Err` says that memory was refused.
+    fn push_inv(text: &mut Vec<u8>, inv: &Self::Inv) -> Result<(), AllocError>
+        ensures { OnOk result (text.new.items ≡ text.old.items ++ wording.inv_text inv.now) };
 
     /// Writes a response after a text.
     ///
@@ -40,4 +47,12 @@ pub(crate) fn number(word: &[u8]) -> Option<u64>
     ensures { result ≡ number_of_word word.now }
 {
     Some(Amount::read(word)?.number())
+}
+
+/// Writes a word and a number after a text.
+pub(crate) fn push_words(text: &mut Vec<u8>, word: &str, number: u64) -> Result<(), AllocError>
+    ensures { OnOk result (text.new.items ≡ text.old.items ++ (word.now ++ decimal number)) }
+{
+    text.extend_from_slice(word.as_bytes())?;
+    push_number(text, number)
 }

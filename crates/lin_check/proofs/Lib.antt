@@ -6,3 +6,5 @@ pub mod Children
 pub mod GoingBack
 pub mod Searching
 pub mod Ordering
+pub mod Parts
+pub mod Cutting

@@ -1,3 +1,4 @@
 pub mod Histories
 pub mod Verdicts
+pub mod Parts
 pub mod Search

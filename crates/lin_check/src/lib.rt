@@ -2,12 +2,15 @@
 #![tactic(auto)]
 
 mod checkable;
+mod checking;
 mod child;
+mod cut;
 mod event;
 mod failed;
 mod node;
 mod order;
 mod ordered;
+mod part;
 mod passing;
 mod prefixes;
 mod replies;
@@ -15,8 +18,10 @@ mod search;
 mod swap_register;
 
 pub use checkable::Checkable;
+pub use checking::check;
 pub use event::Event;
 pub use order::by_return;
 pub use ordered::{OrderVerdict, check_order};
+pub use part::is_part_by_part;
 pub use prefixes::shortest;
-pub use search::{Verdict, check};
+pub use search::Verdict;

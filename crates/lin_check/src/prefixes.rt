@@ -4,8 +4,9 @@ ghost use Rattle.std.specs.Prelude.{◌≡◌, ◌+◌, ◌<◌, ◌≤◌, IfOk
 ghost use Rattle.lin_check.specs.Verdicts.{IsLinearizable};
 
 use crate::checkable::Checkable;
+use crate::checking::check;
 use crate::event::Event;
-use crate::search::{Verdict, check};
+use crate::search::Verdict;
 use std::alloc::{AllocError, Global};
 
 /// How many events of a history that is not linearizable are linearizable, where with the next one they are not; `None`

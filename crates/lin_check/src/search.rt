@@ -209,10 +209,10 @@ pub(crate) fn root_of<O: SeqObject>(
     })
 }
 
-/// Whether the history is linearizable: an answer of at most `limit` rounds of a search.
+/// Whether the history is linearizable, by a search of at most `limit` rounds.
 ///
-/// Gives up where a process is 65,536 or more. An `Err` says that memory was refused.
-pub fn check<O: Checkable>(
+/// An `Err` says that memory was refused.
+pub(crate) fn search_whole<O: Checkable>(
     alloc: Global,
     object: &O,
     history: &[Event<O::Inv, O::Resp>],

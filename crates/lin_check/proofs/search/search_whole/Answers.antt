@@ -1,6 +1,6 @@
 use Rattle.lin_check.proofs.Vocabulary.{None, acts_of, [], ap, arith, inl, inr, map, refl, slice_get, sym, ◌∙◌}
 use Rattle.lin_check.proofs.Searching.{linearized}
-use Rattle.lin_check.proofs.search.check.Goals as goal
+use Rattle.lin_check.proofs.search.search_whole.Goals as goal
 
 pub advance-requires-clause-within : goal.advance-requires-clause-within
 advance-requires-clause-within g c = λ k d less.
