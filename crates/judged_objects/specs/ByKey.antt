@@ -1,7 +1,7 @@
--- A map is made of its keys, and a set of its numbers: what a call is answered follows from the calls with the same one.
-use Rattle.std.specs.Prelude.{◌≡◌, ◌==◌, ◌||◌, ◌∷◌, ◌++◌, ℕ, Bool, true, false, not, nat_eq, nat_lt, if◌then◌else◌, List, [], filter, Option, Some, None, refl}
-use Rattle.std.specs.List.{list_any}
-use Rattle.std.proofs.Common.{ap, arith, inl, inr, sym, ◌∙◌, ◌⊎◌, ◌≢◌}
+-- A map is made of its keys, and a set of its numbers: what a call is answered follows from the calls with the same one. The lemmas
+-- stand here, and not in proofs, since an impl takes its laws from specs.
+use Rattle.std.specs.Prelude.{◌≡◌, ◌==◌, ◌||◌, ◌∷◌, ◌++◌, ℕ, Bool, true, false, not, nat_eq, nat_lt, if◌then◌else◌, List, [], filter, Some, None, refl}
+use Rattle.std.proofs.Common.{ap, arith, inl, inr, sym, ◌∙◌, ◌≢◌}
 use Rattle.std.proofs.lemmas.Bool.Decides.{nat_tests}
 use Rattle.std.proofs.lemmas.List.Folds.{list_any-append}
 use Rattle.seq_object.specs.History.{state_after}
