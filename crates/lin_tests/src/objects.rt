@@ -130,8 +130,12 @@ fn maps_and_sets(rt: HostRuntime) -> Result<(), AllocError> {
 /// The order that is found of the history that a text is; none, where none is found.
 fn order_in<O: Worded>(alloc: Global, object: &O, text: &str) -> Result<Vec<usize>, AllocError> {
     if let Ok(history) = read_history::<O>(alloc, text.as_bytes()) {
-        if let Verdict::Linearizable(order) = check(alloc, object, history.events.as_slice(), 1_000)?
-        {
+        if let Verdict::Linearizable(order) = check(
+            alloc,
+            object,
+            history.events.as_slice(),
+            1_000,
+        )? {
             return Ok(order);
         }
     }
@@ -147,7 +151,8 @@ fn parts(rt: HostRuntime) -> Result<(), AllocError> {
     let other = "a put 1 5 -> ok 1 2\nb put 2 6 -> ok 3 4\nb get 2 -> 5 5 6";
     assert_eq!(rt; found_in(alloc, &Map, other)?, Found::BadAt(5));
     // A call of one key returns before one of another begins, by which a third is judged.
-    let turned = "a add 1 -> true 1 2\na add 2 -> true 3 4\nb contains 2 -> true 5 6\nb contains 1 -> false 7 8";
+    let turned =
+        "a add 1 -> true 1 2\na add 2 -> true 3 4\nb contains 2 -> true 5 6\nb contains 1 -> false 7 8";
     assert_eq!(rt; found_in(alloc, &Set, turned)?, Found::BadAt(7));
     // A process calls twice at once, of two keys.
     let twice = [
@@ -162,10 +167,12 @@ fn parts(rt: HostRuntime) -> Result<(), AllocError> {
 fn guessed_queues(rt: HostRuntime) -> Result<(), AllocError> {
     let alloc = rt.alloc();
     // 1 and 2 are put in at one time, and 2 is taken first; then the queue is found empty.
-    let turned = "a enq 1 -> ok 1 4\nb enq 2 -> ok 2 3\na deq -> 2 5 6\na deq -> 1 7 8\nb deq -> empty 9 10";
+    let turned =
+        "a enq 1 -> ok 1 4\nb enq 2 -> ok 2 3\na deq -> 2 5 6\na deq -> 1 7 8\nb deq -> empty 9 10";
     assert!(rt; order_in(alloc, &Queue, turned)?.as_slice() == [1, 0, 4, 6, 8].as_slice());
     // The queue is found empty before 1 is put in, though both overlap; and a call that never returned took 1.
-    let lost = "a enq 1 -> ok 1 4\nb deq -> empty 2 5\nc deq -> ? 3\na enq 2 -> ok 6 7\nb deq -> 2 8 9";
+    let lost =
+        "a enq 1 -> ok 1 4\nb deq -> empty 2 5\nc deq -> ? 3\na enq 2 -> ok 6 7\nb deq -> 2 8 9";
     assert!(rt; order_in(alloc, &Queue, lost)?.as_slice() == [1, 0, 2, 5, 7].as_slice());
     Ok(())
 }
