@@ -31,7 +31,7 @@ events_of_part part x latest (Call p i ∷ events) =
 events_of_part part x latest (Return p r ∷ events) =
     if latest p == x then Return p r ∷ events_of_part part x latest events else events_of_part part x latest events
 
--- the history of part x
+-- the history of part x, in which a return of a process that hasn't called counts for part 0; a well-formed history has none
 abbrev pub part_of : {I R : Type 0} → (part : I → ℕ) → (x : ℕ) → List (Event I R) → List (Event I R)
 part_of part x history = events_of_part part x (λ p. 0) history
 
