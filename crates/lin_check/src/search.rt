@@ -18,6 +18,9 @@ use crate::replies::replies;
 use seq_object::SeqObject;
 use std::alloc::{AllocError, Global};
 
+/// The fewest buckets of the nodes that fail: a short history can have many.
+const LEAST_BUCKETS: usize = 16_384;
+
 /// What a check finds.
 #[derive(Drop)]
 pub enum Verdict {
@@ -110,7 +113,7 @@ fn search<O: Checkable>(
         → ¬ (IsLinearizable (O.sequential object.now) history.now) }
     ensures { IfOk result (Answers (O.sequential object.now) history.now) }
 {
-    let mut failed = Failed::new(alloc, history.len())?;
+    let mut failed = Failed::new(alloc, history.len().max(LEAST_BUCKETS))?;
     let mut stack: Vec<Frame<O::State>> = Vec::new(alloc);
     let mut order = order_in(alloc, ranks, &root)?;
     let mut node = root;
