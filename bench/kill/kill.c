@@ -22,6 +22,7 @@
 #include <sys/wait.h>
 #include <time.h>
 #include <unistd.h>
+#include "killer.h"
 
 enum { SEATS = 64, KEYS = 8, CAPACITY = 24, ACCOUNTS = 16, NUMBERS = 1 << 28 };
 
@@ -57,14 +58,6 @@ static uint64_t n, words_in, words_out;
 static bool makes_again, loses;
 
 static void wrong(int which) { atomic_fetch_add(&all->wrong[which], 1); }
-
-static uint64_t draw(uint64_t *x) { return *x ^= *x << 13, *x ^= *x >> 7, *x ^= *x << 17; }
-
-static double now(void) {
-    struct timespec t;
-    clock_gettime(CLOCK_MONOTONIC, &t);
-    return (double)t.tv_sec + (double)t.tv_nsec / 1e9;
-}
 
 /* Notes that this call met a number: false where another one has. A call may say it again, where its owner died before
  * it was counted. */
@@ -230,16 +223,6 @@ static uint64_t calls_but_of(uint64_t p) {
     uint64_t calls = 0;
     for (uint64_t q = 0; q < n; q++) calls += q == p ? 0 : all->of[q].recorded;
     return calls;
-}
-
-static bool are_stopped(pid_t pid, uint64_t p) {
-    kill(pid, SIGSTOP);
-    usleep(1000);
-    uint64_t before = calls_but_of(p);
-    usleep(20000);
-    bool stopped = calls_but_of(p) == before;
-    kill(pid, SIGCONT);
-    return stopped;
 }
 
 /* The last state, by calls of a seat, beside what was answered: false where they don't fit. */

@@ -20,6 +20,7 @@
 #include <sys/wait.h>
 #include <time.h>
 #include <unistd.h>
+#include "killer.h"
 
 enum { CAPACITY = 24, MOST = 64, NUMBERS = 1 << 26 };
 
@@ -39,14 +40,6 @@ static struct all {
 static enum { PLAIN, ROBUST, SPIN, FCNTL } lock;
 static int file;
 static uint64_t n;
-
-static double now(void) {
-    struct timespec t;
-    clock_gettime(CLOCK_MONOTONIC, &t);
-    return (double)t.tv_sec + (double)t.tv_nsec / 1e9;
-}
-
-static uint64_t draw(uint64_t *x) { return *x ^= *x << 13, *x ^= *x >> 7, *x ^= *x << 17; }
 
 /* What a user of a robust mutex has to think of: is the state whole? Here it can be told, by the sum, and is made whole
  * again. */
@@ -123,16 +116,6 @@ static uint64_t calls_but_of(uint64_t p) {
     uint64_t calls = 0;
     for (uint64_t q = 0; q < n; q++) calls += q == p ? 0 : all->of[q].calls;
     return calls;
-}
-
-static bool are_stopped(pid_t pid, uint64_t p) {
-    kill(pid, SIGSTOP);
-    usleep(1000);
-    uint64_t before = calls_but_of(p);
-    usleep(20000);
-    bool stopped = calls_but_of(p) == before;
-    kill(pid, SIGCONT);
-    return stopped;
 }
 
 /* Whether nobody makes a call in three seconds. */
