@@ -9,28 +9,8 @@ import fednayup.universal.Refused;
 import fednayup.universal.Seat;
 
 /** Each call on its happy path, and each refusal. */
-public final class Calls {
+public final class Calls extends Checks {
     private static final int[][] NEXT = {{0, 1}, {1, 0}}, REPLY = {{0, 0}, {1, 1}};
-
-    private interface Action {
-        void run() throws Exception;
-    }
-
-    private static void is(Object found, Object wanted) {
-        if (!found.equals(wanted)) {
-            throw new AssertionError(found + " is not " + wanted);
-        }
-    }
-
-    private static void refuses(Fault fault, Action action) throws Exception {
-        try {
-            action.run();
-        } catch (Refused refused) {
-            is(refused.fault, fault);
-            return;
-        }
-        throw new AssertionError("not refused: " + fault);
-    }
 
     private static void replies(Log log, long[] invs, int... wanted) throws Refused {
         try (Seat seat = log.seat()) {

@@ -6,7 +6,6 @@ import java.nio.file.Path;
 import java.util.List;
 import java.util.OptionalLong;
 import fednayup.universal.Fault;
-import fednayup.universal.Refused;
 import fednayup.universal.Shared;
 import fednayup.universal.Shared.Kind;
 import fednayup.universal.Small;
@@ -15,27 +14,7 @@ import fednayup.universal.Small;
  * Objects that processes share: each call, each refusal, and a process that is killed. With the words {@code add NAME SEATS} it is such
  * a process: it adds 1 to a counter for good; with {@code add NAME SEATS CALLS} so many times.
  */
-public final class SharedCalls {
-    private interface Action {
-        void run() throws Exception;
-    }
-
-    private static void is(Object found, Object wanted) {
-        if (!found.equals(wanted)) {
-            throw new AssertionError(found + " is not " + wanted);
-        }
-    }
-
-    private static void refuses(Fault fault, Action action) throws Exception {
-        try {
-            action.run();
-        } catch (Refused refused) {
-            is(refused.fault, fault);
-            return;
-        }
-        throw new AssertionError("not refused: " + fault);
-    }
-
+public final class SharedCalls extends Checks {
     private static void throwsA(Class<?> kind, Action action) {
         try {
             action.run();

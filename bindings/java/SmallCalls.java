@@ -8,29 +8,9 @@ import fednayup.universal.Refused;
 import fednayup.universal.Small;
 
 /** Small objects: each call on its happy path, each refusal, and threads, whose order is legal by replies and versions. */
-public final class SmallCalls {
-    private interface Action {
-        void run() throws Exception;
-    }
-
+public final class SmallCalls extends Checks {
     private interface Work<S> {
         void on(S seat) throws Exception;
-    }
-
-    private static void is(Object found, Object wanted) {
-        if (!found.equals(wanted)) {
-            throw new AssertionError(found + " is not " + wanted);
-        }
-    }
-
-    private static void refuses(Fault fault, Action action) throws Exception {
-        try {
-            action.run();
-        } catch (Refused refused) {
-            is(refused.fault, fault);
-            return;
-        }
-        throw new AssertionError("not refused: " + fault);
     }
 
     private static <S extends Small.Seat> S only(Small<S> object) throws Refused {
