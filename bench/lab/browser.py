@@ -252,8 +252,8 @@ def shoot(page, folder):
     page.ask("Emulation.clearDeviceMetricsOverride")
 
 
-def main():
-    page, checks = Page(), Checks()
+def main(kind=Page):
+    page, checks = kind(), Checks()
     try:
         for part in (find_flaws, tell_faults, break_by_hand, foresee, lose_nothing, paste, judge_histories):
             part(page, checks)

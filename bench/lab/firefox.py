@@ -12,7 +12,7 @@ import sys
 import tempfile
 import time
 
-from browser import Checks, Page, break_by_hand, find_flaws, foresee, judge_histories, lose_nothing, paste, tell_faults
+from browser import Page, main
 
 # What Marionette calls keys.
 KEYS = {"Home": "\ue011", "End": "\ue010", "ArrowLeft": "\ue012", "ArrowRight": "\ue014", " ": " ", "Enter": "\ue006"}
@@ -109,17 +109,5 @@ class Firefox(Page):
         shutil.rmtree(self.folder, ignore_errors=True)
 
 
-def main():
-    page, checks = Firefox(), Checks()
-    try:
-        for part in (find_flaws, tell_faults, break_by_hand, foresee, lose_nothing, paste, judge_histories):
-            part(page, checks)
-        print(page.run("navigator.userAgent"))
-    finally:
-        page.close()
-    print(f"{checks.good} good, {checks.bad} bad")
-    sys.exit(1 if checks.bad else 0)
-
-
 if __name__ == "__main__":
-    main()
+    main(Firefox)
