@@ -63,8 +63,8 @@ fn refuted_by<O: Checkable>(
     }
 }
 
-/// Whether the history is linearizable, by its parts: one that isn't refutes the whole, and their orders make one of the
-/// whole. Where that is wrong, as in an ill-formed history, the whole is searched.
+/// Whether the history is linearizable, by its parts: one that isn't refutes the whole, and their orders make one of
+/// the whole. Where that is wrong, as in an ill-formed history, the whole is searched.
 fn check_parts<O: Checkable>(
     alloc: Global,
     object: &O,
@@ -98,8 +98,8 @@ fn check_parts<O: Checkable>(
 
 /// Whether the history is linearizable: an answer of at most `limit` rounds of each search.
 ///
-/// The object's guess comes first, then a search. Where its calls are of several parts, each part is judged alone. Gives
-/// up where a process is 65,536 or more. An `Err` says that memory was refused.
+/// The object's guess comes first, then a search. Where its calls are of several parts, each part is judged alone.
+/// Gives up where a process is 65,536 or more. An `Err` says that memory was refused.
 pub fn check<O: Checkable>(
     alloc: Global,
     object: &O,
