@@ -7,7 +7,7 @@ ghost use Rattle.uni_small.specs.Belongs.{reply_width_of, sizes_of, word_steps_o
 ghost use Rattle.uni_small.specs.Invariant.{most_calls};
 ghost use Rattle.uni_small.specs.Orphans.{IsInCall, IsOrphanOf, calls_after, calls_before, orphan_process};
 ghost use Rattle.uni_small.specs.Orphans.{steps_before, take_over_steps};
-ghost use Rattle.uni_small.specs.Plays.{IsLeft, has_begun, stage_of};
+ghost use Rattle.uni_small.specs.Plays.{IsLeft, has_begun, spare_at, stage_of};
 ghost use Rattle.uni_small.specs.Standing.{IsOf, attempt_steps, local_of};
 ghost use Rattle.uni_small.specs.View.Stage.{Idle};
 
@@ -40,6 +40,14 @@ impl<O: SmallObject> SmallShared<O> {
         for k in 0..words {
             held[(words + k) as usize] = self.reread(seat, p, 1, k);
         }
+    }
+
+    /// Which of the two buffers of process p the word S doesn't name.
+    fn spare_beside(&self, p: u64, s: u64) -> u64
+        requires inside { p < self.now.setup.sizes.processes }
+        ensures { result ≡ spare_at p s }
+    {
+        if s % 128 == 2 * p + 1 { 0 } else { 1 }
     }
 
     /// Ends the call of process p that has begun, wherever it stood, by what the words of the table tell: what the
@@ -82,7 +90,7 @@ impl<O: SmallObject> SmallShared<O> {
     {
         self.reread_all(seat, p, &mut own.held);
         let s = self.restart(seat, p);
-        own.spare = if s % 128 == 2 * p + 1 { 0 } else { 1 };
+        own.spare = self.spare_beside(p, s);
         if let Some(s) = self.attempt(seat, p, number, 0, own, room) {
             return self.load_reply(seat, p, s, reply);
         }
@@ -115,7 +123,7 @@ impl<O: SmallObject> SmallShared<O> {
     {
         self.reread_all(seat, p, &mut own.held);
         let s = self.abandon(seat, p);
-        own.spare = if s % 128 == 2 * p + 1 { 0 } else { 1 };
+        own.spare = self.spare_beside(p, s);
     }
 }
 
@@ -156,19 +164,14 @@ impl<O: SmallObject> SmallOrphan<O> {
         let SmallOrphan { mut seat, p } = self;
         let mut own = Buffers { spare: 0, held };
         let told = shared.recount(&mut seat, p);
-        if told <= made {
+        let (made, version) = if told <= made {
             shared.rejoin(&mut seat, p, &mut own);
-            let seat = SmallSeat {
-                seat,
-                p,
-                made,
-                own,
-                room,
-            };
-            return Ok((seat, None));
-        }
-        let made = made + 1;
-        let version = shared.resume(&mut seat, p, made, &mut own, &mut room, reply);
+            (made, None)
+        } else {
+            let made = made + 1;
+            let version = shared.resume(&mut seat, p, made, &mut own, &mut room, reply);
+            (made, Some(version))
+        };
         let seat = SmallSeat {
             seat,
             p,
@@ -176,6 +179,6 @@ impl<O: SmallObject> SmallOrphan<O> {
             own,
             room,
         };
-        Ok((seat, Some(version)))
+        Ok((seat, version))
     }
 }
