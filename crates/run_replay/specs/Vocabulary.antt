@@ -31,5 +31,5 @@ pub use Rattle.uni_model.specs.Transition.{content_after, place_of, response_aft
 pub use Rattle.uni_model.specs.Worlds.{AreAccepted, Event, IsAccepted, IsQuiescent, WorldOf, anchor_memory, calls_in_era, chain, last_cell, opened_world, response_of_step, world_after, world_after_all, world_after_era, world_after_step}
 pub use Rattle.uni_model.specs.Worlds.Event.{Call, Reshape, Step, Trim}
 pub use Rattle.uni_record.specs.Event.{Completed, completed_by, completed_in, event_lent, event_shown, events_shown, responses_in}
-pub use Rattle.uni_record.specs.declared.verdict.Return.{Return}
+pub use Rattle.uni_audit.specs.declared.verdict.Return.{Return}
 pub use Rattle.uni_script.specs.Objects.{SpokenObject, spoken}

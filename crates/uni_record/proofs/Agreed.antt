@@ -1,7 +1,7 @@
 -- The entries and the returns of a record agree.
 use Rattle.uni_record.proofs.Vocabulary.{Act, CallId, Entry, Event, HoldsResponses, Invariant-opened_world, Invoke, IsAudited, IsLegal, IsRecording, JoinsLegalLogs, Linearize, List, LogsResponses, Recording, Respond, Return, Sequential, Some, [], ap, arith, call_shown, calls_among, calls_of, cond, entry_shown, events_shown, history_of, log_of_run, logged_call, map, meaning, opening, option_map, refl, responses_in, slice_get, slice_get-map, subst, suc, sum_by-cons, sym, take, take-map, zero, ℕ, ◌+◌, ◌<◌, ◌==◌, ◌∙◌, ◌∷◌, ◌≡◌}
 use Rattle.uni_model.specs.Chain.{Entry as Logged}
-use Rattle.uni_record.proofs.Calls.{call_named}
+use Rattle.uni_audit.proofs.Calls.{call_named}
 use Rattle.uni_record.proofs.Promised.{returns_are_responses}
 
 module _ {I R : Type 0} where

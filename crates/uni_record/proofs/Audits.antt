@@ -2,8 +2,8 @@
 use Rattle.uni_record.proofs.Vocabulary.{Agrees, Bool, Entry, Event, IsRecording, JoinsLegalLogs, List, LogsResponses, Recording, Sequential, Some, Verdict, [], ap, append_assoc, arith, drop, drop-at, entries_verdict, entry_shown, entry_verdict, first, log, map, map-append, meaning, option_map, refl, returns_verdict, slice_get, slice_get-map, suc, sym, take, taken-more, true, verdict_of, world_of, ℕ, ◌++◌, ◌+◌, ◌↔◌, ◌∙◌, ◌∷◌, ◌≡◌}
 use Rattle.uni_model.specs.Chain.{Entry as Logged}
 use Rattle.uni_record.proofs.Agreed.{IsAudited-record}
-use Rattle.uni_record.proofs.Faults.{first-agrees}
-use Rattle.uni_record.proofs.Meaning.{agrees_means}
+use Rattle.uni_audit.proofs.Faults.{first-agrees}
+use Rattle.uni_audit.proofs.Meaning.{agrees_means}
 use Rattle.uni_record.proofs.Promised.{entries_are_joined}
 
 -- the entry that an entry of the log is

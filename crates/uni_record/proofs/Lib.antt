@@ -1,10 +1,5 @@
 pub mod Vocabulary
-pub mod Before
 pub mod Packed
-pub mod Calls
-pub mod Faults
-pub mod Replay
-pub mod Meaning
 pub mod Owed
 pub mod Runs
 pub mod Paid
@@ -16,8 +11,5 @@ pub mod Promised
 pub mod Agreed
 pub mod Untrimmed
 pub mod Commanded
-pub mod Elements
-pub mod Table
-pub mod Rooms
 pub mod Asked
 pub mod Audits

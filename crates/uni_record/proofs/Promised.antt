@@ -6,7 +6,7 @@ use Rattle.uni_model.specs.History.{calls_of}
 use Rattle.uni_model.specs.Laws.{LinksSoon}
 use Rattle.uni_model.specs.Universal.{RunIsUniversal}
 use Rattle.uni_log.specs.declared.entry.Entry.{Entry as Logged}
-use Rattle.uni_record.specs.declared.verdict.Counts.{Counts}
+use Rattle.uni_record.specs.declared.counts.Counts.{Counts}
 use Rattle.uni_record.proofs.Runs.{log_of_run-ended}
 
 responses_in-append : {I R : Type 0} (xs ys : List (Act I R)) → responses_in (xs ++ ys) ≡ responses_in xs ++ responses_in ys

@@ -12,8 +12,8 @@ use Rattle.uni_model.specs.History.{log}
 use Rattle.uni_core.specs.World.{current_of}
 use Rattle.uni_record.specs.declared.event.Event.{Event as Stored}
 use Rattle.uni_record.specs.declared.event.Event.TheVariants as stored
-use Rattle.uni_record.specs.declared.verdict.Return.{Return}
-use Rattle.uni_record.specs.declared.verdict.Counts.{Counts}
+use Rattle.uni_audit.specs.declared.verdict.Return.{Return}
+use Rattle.uni_record.specs.declared.counts.Counts.{Counts}
 
 -- a stored event
 abbrev pub event_shown : {I : Type 0} → Stored I → Event I

@@ -1,6 +1,3 @@
-pub mod Verdict
-pub mod CallPlaces
-pub mod Audited
 pub mod Event
 pub mod Packed
 pub mod Recorded

@@ -28,8 +28,8 @@ use Rattle.uni_record.specs.declared.fault.RecordTrimFault.{RecordTrimFault}
 use Rattle.uni_record.specs.declared.fault.RecordTrimFault.TheVariants as trim
 use Rattle.uni_record.specs.declared.fault.RecordReshapeFault.{RecordReshapeFault}
 use Rattle.uni_record.specs.declared.fault.RecordReshapeFault.TheVariants as reshape
-use Rattle.uni_record.specs.declared.verdict.Return.{Return}
-use Rattle.uni_record.specs.declared.verdict.Counts.{Counts}
+use Rattle.uni_audit.specs.declared.verdict.Return.{Return}
+use Rattle.uni_record.specs.declared.counts.Counts.{Counts}
 use Rattle.uni_record.specs.Event.{events_shown, completed_in, ended_log, responses_in}
 
 -- the world; how many processes and which number it was opened with; how many events there can be; the events; the calls that have

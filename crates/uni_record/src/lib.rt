@@ -1,9 +1,8 @@
 //! The record of a run of processes that share an object, and its audit.
 #![tactic(auto)]
 
-mod call_places;
-mod checker;
 mod command;
+mod counts;
 mod eras;
 mod event;
 mod events;
@@ -12,10 +11,9 @@ mod readers;
 mod recorded;
 mod room;
 mod run;
-mod verdict;
 
-pub use checker::audit;
 pub use command::{Command, Outcome, Refusal};
+pub use counts::Counts;
 pub use event::Event;
 pub use events::Events;
 pub use fault::{
@@ -23,4 +21,4 @@ pub use fault::{
 };
 pub use recorded::Recorded;
 pub use room::MAX_HISTORY;
-pub use verdict::{Counts, Return, Verdict};
+pub use uni_audit::{Return, Verdict, audit};

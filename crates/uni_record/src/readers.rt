@@ -3,16 +3,16 @@
 ghost use Rattle.std.specs.Prelude.{◌≡◌, IfOk, map};
 ghost use Rattle.uni_model.specs.History.{log_of_run};
 ghost use Rattle.uni_log.specs.Entry.{entry_shown};
-ghost use Rattle.uni_record.specs.Audited.{IsAudited};
+ghost use Rattle.uni_audit.specs.Audited.{IsAudited};
 ghost use Rattle.uni_record.specs.Event.{events_shown};
 ghost use Rattle.uni_record.specs.Recorded.{meaning, opening, IsRecording, IsPromised};
 
-use crate::checker::{check_entries, check_entry, check_for, check_returns};
+use crate::counts::Counts;
 use crate::events::Events;
 use crate::recorded::Recorded;
-use crate::verdict::{Counts, Return, Verdict};
 use seq_object::SeqObject;
 use std::alloc::{AllocError, Global};
+use uni_audit::{Return, Verdict, check_entries, check_entry, check_for, check_returns};
 use uni_core::World;
 use uni_log::{Entry, Log};
 use uni_model::{

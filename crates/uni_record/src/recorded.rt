@@ -11,14 +11,15 @@ ghost use Rattle.uni_record.specs.Recorded.{share, set_aside, standing_of, untri
 ghost use Rattle.uni_record.specs.Recorded.{CanRecord, IsOpenRefused, CanBegin, IsBeginRefused, IsStepRefused};
 ghost use Rattle.uni_record.specs.Recorded.{IsPromised};
 
+use crate::counts::Counts;
 use crate::event::Event;
 use crate::events::PackedEvents;
 use crate::fault::{RecordBeginFault, RecordOpenFault, RecordStepFault};
 use crate::room::{is_history, make_room, set_aside};
-use crate::verdict::{Counts, Return};
 use seq_object::{CallId, SeqObject};
 use std::alloc::Global;
 use std::marker::Model;
+use uni_audit::Return;
 use uni_core::{Progress, World, counts_fit};
 use uni_log::Entry;
 

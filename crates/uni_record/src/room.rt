@@ -5,9 +5,10 @@ ghost use Rattle.std.specs.Prelude.{vec_capacity};
 ghost use Rattle.uni_core.specs.World.{world_of};
 ghost use Rattle.uni_record.specs.Recorded.{IsHistory, set_aside};
 
-use crate::verdict::{Counts, Return};
+use crate::counts::Counts;
 use seq_object::SeqObject;
 use std::alloc::AllocError;
+use uni_audit::Return;
 use uni_core::World;
 
 /// The most events that a history can have.

@@ -1,6 +1,6 @@
 -- What was read of a script, and the whole script.
 use Rattle.uni_script.proofs.Vocabulary.{Answered, Appends, AppendsPrefix, BenchFault, Bool, Consumes, End, Err, Failed, HasEnded, HasRunWhole, Heard, HeardGrows, IfErr, IsAtEnd, IsRead, Kind, List, Memory, NoHeader, None, Ok, OnOk, Option, Outcome, Read, Result, Some, Stop, StopsAt, TooLong, TooMany, Write, [], and_then, and_then_from, ap, append-nil, append_assoc, arith, cut, echo_of, echoed, echoed_from, end_text, false, heard_of_lines, if◌then◌else◌, inl, inr, is_note, is_plain_byte, length, lines_of, lines_of_read, list_all, nat_lt, nat_tests, not, option_map_or, outcome_of_end, outcome_of_fault, outcome_of_line, outcome_of_lines, outcome_of_read, outcome_of_script, outcome_of_stop, outcome_of_text, outcome_of_words, refl, subst, sym, true, words_of_text, ℕ, ◌++◌, ◌+◌, ◌==◌, ◌∙◌, ◌∷◌, ◌≡◌, ◌≤◌, ◌⊎◌}
-use Rattle.uni_record.specs.declared.verdict.Verdict.{Verdict}
+use Rattle.uni_audit.specs.declared.verdict.Verdict.{Verdict}
 use Rattle.uni_script.specs.declared.fault.BenchFault.TheVariants as fault
 use Rattle.uni_script.specs.Replay.{IsInput, IsReplay, Leaves, IsPartOfReplay, HasAnswered, IsFaultOfScript, text_of_script}
 use Rattle.uni_script.proofs.Cutting.{GoesOn-start, GoesOn-start_other, GoesOn-after, lines_of-append}

@@ -1,8 +1,8 @@
 -- The texts of faults.
 use Rattle.std.specs.Prelude.{◌≡◌, ℕ, List, [], ◌∷◌, ◌++◌, map, codes, refl}
 use Rattle.std.specs.Fmt.{decimal, digits}
-use Rattle.uni_record.specs.declared.verdict.Verdict.{Verdict}
-use Rattle.uni_record.specs.declared.verdict.Verdict.TheVariants.{Agrees, BadCall, BadReply, Missing, BadReturn, Twice}
+use Rattle.uni_audit.specs.declared.verdict.Verdict.{Verdict}
+use Rattle.uni_audit.specs.declared.verdict.Verdict.TheVariants.{Agrees, BadCall, BadReply, Missing, BadReturn, Twice}
 use Rattle.uni_script.specs.Answer.{call_text}
 use Rattle.uni_script.specs.declared.fault.BenchFault.{BenchFault}
 use Rattle.uni_script.specs.declared.fault.BenchFault.TheVariants.{NoHeader, BadHeader, TooLong, BadByte, BadLine, TooMany, Read, Write}

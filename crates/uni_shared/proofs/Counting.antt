@@ -2,7 +2,7 @@
 use Rattle.uni_shared.proofs.Vocabulary.{Agrees, All, Bool, Completed, Counts, IsSome, IsTrue, List, None, Option, Receipt, Sequential, Some, WorldOf, [], ap, arith, false, filter, filter-append, get_or, length, length-map, map, refl, subst, suc, sym, take, take_all, take_more, true, zero, ℕ, ◌++◌, ◌+◌, ◌<◌, ◌∙◌, ◌∷◌, ◌≡◌, ◌≤◌}
 use Rattle.std.proofs.Math.ListN.{get_or-map}
 use Rattle.uni_record.specs.declared.event.Event.{Event as Stored}
-use Rattle.uni_record.specs.declared.verdict.Return.{Return}
+use Rattle.uni_audit.specs.declared.verdict.Return.{Return}
 
 -- a return with its counts, among the calls that have returned
 pub get_or-completed : {R : Type 0} (calls : List (Completed R)) (n : ℕ) (returned : Return R) (counts : Counts) → returned ≡ get_or (map (λ (c : Completed R). c.returned) calls) n returned

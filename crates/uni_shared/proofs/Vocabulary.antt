@@ -11,7 +11,7 @@ pub use Rattle.uni_model.proofs.Written.{number_cases}
 pub use Rattle.uni_model.specs.Worlds.{IsQuiescent, WorldOf, world_after, world_after_call}
 pub use Rattle.uni_record.specs.Event.{Completed, completed_in, event_lent, events_shown}
 pub use Rattle.uni_record.specs.Recorded.{Recording, meaning, opening}
-pub use Rattle.uni_record.specs.declared.verdict.Counts.{Counts}
+pub use Rattle.uni_record.specs.declared.counts.Counts.{Counts}
 pub use Rattle.uni_shared.specs.Agreement.{Agrees, DiffersFirstAt, IsBusy, IsClosed, IsFaultOfClosing, IsLeast, IsMismatchOf, IsMissing, IsSameAt, SeatAgrees, completed_of, completed_of_process, invocation_by, seats_of}
 pub use Rattle.uni_shared.specs.Seat.{SeatOf, first_seat}
 pub use Rattle.uni_shared.specs.declared.receipt.Receipt.{Receipt}

@@ -1,0 +1,9 @@
+pub mod Vocabulary
+pub mod Before
+pub mod Calls
+pub mod Faults
+pub mod Replay
+pub mod Meaning
+pub mod Elements
+pub mod Table
+pub mod Rooms
