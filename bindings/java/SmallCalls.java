@@ -1,7 +1,7 @@
-import java.util.ArrayList;
 import java.util.Arrays;
 import java.util.List;
 import java.util.OptionalLong;
+import java.util.concurrent.ExecutionException;
 import java.util.concurrent.atomic.AtomicLongArray;
 import fednayup.universal.Fault;
 import fednayup.universal.Refused;
@@ -9,10 +9,6 @@ import fednayup.universal.Small;
 
 /** Small objects: each call on its happy path, each refusal, and threads, whose order is legal by replies and versions. */
 public final class SmallCalls extends Checks {
-    private interface Work<S> {
-        void on(S seat) throws Exception;
-    }
-
     private static <S extends Small.Seat> S only(Small<S> object) throws Refused {
         try (object) {
             return object.seat();
@@ -102,29 +98,33 @@ public final class SmallCalls extends Checks {
         }
     }
 
-    /** Each seat's work in a thread of its own; then the last state, by the object's own handle. */
-    private static <S extends Small.Seat> long[] shared(Small<S> object, Work<S> work) throws Exception {
-        List<Throwable> wrong = new ArrayList<>();
-        List<S> seats = object.seats();
-        List<Thread> threads = new ArrayList<>();
-        for (S seat : seats) {
-            threads.add(Thread.ofPlatform().start(() -> {
-                try (seat) {
-                    work.on(seat);
-                } catch (Throwable thrown) {
-                    synchronized (wrong) {
-                        wrong.add(thrown);
-                    }
+    /** Each seat's work in a thread of its own; then the last state. */
+    private static <S extends Small.Seat> long[] shared(Small<S> object, Small.Work<S> work) throws Exception {
+        List<S> seats;
+        try (object) {
+            seats = object.seats();
+        }
+        return Small.inThreads(seats, work);
+    }
+
+    /** What one thread's work throws comes out when all have ended, and the seats can go on. */
+    private static void thrown() throws Exception {
+        List<Small.Counter> seats;
+        try (Small<Small.Counter> counter = Small.Counter.open(3)) {
+            seats = counter.seats();
+        }
+        try {
+            Small.inThreads(seats, seat -> {
+                seat.add(5);
+                if (seat.process == 1) {
+                    throw new IllegalStateException("by process 1");
                 }
-            }));
+            });
+            throw new AssertionError("nothing was thrown");
+        } catch (ExecutionException wrong) {
+            is(wrong.getCause().getMessage(), "by process 1");
         }
-        for (Thread thread : threads) {
-            thread.join();
-        }
-        if (!wrong.isEmpty()) {
-            throw new AssertionError(wrong.get(0));
-        }
-        return object.finish();
+        state(Small.inThreads(seats, seat -> seat.add(1)), 18);
     }
 
     private static void threads(int n, int calls) throws Exception {
@@ -182,6 +182,7 @@ public final class SmallCalls extends Checks {
         machine();
         refusals();
         seats();
+        thrown();
         for (int i = 1; i < arguments.length; i++) {
             threads(Integer.parseInt(arguments[i]), Integer.parseInt(arguments[0]));
         }

@@ -228,7 +228,7 @@ public final class Shared<S extends Small.Seat> implements AutoCloseable {
     }
 
     private static MethodHandle function(String name, FunctionDescriptor of, Linker.Option... options) {
-        return Linker.nativeLinker().downcallHandle(LIBRARY.findOrThrow(name), of, options);
+        return Linker.nativeLinker().downcallHandle(LIBRARY.find(name).orElseThrow(), of, options);
     }
 
     /** A function that may tell by errno why the system refused. */

@@ -9,6 +9,11 @@ import java.lang.invoke.MethodHandle;
 import java.util.ArrayList;
 import java.util.List;
 import java.util.OptionalLong;
+import java.util.concurrent.Callable;
+import java.util.concurrent.ExecutionException;
+import java.util.concurrent.ExecutorService;
+import java.util.concurrent.Executors;
+import java.util.concurrent.Future;
 import fednayup.universal.Universal.Handle;
 
 /**
@@ -126,6 +131,35 @@ public final class Small<S extends Small.Seat> implements AutoCloseable {
             handle.close();
             return state.asSlice(0, 8L * width).toArray(JAVA_LONG);
         }
+    }
+
+    /** What a thread does with its seat. */
+    public interface Work<S> {
+        void on(S seat) throws Exception;
+    }
+
+    /**
+     * Works with each seat in a thread of its own, waits for all of them, and closes the object: the words of the last state. No
+     * other handle may have the object. Refused: another has it.
+     *
+     * @throws ExecutionException what a seat's work threw, that of the first where several did; the seats stay, and so does the object
+     */
+    public static <S extends Seat> long[] inThreads(List<S> seats, Work<? super S> work)
+            throws Refused, InterruptedException, ExecutionException {
+        List<Callable<Void>> tasks = new ArrayList<>();
+        for (S seat : seats) {
+            tasks.add(() -> {
+                work.on(seat);
+                return null;
+            });
+        }
+        try (ExecutorService threads = Executors.newThreadPerTaskExecutor(Thread.ofPlatform().factory())) {
+            for (Future<Void> done : threads.invokeAll(tasks)) {
+                done.get();
+            }
+        }
+        seats.subList(1, seats.size()).forEach(Seat::close);
+        return seats.get(0).finish();
     }
 
     /** Lets the object go; seats that were given out stay. */

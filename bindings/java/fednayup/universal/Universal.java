@@ -48,7 +48,7 @@ final class Universal {
     static final MethodHandle CLOSE = status("universal_close", ADDRESS);
     static final MethodHandle READ = status("universal_read", ADDRESS, ADDRESS, JAVA_LONG, ADDRESS);
     static final MethodHandle COMPARE = status("universal_compare", ADDRESS, JAVA_LONG, ADDRESS, JAVA_LONG, ADDRESS);
-    static final MethodHandle DROP = Linker.nativeLinker().downcallHandle(LIBRARY.findOrThrow("universal_drop"), FunctionDescriptor.ofVoid(ADDRESS));
+    static final MethodHandle DROP = Linker.nativeLinker().downcallHandle(LIBRARY.find("universal_drop").orElseThrow(), FunctionDescriptor.ofVoid(ADDRESS));
 
     private Universal() {}
 
@@ -75,7 +75,7 @@ final class Universal {
     }
 
     private static MethodHandle status(String name, MemoryLayout... takes) {
-        return Linker.nativeLinker().downcallHandle(LIBRARY.findOrThrow(name), FunctionDescriptor.of(JAVA_INT, takes));
+        return Linker.nativeLinker().downcallHandle(LIBRARY.find(name).orElseThrow(), FunctionDescriptor.of(JAVA_INT, takes));
     }
 
     /** A function of the library, which answers a status. */
