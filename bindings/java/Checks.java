@@ -13,6 +13,16 @@ abstract class Checks {
         }
     }
 
+    static void throwsA(Class<?> kind, Action action) {
+        try {
+            action.run();
+        } catch (Exception thrown) {
+            is(thrown.getClass(), kind);
+            return;
+        }
+        throw new AssertionError("not thrown: " + kind);
+    }
+
     static void refuses(Fault fault, Action action) throws Exception {
         try {
             action.run();

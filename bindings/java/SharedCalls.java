@@ -15,16 +15,6 @@ import fednayup.universal.Small;
  * a process: it adds 1 to a counter for good; with {@code add NAME SEATS CALLS} so many times.
  */
 public final class SharedCalls extends Checks {
-    private static void throwsA(Class<?> kind, Action action) {
-        try {
-            action.run();
-        } catch (Exception thrown) {
-            is(thrown.getClass(), kind);
-            return;
-        }
-        throw new AssertionError("not thrown: " + kind);
-    }
-
     private static String name(String of) {
         return "java." + ProcessHandle.current().pid() + "." + of;
     }
@@ -47,7 +37,8 @@ public final class SharedCalls extends Checks {
         Small.Register register = only(Kind.register());
         is(List.of(register.write(-1), register.compareExchange(3, 9), register.read()), List.of(0L, -1L, -1L));
         Small.Counters counters = only(Kind.counters(3));
-        is(List.of(counters.add(2, 8), counters.add(2, 1), counters.add(3, 1)), List.of(0L, 8L, 0L));
+        is(List.of(counters.add(2, 8), counters.add(2, 1)), List.of(0L, 8L));
+        throwsA(IndexOutOfBoundsException.class, () -> counters.add(3, 1));
         Small.Queue queue = only(Kind.queue(2));
         is(List.of(queue.take(), queue.put(8), queue.put(9), queue.put(7), queue.take()), List.of(0L, true, true, false, 8L));
         Small.Stack stack = only(Kind.stack(2));

@@ -27,7 +27,9 @@ public final class SmallCalls extends Checks {
         is(List.of(register.write(-1), register.compareExchange(3, 9), register.compareExchange(-1, 9), register.read()), List.of(0L, -1L, -1L, 9L));
         state(register.finish(), 9);
         Small.Counters counters = only(Small.Counters.open(1, 3));
-        is(List.of(counters.add(2, 8), counters.add(2, 1), counters.add(3, 1)), List.of(0L, 8L, 0L));
+        is(List.of(counters.add(2, 8), counters.add(2, 1)), List.of(0L, 8L));
+        throwsA(IndexOutOfBoundsException.class, () -> counters.add(-1, 1));
+        throwsA(IndexOutOfBoundsException.class, () -> counters.add(3, 1));
         state(counters.finish(), 0, 0, 9);
         Small.Queue queue = only(Small.Queue.open(1, 2));
         is(List.of(queue.take(), queue.put(8), queue.put(9), queue.put(7), queue.take()), List.of(0L, true, true, false, 8L));
@@ -88,14 +90,10 @@ public final class SmallCalls extends Checks {
         is(first.add(1), 7L);
         first.close();
         state(object.finish(), 8);
-        for (Action closed : List.<Action>of(object::seat, object::finish, first::finish, () -> first.add(1))) {
-            try {
-                closed.run();
-                throw new AssertionError("it was closed");
-            } catch (IllegalStateException expected) {
-                // it was
-            }
-        }
+        throwsA(IllegalStateException.class, object::seat);
+        throwsA(IllegalStateException.class, object::finish);
+        throwsA(IllegalStateException.class, first::finish);
+        throwsA(IllegalStateException.class, () -> first.add(1));
     }
 
     /** Each seat's work in a thread of its own; then the last state. */

@@ -195,7 +195,7 @@ public final class Shared<S extends Small.Seat> implements AutoCloseable {
             Last last = new Last(Was.values()[(int) words[1]], words[2], words[3] != 0, words[4],
                     java.util.Arrays.copyOfRange(words, 5, 9), java.util.Arrays.copyOfRange(words, 9, 11),
                     words[11] == 0 ? null : java.util.Arrays.copyOfRange(words, 12, 16));
-            return new Claimed<>(kind.seats.of(new AmongProcesses(seat), words[0], 0), last);
+            return new Claimed<>(kind.seats.of(new AmongProcesses(seat), words[0], kind.capacity), last);
         }
     }
 

@@ -8,6 +8,7 @@ import java.lang.foreign.MemorySegment;
 import java.lang.invoke.MethodHandle;
 import java.util.ArrayList;
 import java.util.List;
+import java.util.Objects;
 import java.util.OptionalLong;
 import java.util.concurrent.Callable;
 import java.util.concurrent.ExecutionException;
@@ -289,9 +290,13 @@ public final class Small<S extends Small.Seat> implements AutoCloseable {
             return opened(Universal.OPEN_COUNTERS, n, count, count, Counters::new);
         }
 
-        /** Adds a number to the counter at an index: the sum before. Where there is none, nothing is changed, and that is 0. */
+        /**
+         * Adds a number to the counter at an index: the sum before.
+         *
+         * @throws IndexOutOfBoundsException there is none
+         */
         public long add(long index, long number) throws Refused {
-            return ask(index, number);
+            return ask(Objects.checkIndex(index, super.width), number);
         }
     }
 
