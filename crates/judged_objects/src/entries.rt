@@ -1,6 +1,7 @@
 //! Entries of a map as a state.
 
-ghost use Rattle.std.specs.Prelude.{◌≡◌, ◌≢◌, ◌↔◌, ◌==◌, ◌++◌, ◌∷◌, IfOk, IsTrue, Some, false, filter, nat_lt, not, true};
+ghost use Rattle.std.specs.Prelude.{◌≡◌, ◌≢◌, ◌↔◌, ◌==◌, ◌++◌, ◌∷◌, IfOk, IsTrue, Some, false, filter, nat_lt};
+ghost use Rattle.std.specs.Prelude.{not, true};
 ghost use Rattle.judged_objects.specs.Map.{value_at, with, without};
 
 use crate::numbers::mixed;

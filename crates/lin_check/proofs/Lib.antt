@@ -8,3 +8,4 @@ pub mod Searching
 pub mod Ordering
 pub mod Parts
 pub mod Cutting
+pub mod OnPaper

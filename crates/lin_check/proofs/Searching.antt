@@ -107,10 +107,10 @@ module _ {S I R : Type 0} (object : Sequential S I R) (history : List (Event I R
   nothing_left [] = refl
   nothing_left (x ∷ xs) = nothing_left xs
 
-  pub linearized : (child : Node S) (order : List ℕ) → child.at ≡ length history → IsReached object history child order
+  pub linearized : (at : ℕ) (slots : List Slot) (state : S) (order : List ℕ) → at ≡ length history → Reached object history at slots state order
       → IsOrder object history order
-  linearized child order end r =
-      let nothing : drop child.at history ≡ [] = ap (λ j. drop j history) end ∙ nothing_left history in (
+  linearized at slots state order end r =
+      let nothing : drop at history ≡ [] = ap (λ j. drop j history) end ∙ nothing_left history in (
         r.object_then.agreed,
         (r.acts, r.object_then, sym (r.shown ∙ ap (λ xs. observed r.acts ++ numbered r.object_then.next_nth xs) nothing ∙ append-nil (observed r.acts)), r.accepted, refl),
         r.agreed,
@@ -125,7 +125,7 @@ module _ {S I R : Type 0} (object : Sequential S I R) (history : List (Event I R
       let turned : reverse after ≡ record { node = node; order = first; next = more; call = call } ∷ reverse stack = ap reverse pushed ∙ reverse-append stack (record { node = node; order = first; next = more; call = call } ∷ []) in
       let there = finds.reached (path object history (reverse stack)) h.reached in
       let along : path object history (reverse stack) ++ call ∷ [] ≡ order = sym (ap (path object history) turned) ∙ path-reverse after ∙ sym is in
-      linearized child order end (subst (λ xs. IsReached object history child xs) along there)
+      linearized child.at child.slots.items child.state order end (subst (λ xs. IsReached object history child xs) along there)
 
   -- back to the frame below
   pub up : (n : ℕ) (stack rest : List (Frame S)) (f : Frame S) (node : Node S) (order : List ℕ) (next : ℕ) (failed more : List (Node S)) → IsSearch n stack node order next failed → FailsAt object history node

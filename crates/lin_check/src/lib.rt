@@ -16,6 +16,7 @@ mod prefixes;
 mod replies;
 mod search;
 mod swap_register;
+mod worked;
 
 pub use checkable::Checkable;
 pub use checking::check;
@@ -25,3 +26,4 @@ pub use ordered::{OrderVerdict, check_order};
 pub use part::is_part_by_part;
 pub use prefixes::shortest;
 pub use search::Verdict;
+pub use worked::worked_histories;

@@ -43,7 +43,7 @@ loop-place-preserved g c =
 
 pub returns-then-node-history : goal.returns-then-node-history
 returns-then-node-history g c =
-    linearized (g.O.SeqObject.sequential c.args.object.now) c.args.history.now c.loop-place.node c.args.order.now c.if-node-history.true
+    linearized (g.O.SeqObject.sequential c.args.object.now) c.args.history.now c.loop-place.node.at c.loop-place.node.slots.items c.loop-place.node.state c.args.order.now c.if-node-history.true
     (subst (λ xs. IsReached (g.O.SeqObject.sequential c.args.object.now) c.args.history.now c.loop-place.node xs) (take_past c.args.order.now c.loop-place.place-index c.loop-place-test.false) c.loop-place.invariant.reached)
 
 pub returns : goal.returns

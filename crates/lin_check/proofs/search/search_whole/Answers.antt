@@ -13,7 +13,7 @@ returns-then-not-advance g c = c.in_ok-root.ensures.sound c.args.history.now (c.
 
 pub returns-then-root-history : goal.returns-then-root-history
 returns-then-root-history g c =
-    let l = linearized (g.O.SeqObject.sequential c.args.object.now) c.args.history.now c.advance.new.node [] c.if-root-history.true
+    let l = linearized (g.O.SeqObject.sequential c.args.object.now) c.args.history.now c.advance.new.node.at c.advance.new.node.slots.items c.advance.new.node.state [] c.if-root-history.true
     ((c.if-not-advance.ensures.passes refl).reached [] (c.in_ok-root.ensures.reached c.args.history.now)) in
     (l.0, l.1, l.2 ∙ ap (map (slice_get (acts_of c.args.history.now))) (sym c.new.ensures.items))
 
