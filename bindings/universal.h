@@ -3,8 +3,8 @@
  * has the reply that it was given.
  *
  * n processes share an object, from 1 to 64. Each has a seat, by which it makes its calls. There are two kinds:
- *   - a small object: a counter, a register, an array of counters, a queue, a stack, a map, a book of accounts, or a
- *     machine of two tables, on words of 64 bits. Its seats make calls without end, and it keeps no history.
+ *   - a small object: a counter, a register, an array of counters, a queue, a stack, a map, a book of accounts, a
+ *     machine of two tables, or a program of your own, on words of 64 bits. Its seats make calls without end, and it keeps no history.
  *   - a log: a tally, a sticky register, a register, or a machine of two tables, on words of 31 bits. A seat makes up to k
  *     calls, at most 4,096, and the closed log tells all of them in their order.
  *
@@ -61,8 +61,16 @@ typedef enum universal_status {
     UNIVERSAL_WRONG_HANDLE = 7, /* the handle hasn't what the call is for */
     UNIVERSAL_BAD_TABLE = 8,    /* the tables aren't those of a machine */
     UNIVERSAL_DIFFERS = 9,      /* the closed log has other calls of the process */
-    UNIVERSAL_BAD_CAPACITY = 10, /* a state would have more than 65,536 words */
-    UNIVERSAL_BAD_WIDTH = 11    /* these aren't as many words as those of the object */
+    UNIVERSAL_BAD_CAPACITY = 10, /* a state would have more than 65,536 words; of a program also an invocation or a reply */
+    UNIVERSAL_BAD_WIDTH = 11,    /* these aren't as many words as those of the object */
+    UNIVERSAL_NO_OPERATION = 12, /* an instruction of a program has no operation that there is, or not all its words */
+    UNIVERSAL_NO_REGISTER = 13,  /* it names a register that isn't below 16 */
+    UNIVERSAL_NO_PLACE = 14,     /* its fixed place lies outside its area */
+    UNIVERSAL_JUMPS_BACK = 15,   /* it would go on at itself or at an earlier instruction */
+    UNIVERSAL_NO_TARGET = 16,    /* it would go on past the end */
+    UNIVERSAL_GOES_FORWARD = 17, /* its loop would go back to a later instruction */
+    UNIVERSAL_NO_LOOP = 18,      /* its loop's number isn't below 16 */
+    UNIVERSAL_TOO_LONG = 19      /* a program has more than 4,096 instructions, or more than 2^32 steps in a call */
 } universal_status;
 
 /* What a status says, in words; "no status" of any other number. The text stays for good. */
@@ -80,6 +88,14 @@ static inline const char *universal_strerror(uint32_t status) {
     case UNIVERSAL_DIFFERS: return "the closed log has other calls of the process";
     case UNIVERSAL_BAD_CAPACITY: return "a state would have more than 65536 words";
     case UNIVERSAL_BAD_WIDTH: return "these aren't as many words as those of the object";
+    case UNIVERSAL_NO_OPERATION: return "an instruction has no such operation, or not all its words";
+    case UNIVERSAL_NO_REGISTER: return "an instruction names no register";
+    case UNIVERSAL_NO_PLACE: return "an instruction's place lies outside its area";
+    case UNIVERSAL_JUMPS_BACK: return "an instruction doesn't lead to a later one";
+    case UNIVERSAL_NO_TARGET: return "an instruction leads past the end";
+    case UNIVERSAL_GOES_FORWARD: return "a loop goes back to a later instruction";
+    case UNIVERSAL_NO_LOOP: return "a loop's number isn't below 16";
+    case UNIVERSAL_TOO_LONG: return "a program has more than 4096 instructions, or more than 2^32 steps in a call";
     default: return "no status";
     }
 }
@@ -103,6 +119,7 @@ static inline const char *universal_strerror(uint32_t status) {
  * map          3            2       1 + 2 * capacity: how many keys, and then each with its value, the oldest key first
  * book         4            2       16: the balances
  * machine      1            1       1
+ * program      as it says   ..      ..
  *
  * Where a state has W words, an invocation I and a reply R, a call takes at most 6W + (9 + 3I + 6R)n + I + R + 11 steps on
  * shared words.
@@ -198,6 +215,66 @@ uint32_t universal_open_small_machine(uint64_t n, uint32_t states, uint32_t invo
                                       universal_handle *object);
 
 #define UNIVERSAL_MACHINE_CALL(invocation) {(uint64_t)(invocation)}
+
+/* An instruction of a program: an operation, and what it is made with. */
+typedef struct universal_instruction {
+    uint64_t operation; /* a universal_operation */
+    uint64_t to, left, right, otherwise;
+} universal_instruction;
+
+/* What instructions do. A program has 16 registers, numbered from 0, that are 0 as a call begins, and so is the reply. `to`, `left`
+ * and `right` name registers, where nothing else is said. The instructions are numbered from 0; their count, as a number to go on
+ * at, ends the call. A program goes on at the next instruction, or at a later one, but for AGAIN. */
+typedef enum universal_operation {
+    UNIVERSAL_OP_SET = 0x10, /* to gets the number `left` */
+    /* `to` gets word `left` of an area, or the word whose place register `left` has; where it has none there, the program goes on
+     * at `otherwise` */
+    UNIVERSAL_OP_LOAD_STATE = 0x20,
+    UNIVERSAL_OP_LOAD_STATE_BY = 0x21,
+    UNIVERSAL_OP_LOAD_INVOCATION = 0x22,
+    UNIVERSAL_OP_LOAD_INVOCATION_BY = 0x23,
+    UNIVERSAL_OP_LOAD_REPLY = 0x24,
+    UNIVERSAL_OP_LOAD_REPLY_BY = 0x25,
+    /* word `to` of the state or the reply, or the word whose place register `to` has, gets what register `left` has; where there is
+     * none, the program goes on at `otherwise` */
+    UNIVERSAL_OP_STORE = 0x30,
+    UNIVERSAL_OP_STORE_BY = 0x31,
+    UNIVERSAL_OP_ANSWER = 0x32,
+    UNIVERSAL_OP_ANSWER_BY = 0x33,
+    /* `to` gets left + right, and so on; where that is no number of 64 bits, or right is 0 in a division, `to` stays, and the
+     * program goes on at `otherwise` */
+    UNIVERSAL_OP_ADD = 0x40,
+    UNIVERSAL_OP_SUBTRACT = 0x41,
+    UNIVERSAL_OP_MULTIPLY = 0x42,
+    UNIVERSAL_OP_DIVIDE = 0x43,
+    UNIVERSAL_OP_REMAINDER = 0x44,
+    /* the same modulo 2^64 */
+    UNIVERSAL_OP_WRAPPING_ADD = 0x50,
+    UNIVERSAL_OP_WRAPPING_SUBTRACT = 0x51,
+    UNIVERSAL_OP_WRAPPING_MULTIPLY = 0x52,
+    /* the program goes on at the instruction `to`: always, or where left == right, != , <, <= */
+    UNIVERSAL_OP_GO = 0x60,
+    UNIVERSAL_OP_IF_EQUAL = 0x61,
+    UNIVERSAL_OP_IF_NOT_EQUAL = 0x62,
+    UNIVERSAL_OP_IF_LESS = 0x63,
+    UNIVERSAL_OP_IF_AT_MOST = 0x64,
+    /* the program goes back to the instruction `to`, this one or an earlier one, as long as the loop of the number `right`, from 0 to
+     * 15, has gone back fewer than `left` times in the call */
+    UNIVERSAL_OP_AGAIN = 0x70
+} universal_operation;
+
+/* Opens an object by a program, for n processes: its state begins as the `words` words of `start`, an invocation has `invocation`
+ * words, and a reply `reply`. `code` are the fields of instructions, `count` words, five of each instruction. All is copied.
+ * universal_program.h writes programs. A call ends after as many steps as there are instructions, times one more than the `left`
+ * of all AGAINs together.
+ *
+ * UNIVERSAL_BAD_COUNT; UNIVERSAL_NO_OPERATION; then, of the first instruction that is wrong, the first of UNIVERSAL_NO_REGISTER,
+ * UNIVERSAL_NO_PLACE, UNIVERSAL_JUMPS_BACK, UNIVERSAL_NO_TARGET, UNIVERSAL_GOES_FORWARD, UNIVERSAL_NO_LOOP: after each of these but
+ * the first *place is that instruction's number. UNIVERSAL_TOO_LONG; UNIVERSAL_BAD_CAPACITY where a state, an invocation or a reply
+ * has more than 65,536 words, or a reply none. In this order; UNIVERSAL_MEMORY may come from UNIVERSAL_NO_OPERATION on. After each
+ * *object is as it was. */
+uint32_t universal_open_program(uint64_t n, const uint64_t *code, size_t count, const uint64_t *start, size_t words,
+                                uint64_t invocation, uint64_t reply, uint64_t *place, universal_handle *object);
 
 /* Gives out the next seat of a small object: that of the greatest process that has none yet. *process is which it is. What
  * *seat had before is dropped. A seat may be used, and closed, after the object's own handle is dropped.

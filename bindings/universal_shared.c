@@ -75,7 +75,8 @@ typedef struct head {
     uint64_t length, address, arenas, arena_bytes;
     uint64_t n;
     uint32_t object, capacity;
-    uint64_t tables; /* a checksum of a machine's */
+    uint64_t invocation, reply, state; /* how many words each has */
+    uint64_t tables;                   /* a checksum of a machine's, and of a program */
     uint64_t sum;    /* a checksum of all above */
 } head;
 
@@ -83,12 +84,12 @@ typedef struct head {
 typedef struct entry {
     _Alignas(128) void *heir;
     uint64_t was, made, version, asked; /* asked: the number of the last call that was asked for, `made` or one more */
-    uint64_t reply[2];
-    uint64_t invocation[2][4]; /* of call c at c % 2 */
+    uint64_t reply[UNIVERSAL_SHARED_ANSWERED];
+    uint64_t invocation[2][UNIVERSAL_SHARED_ASKED]; /* of call c at c % 2 */
 } entry;
 
 static const char MAGIC[8] = "univseg";
-enum { LAYOUT = 1 };
+enum { LAYOUT = 2 };
 
 /* What is written comes in this order: who takes the seat over does so after its owner's death, so the compiler alone
  * could change it. */
@@ -103,6 +104,11 @@ static uint64_t checksum(uint64_t before, const void *bytes, size_t count) {
 static uint64_t sum_of(const head *h) { return checksum(CHECKSUM_START, h, offsetof(head, sum)); }
 
 static uint64_t sum_of_tables(const universal_shared_kind *kind) {
+    if (kind->object == UNIVERSAL_SHARED_PROGRAM) {
+        const uint64_t words[] = {kind->count, kind->words, kind->invocation, kind->answer};
+        uint64_t sum = checksum(CHECKSUM_START, words, sizeof words);
+        return checksum(checksum(sum, kind->code, kind->count * sizeof *kind->code), kind->start, kind->words * sizeof *kind->start);
+    }
     if (kind->object != UNIVERSAL_SHARED_MACHINE) return 0;
     size_t count = (size_t)kind->states * kind->invocations * sizeof(uint32_t);
     uint64_t sum = checksum(CHECKSUM_START, &kind->states, sizeof kind->states);
@@ -131,8 +137,17 @@ static bool widths_of(const universal_shared_kind *kind, widths *w) {
     case UNIVERSAL_SHARED_MAP: *w = (widths){3, 2, 1 + 2 * capacity}; return true;
     case UNIVERSAL_SHARED_BOOK: *w = (widths){4, 2, 16}; return true;
     case UNIVERSAL_SHARED_MACHINE: *w = (widths){1, 1, 1}; return true;
+    case UNIVERSAL_SHARED_PROGRAM: *w = (widths){kind->invocation, kind->answer, kind->words}; return true;
     default: return false;
     }
+}
+
+/* A program whose words an entry has room for. */
+static uint32_t open_program(const universal_shared_kind *kind, uint64_t n, universal_handle *object) {
+    uint64_t place = 0;
+    if (kind->invocation > UNIVERSAL_SHARED_ASKED || kind->answer > UNIVERSAL_SHARED_ANSWERED) return UNIVERSAL_BAD_CAPACITY;
+    return universal_open_program(n, (const uint64_t *)kind->code, 5 * kind->count, kind->start, kind->words, kind->invocation,
+                                  kind->answer, &place, object);
 }
 
 static uint32_t open_object(const universal_shared_kind *kind, uint64_t n, universal_handle *object) {
@@ -145,6 +160,7 @@ static uint32_t open_object(const universal_shared_kind *kind, uint64_t n, unive
     case UNIVERSAL_SHARED_STACK: return universal_open_stack(n, kind->capacity, object);
     case UNIVERSAL_SHARED_MAP: return universal_open_map(n, kind->capacity, object);
     case UNIVERSAL_SHARED_BOOK: return universal_open_book(n, object);
+    case UNIVERSAL_SHARED_PROGRAM: return open_program(kind, n, object);
     default:
         return universal_open_small_machine(n, kind->states, kind->invocations, kind->next, entries, kind->reply,
                                             entries, object);
@@ -156,8 +172,11 @@ static uint32_t open_object(const universal_shared_kind *kind, uint64_t n, unive
 /* More than the library can take, where it opens the object; what it doesn't touch costs nothing. */
 static uint64_t room_of(const universal_shared_kind *kind, const widths *w, uint64_t n) {
     uint64_t seats = n < 64 ? n : 64, state = w->state < 65536 ? w->state : 65536;
-    uint64_t buffer = seats + seats * w->reply + state, words = 1 + seats + seats * w->invocation + 2 * seats * buffer;
+    uint64_t asked = w->invocation < UNIVERSAL_SHARED_ASKED ? w->invocation : UNIVERSAL_SHARED_ASKED;
+    uint64_t answered = w->reply < UNIVERSAL_SHARED_ANSWERED ? w->reply : UNIVERSAL_SHARED_ANSWERED;
+    uint64_t buffer = seats + seats * answered + state, words = 1 + seats + seats * asked + 2 * seats * buffer;
     uint64_t tables = kind->object == UNIVERSAL_SHARED_MACHINE ? (uint64_t)kind->states * kind->invocations : 0;
+    if (kind->object == UNIVERSAL_SHARED_PROGRAM) tables = 4 * (kind->count < 8192 ? kind->count : 8192) + state;
     uint64_t of_seat = 16 * 8 * buffer + 512 * seats + 32768;
     return up(5 * 8 * words + (seats + 1) * of_seat + 32 * (tables < STEP ? tables : 0) + 65536, PAGE);
 }
@@ -235,6 +254,7 @@ static uint32_t made_alone(const universal_shared_kind *kind, uint64_t n, head *
     h->layout = LAYOUT, h->version = UNIVERSAL_VERSION, h->build = UNIVERSAL_SHARED_BUILD;
     h->length = h->arenas + n * h->arena_bytes, h->address = (uint64_t)h;
     h->object = kind->object, h->capacity = capacity_of(kind), h->tables = sum_of_tables(kind);
+    h->invocation = w.invocation, h->reply = w.reply, h->state = w.state;
     memcpy(h->magic, MAGIC, sizeof h->magic);
     h->sum = sum_of(h);
     *made = h;
@@ -334,7 +354,7 @@ static uint32_t noted(int fd, const struct stat *file, head *at, const head *tol
         free(s);
         return UNIVERSAL_SHARED_SYSTEM;
     }
-    widths_of(&(universal_shared_kind){.object = told->object, .capacity = told->capacity}, &s->width);
+    s->width = (widths){told->invocation, told->reply, told->state};
     segments = *segment = s;
     return UNIVERSAL_DONE;
 }

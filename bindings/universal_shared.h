@@ -71,15 +71,26 @@ typedef enum universal_shared_object {
     UNIVERSAL_SHARED_STACK = 5,
     UNIVERSAL_SHARED_MAP = 6,
     UNIVERSAL_SHARED_BOOK = 7,
-    UNIVERSAL_SHARED_MACHINE = 8
+    UNIVERSAL_SHARED_MACHINE = 8,
+    UNIVERSAL_SHARED_PROGRAM = 9
 } universal_shared_object;
+
+/* How many words an invocation and a reply have at most. */
+enum { UNIVERSAL_SHARED_ASKED = 4, UNIVERSAL_SHARED_ANSWERED = 2 };
 
 /* An object. All who share it say the same. */
 typedef struct universal_shared_kind {
     uint32_t object;              /* a universal_shared_object */
     uint32_t capacity;            /* of a queue, a stack or a map; of counters how many; not looked at of others */
-    uint32_t states, invocations; /* the rest is of a machine alone, as universal_open_small_machine takes it: */
+    uint32_t states, invocations; /* of a machine alone, as universal_open_small_machine takes it: */
     const uint32_t *next, *reply; /* tables of states * invocations entries each, which are copied */
+    /* the rest is of a program alone, as universal_open_program takes it, and copied: `count` instructions, `words` words of a state,
+     * and how many words an invocation and a reply have. UNIVERSAL_BAD_CAPACITY also where these are more than 4 and 2 */
+    const universal_instruction *code;
+    size_t count;
+    const uint64_t *start;
+    size_t words;
+    uint64_t invocation, answer;
 } universal_shared_kind;
 
 /* A segment in this process. */
@@ -103,10 +114,10 @@ typedef struct universal_shared_last {
     uint64_t made;          /* how many calls were made */
     uint64_t ended;         /* 1: this claim ended the last of them, whose reply nobody was told. 0 says nothing */
     uint64_t version;       /* a version that the last call is in; 0 where none was made */
-    uint64_t invocation[4]; /* the words of the last call */
-    uint64_t reply[2];      /* and of its reply */
+    uint64_t invocation[UNIVERSAL_SHARED_ASKED]; /* the words of the last call */
+    uint64_t reply[UNIVERSAL_SHARED_ANSWERED];   /* and of its reply */
     uint64_t is_next;       /* 1: one more call was asked for, and hadn't begun: it has no effect */
-    uint64_t next[4];       /* its words */
+    uint64_t next[UNIVERSAL_SHARED_ASKED]; /* its words */
 } universal_shared_last;
 
 /* How many bytes a segment of this kind has, for n seats.

@@ -4,11 +4,12 @@
  *
  *     kill OBJECT SEATS KILLS MICROSECONDS fork|exec [again|lost]
  *
- * OBJECT is counter, register, queue, map or book. Between two kills pass up to so many MICROSECONDS. Workers are
+ * OBJECT is counter, register, queue, map, book or program, which is a counter with a limit. Between two kills pass up to so many MICROSECONDS. Workers are
  * forked, or are programs that are begun anew. With `again` who takes a seat over makes a call again that was ended,
  * and with `lost` it takes one for made that wasn't: both have to be seen as wrong. With STOP in the environment nobody
  * is killed, but stopped for 20 ms. The status is 1 where something is wrong. */
 #define _GNU_SOURCE
+#include "universal_program.h"
 #include "universal_shared.h"
 #include <errno.h>
 #include <signal.h>
@@ -78,6 +79,7 @@ static void choose(uint64_t p, uint64_t c) {
     uint64_t next = d->numbers[c % 2] = d->numbers[(c + 1) % 2] + 1;
     if (next + 2 >= NUMBERS / n || c >= (1u << 26) - 2) d->is_full = 1;
     switch (kind.object) {
+    case UNIVERSAL_SHARED_PROGRAM:
     case UNIVERSAL_SHARED_COUNTER: words[0] = 1; break;
     case UNIVERSAL_SHARED_REGISTER64:
         words[0] = 1 + (x & 1), words[1] = x & 1 ? d->last_seen[(c + 1) % 2] : number(p, next),
@@ -99,6 +101,7 @@ static void check(uint64_t p, uint64_t c, const uint64_t *reply, uint64_t versio
     d->last_version = version;
     d->last_seen[c % 2] = reply[0];
     switch (kind.object) {
+    case UNIVERSAL_SHARED_PROGRAM:
     case UNIVERSAL_SHARED_COUNTER:
         if (reply[0] + 2 * SEATS >= NUMBERS)
             d->is_full = 1;
@@ -242,10 +245,10 @@ static bool fits(universal_shared_seat *seat) {
         printf("book: %lu answers, and each balance is theirs; the greatest %ld\n", calls, most);
         return true;
     }
-    if (kind.object == UNIVERSAL_SHARED_COUNTER) {
+    if (kind.object == UNIVERSAL_SHARED_COUNTER || kind.object == UNIVERSAL_SHARED_PROGRAM) {
         universal_shared_apply(seat, (uint64_t[])UNIVERSAL_COUNTER_ADD(0), 1, reply, 1, &version);
         for (uint64_t i = 0; i < reply[0] && i < NUMBERS; i++) lost += !all->out[i];
-        printf("counter: %lu answers, the sum is %lu; sums that nobody was answered: %lu\n", calls, reply[0], lost);
+        printf("%s: %lu answers, the sum is %lu; sums that nobody was answered: %lu\n", arguments[1], calls, reply[0], lost);
         return reply[0] == calls && (!lost || calls >= NUMBERS - 2 * SEATS);
     }
     for (uint64_t key = 0; key < (kind.object == UNIVERSAL_SHARED_MAP ? KEYS : CAPACITY + 1); key++) {
@@ -275,6 +278,23 @@ static bool fits(universal_shared_seat *seat) {
     return !lost && !unknown;
 }
 
+/* A counter with a limit, which is never met: a call adds its word, and is answered the sum before. */
+static void write_program(void) {
+    static universal_instruction code[8];
+    static const uint64_t start[1];
+    enum { sum, amount, more, limit };
+    up_program p = UP_PROGRAM(code);
+    up_load(&p, sum, UP_STATE, 0);
+    up_answer(&p, 0, sum);
+    up_load(&p, amount, UP_INVOCATION, 0);
+    up_add(&p, more, sum, amount, UP_END);
+    up_set(&p, limit, (uint64_t)1 << 40);
+    up_if_less(&p, limit, more, UP_END);
+    up_store(&p, 0, more);
+    up_close(&p);
+    kind.code = code, kind.count = p.count, kind.start = start, kind.words = 1, kind.invocation = 1, kind.answer = 1;
+}
+
 static bool is_known(const char *object) {
     const struct {
         const char *name;
@@ -284,11 +304,13 @@ static bool is_known(const char *object) {
                  {"register", UNIVERSAL_SHARED_REGISTER64, 0, 3, 1},
                  {"queue", UNIVERSAL_SHARED_QUEUE, CAPACITY, 1, 1},
                  {"map", UNIVERSAL_SHARED_MAP, CAPACITY, 3, 2},
-                 {"book", UNIVERSAL_SHARED_BOOK, 0, 4, 2}};
-    for (int k = 0; k < 5; k++)
+                 {"book", UNIVERSAL_SHARED_BOOK, 0, 4, 2},
+                 {"program", UNIVERSAL_SHARED_PROGRAM, 0, 1, 1}};
+    for (int k = 0; k < 6; k++)
         if (!strcmp(object, known[k].name)) {
             kind = (universal_shared_kind){.object = known[k].object, .capacity = known[k].capacity};
             words_in = known[k].in, words_out = known[k].out;
+            if (kind.object == UNIVERSAL_SHARED_PROGRAM) write_program();
             return true;
         }
     return false;

@@ -17,7 +17,7 @@
 #include <sys/wait.h>
 #include <unistd.h>
 
-enum { HEAD = 88 };
+enum { HEAD = 112 };
 
 static const universal_shared_kind map = {.object = UNIVERSAL_SHARED_MAP, .capacity = 100};
 static universal_shared_segment *segment; /* a map of 100 keys for 8 */
@@ -123,7 +123,7 @@ static void other_objects(void) {
             "a kind that is none");
     /* machines of the same size: a switch, and one that stays */
     const uint32_t turn[] = {1, 0}, stay[] = {0, 1}, told[] = {0, 1};
-    universal_shared_kind machine = {UNIVERSAL_SHARED_MACHINE, 0, 2, 1, turn, told}, other = machine;
+    universal_shared_kind machine = {.object = UNIVERSAL_SHARED_MACHINE, .states = 2, .invocations = 1, .next = turn, .reply = told}, other = machine;
     other.next = stay;
     universal_shared_segment *mine = NULL;
     int at = memfd_create("machine", 0);
@@ -170,9 +170,9 @@ static void makings(void) {
     universal_shared_segment *none = NULL;
     uint64_t bytes = 7;
     int empty = memfd_create("empty", 0), disk = on_a_disk();
-    const universal_shared_kind wide = {.object = UNIVERSAL_SHARED_QUEUE, .capacity = 65536}, strange = {.object = 9};
+    const universal_shared_kind wide = {.object = UNIVERSAL_SHARED_QUEUE, .capacity = 65536}, strange = {.object = 10};
     const uint32_t table[] = {2};
-    const universal_shared_kind machine = {UNIVERSAL_SHARED_MACHINE, 0, 1, 1, table, table};
+    const universal_shared_kind machine = {.object = UNIVERSAL_SHARED_MACHINE, .states = 1, .invocations = 1, .next = table, .reply = table};
     count(&files, &maps);
     answers(universal_shared_create(file, &map, 8, &none), UNIVERSAL_SHARED_NOT_EMPTY, "in a segment that is one");
     answers(universal_shared_create(-1, &map, 8, &none), UNIVERSAL_SHARED_NOT_EMPTY, "in no file");
@@ -300,7 +300,7 @@ static void sizes(void) {
                                            {.object = UNIVERSAL_SHARED_STACK, .capacity = 65535},
                                            {.object = UNIVERSAL_SHARED_MAP, .capacity = 32767},
                                            {.object = UNIVERSAL_SHARED_BOOK},
-                                           {UNIVERSAL_SHARED_MACHINE, 0, 1, 1, table, table}};
+                                           {.object = UNIVERSAL_SHARED_MACHINE, .states = 1, .invocations = 1, .next = table, .reply = table}};
     for (size_t k = 0; k < sizeof kinds / sizeof *kinds; k++)
         for (uint64_t n = 1; n <= 64; n *= 8) {
             universal_shared_segment *made = NULL;

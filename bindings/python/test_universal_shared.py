@@ -11,8 +11,9 @@ import threading
 import unittest
 
 from universal import Fault, Refused
+from universal.program import Program
 from universal.shared import Full, Last, Over, SharedBook, SharedCounter, SharedCounters, SharedMachine, SharedMap
-from universal.shared import SharedQueue, SharedRegister, SharedStack, Short, Was, unlink
+from universal.shared import SharedProgram, SharedQueue, SharedRegister, SharedStack, Short, Was, unlink
 
 MOST = (1 << 64) - 1
 
@@ -81,6 +82,27 @@ class Calls(unittest.TestCase):
             self.assertRaises(Short, lambda: book.transfer(3, 4, 10))
         with SharedMachine(None, [[1], [0]], [[7], [8]], seats=1, create=True) as machine:
             self.assertEqual([machine.call(0), machine.call(0), machine.call(0)], [7, 8, 7])
+
+    def test_programs(self):
+        p = Program([40], invocation=1, reply=2)  # an account of at most 100
+        total = p.state[0] + p.invocation[0]
+        with p.when(total <= 100):
+            p.state[0] = total
+            p.reply[0] = 1
+        p.reply[1] = p.state[0]
+        with SharedProgram(name("program"), p, seats=2, create=True) as account:
+            self.assertEqual([account.call(50), account.call(11), account.call(10)], [(1, 90), (0, 90), (1, 100)])
+            again = pickle.loads(pickle.dumps(account))
+            self.assertEqual(in_child(lambda: self.assertEqual(again.call(1), (0, 100))), 0)
+            self.refuses(Fault.OTHER_OBJECT, lambda: SharedProgram(account.name, Program([], invocation=1, reply=2), seats=2))
+            account.release()
+            self.assertEqual(account.claim(0).invocation, (10,))
+        wide = [Program([], invocation=5, reply=1), Program([], invocation=1, reply=3), Program([], invocation=1, reply=0)]
+        for program in wide:
+            self.refuses(Fault.BAD_CAPACITY, lambda: SharedProgram(None, program, seats=1, create=True))
+        bad = Program([], invocation=1, reply=1)
+        bad.reply[1] = 0
+        self.refuses(Fault.NO_PLACE, lambda: SharedProgram(None, bad, seats=1, create=True))
 
     def test_names(self):
         of = name("names")

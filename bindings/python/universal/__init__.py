@@ -1,7 +1,7 @@
 """Shared objects that no thread can hold up.
 
 `universal.small` has a counter, a register, a queue, a stack, a map and more on words of 64 bits, whose seats make calls
-without end. A `Log` is a tally, a sticky register, a register or a machine of two tables on words of 31 bits, and tells all
+without end; `universal.program` has objects of your own. A `Log` is a tally, a sticky register, a register or a machine of two tables on words of 31 bits, and tells all
 its calls in the end.
 
 A `Log` is an object that n processes share. It gives out a `Seat` for each, and a seat makes up to k calls. A call
@@ -47,6 +47,14 @@ class Fault(IntEnum):
     DIFFERS = 9
     BAD_CAPACITY = 10
     BAD_WIDTH = 11
+    NO_OPERATION = 12
+    NO_REGISTER = 13
+    NO_PLACE = 14
+    JUMPS_BACK = 15
+    NO_TARGET = 16
+    GOES_FORWARD = 17
+    NO_LOOP = 18
+    TOO_LONG = 19
     NOT_A_SEGMENT = 20
     OTHER_LIBRARY = 21
     OTHER_OBJECT = 22
@@ -134,6 +142,17 @@ _SIGNATURES: Mapping[str, list[Any]] = {
     "universal_open_stack": [c_uint64, c_uint32, POINTER(_Handle)],
     "universal_open_map": [c_uint64, c_uint32, POINTER(_Handle)],
     "universal_open_small_machine": [c_uint64, *_TABLES, POINTER(_Handle)],
+    "universal_open_program": [
+        c_uint64,
+        POINTER(c_uint64),
+        c_size_t,
+        POINTER(c_uint64),
+        c_size_t,
+        c_uint64,
+        c_uint64,
+        POINTER(c_uint64),
+        POINTER(_Handle),
+    ],
     "universal_small_seat": [POINTER(_Handle), POINTER(_Handle), POINTER(c_uint64)],
     "universal_small_apply": [
         POINTER(_Handle),

@@ -1,5 +1,5 @@
 """Small objects that processes share, and that no dead one holds up: `SharedCounter`, `SharedRegister`, `SharedCounters`,
-`SharedQueue`, `SharedStack`, `SharedMap`, `SharedBook` and `SharedMachine`.
+`SharedQueue`, `SharedStack`, `SharedMap`, `SharedBook`, `SharedMachine`, and `SharedProgram` of your own.
 
     with SharedQueue("jobs", 100, seats=8, create=True) as jobs:  # once; the name goes with the block
         ...
@@ -32,9 +32,10 @@ from . import Fault, Refused, _number, _tables
 from ._calls import BookCalls, Calls, CounterCalls, CountersCalls, MachineCalls, MapCalls, Over, QueueCalls
 from ._calls import RegisterCalls, Short, StackCalls
 from ._native import load, one_at_a_time
+from .program import Program, ProgramCalls
 
 __all__ = ["Full", "Last", "Over", "SharedBook", "SharedCounter", "SharedCounters", "SharedMachine", "SharedMap"]
-__all__ += ["SharedQueue", "SharedRegister", "SharedStack", "Short", "Was", "unlink"]
+__all__ += ["SharedProgram", "SharedQueue", "SharedRegister", "SharedStack", "Short", "Was", "unlink"]
 
 
 class _Kind(ctypes.Structure):
@@ -45,6 +46,12 @@ class _Kind(ctypes.Structure):
         ("invocations", c_uint32),
         ("next", POINTER(c_uint32)),
         ("reply", POINTER(c_uint32)),
+        ("code", POINTER(c_uint64)),
+        ("count", c_size_t),
+        ("start", POINTER(c_uint64)),
+        ("words", c_size_t),
+        ("invocation", c_uint64),
+        ("answer", c_uint64),
     ]
 
 
@@ -158,7 +165,15 @@ class _Shared(Calls):
     _object: int
     _words = 1
 
-    def __init__(self, name: str | None, create: bool, seats: int, capacity: int = 0, tables: list[Any] | None = None) -> None:
+    def __init__(
+        self,
+        name: str | None,
+        create: bool,
+        seats: int,
+        capacity: int = 0,
+        tables: list[Any] | None = None,
+        program: Program | None = None,
+    ) -> None:
         self._at = c_void_p()
         self._mine = _Mine()
         self.name, self.seats, self._created = name, _number(seats, 64), create
@@ -168,6 +183,10 @@ class _Shared(Calls):
             raise ValueError("a name isn't empty, and has no null")
         states, invocations, next, _, reply, _ = tables or (0, 0, None, 0, None, 0)
         kind = _Kind(self._object, _number(capacity, 32), states, invocations, next, reply)
+        if program is not None:
+            code, start, (kind.invocation, kind.answer) = program.words(), program._start, program._widths
+            kind.code, kind.count = (c_uint64 * max(1, len(code)))(*code), len(code) // 5
+            kind.start, kind.words = (c_uint64 * max(1, len(start)))(*start), len(start)
         make = _LIBRARY.universal_shared_create_named if create else _LIBRARY.universal_shared_attach_named
         _check(make(None if name is None else os.fsencode(name), byref(kind), self.seats, byref(self._at)), name)
 
@@ -372,3 +391,18 @@ class SharedMachine(MachineCalls, _Shared):
 
     def _shape(self) -> tuple[object, ...]:
         return tuple(self._tables)
+
+
+class SharedProgram(ProgramCalls, _Shared):
+    """An object by a program, whose invocation has at most 4 words, and its reply at most 2."""
+
+    _object = 9
+
+    def __init__(self, name: str | None, program: Program, *, seats: int, create: bool = False) -> None:
+        """The object for so many seats. Raises as `SharedCounter`, and `Refused`: something of the program is wrong."""
+        self._program = program
+        self._words, self._replies = program._widths
+        super().__init__(name, create, seats, program=program)
+
+    def _shape(self) -> tuple[object, ...]:
+        return (self._program,)

@@ -1,7 +1,7 @@
 //! Shared objects that no thread can hold up.
 //!
 //! [`small`] has a counter, a register, a queue, a stack, a map and more on words of 64 bits, whose seats make calls
-//! without end. A [`Log`] is a tally, a sticky register, a register or a machine of two tables on words of 31 bits, and
+//! without end, and [`program`] has objects of your own. A [`Log`] is a tally, a sticky register, a register or a machine of two tables on words of 31 bits, and
 //! tells all its calls in the end. In [`shared`] processes share the objects of [`small`], and any may be killed.
 //!
 //! A [`Log`] is an object that `n` processes share. It gives out a [`Seat`] for each, and a seat makes up to `k`
@@ -27,6 +27,7 @@
 //! ```
 #![warn(missing_docs)]
 
+pub mod program;
 mod raw;
 pub mod register;
 pub mod shared;
@@ -57,8 +58,26 @@ pub enum Fault {
     WrongHandle,
     /// The tables aren't those of a machine.
     BadTable,
-    /// A state would have more than 65,536 words.
+    /// A state would have more than 65,536 words; of a program also an invocation or a reply, or the reply none.
     BadCapacity,
+    /// These aren't as many words as those of the object.
+    BadWidth,
+    /// An instruction of a program has no operation that there is. No call of this crate's types gets it.
+    NoOperation,
+    /// It names a register that there isn't.
+    NoRegister,
+    /// Its place lies outside its area.
+    NoPlace,
+    /// It would go on at itself or at an earlier instruction.
+    JumpsBack,
+    /// It would go on past the end.
+    NoTarget,
+    /// Its loop would go back to a later instruction.
+    GoesForward,
+    /// There are more than 16 loops.
+    NoLoop,
+    /// A program has more than 4,096 instructions, or more than 2^32 steps in a call.
+    TooLong,
 }
 
 impl Fault {
@@ -73,8 +92,23 @@ impl Fault {
             6 => Fault::Busy,
             8 => Fault::BadTable,
             10 => Fault::BadCapacity,
+            11 => Fault::BadWidth,
+            12 => Fault::NoOperation,
+            13 => Fault::NoRegister,
+            14 => Fault::NoPlace,
+            15 => Fault::JumpsBack,
+            16 => Fault::NoTarget,
+            17 => Fault::GoesForward,
+            18 => Fault::NoLoop,
+            19 => Fault::TooLong,
             _ => Fault::WrongHandle,
         })
+    }
+
+    /// Whether it tells which instruction of a program is wrong.
+    fn is_of_an_instruction(self) -> bool {
+        use Fault::{GoesForward, JumpsBack, NoLoop, NoOperation, NoPlace, NoRegister, NoTarget};
+        matches!(self, NoOperation | NoRegister | NoPlace | JumpsBack | NoTarget | GoesForward | NoLoop)
     }
 }
 
@@ -90,6 +124,15 @@ impl fmt::Display for Fault {
             Fault::WrongHandle => "the handle hasn't what the call is for",
             Fault::BadTable => "the tables aren't those of a machine",
             Fault::BadCapacity => "a state would have more than 65536 words",
+            Fault::BadWidth => "these aren't as many words as those of the object",
+            Fault::NoOperation => "there is no such operation",
+            Fault::NoRegister => "there is no such register",
+            Fault::NoPlace => "there is no word at that place",
+            Fault::JumpsBack => "it doesn't lead to a later instruction",
+            Fault::NoTarget => "it leads past the end",
+            Fault::GoesForward => "a loop goes back to a later instruction",
+            Fault::NoLoop => "there are more than 16 loops",
+            Fault::TooLong => "more than 4096 instructions, or more than 2^32 steps in a call",
         })
     }
 }

@@ -91,6 +91,17 @@ extern "C" {
         reply_count: usize,
         object: &mut Handle,
     ) -> u32;
+    fn universal_open_program(
+        n: u64,
+        code: *const u64,
+        count: usize,
+        start: *const u64,
+        words: usize,
+        invocation: u64,
+        reply: u64,
+        place: &mut u64,
+        object: &mut Handle,
+    ) -> u32;
     fn universal_small_seat(object: &mut Handle, seat: &mut Handle, process: &mut u64) -> u32;
     fn universal_small_apply(
         seat: &mut Handle,
@@ -177,6 +188,20 @@ pub(crate) fn open_small_machine(n: u64, machine: Machine<'_>, object: &mut Hand
     }
 }
 
+/// Opens a program by the words of its instructions, with how many words an invocation and a reply have.
+pub(crate) fn open_program(
+    n: u64,
+    code: &[u64],
+    start: &[u64],
+    [invocation, reply]: [u64; 2],
+    place: &mut u64,
+    object: &mut Handle,
+) -> u32 {
+    let (words, count) = (code.as_ptr(), code.len());
+    // SAFETY: the slices lie in memory that is borrowed for the call, and the library only reads and copies them.
+    unsafe { universal_open_program(n, words, count, start.as_ptr(), start.len(), invocation, reply, place, object) }
+}
+
 impl Handle {
     fn none() -> Handle {
         Handle { at: null_mut() }
@@ -206,12 +231,25 @@ impl Handle {
     /// A call of a small object: its reply, and a version that it is in.
     pub(crate) fn small_apply<const REPLY: usize>(&mut self, invocation: &[u64]) -> Result<([u64; REPLY], u64), Fault> {
         let mut reply = [0; REPLY];
+        let version = self.small_apply_into(invocation, &mut reply)?;
+        Ok((reply, version))
+    }
+
+    /// A call of a small object, which writes its reply: a version that it is in.
+    pub(crate) fn small_apply_into(&mut self, invocation: &[u64], reply: &mut [u64]) -> Result<u64, Fault> {
         let mut version = 0;
         // SAFETY: both slices are borrowed for the call.
         Fault::of(unsafe {
-            universal_small_apply(self, invocation.as_ptr(), invocation.len(), reply.as_mut_ptr(), REPLY, &mut version)
+            universal_small_apply(
+                self,
+                invocation.as_ptr(),
+                invocation.len(),
+                reply.as_mut_ptr(),
+                reply.len(),
+                &mut version,
+            )
         })?;
-        Ok((reply, version))
+        Ok(version)
     }
 
     pub(crate) fn small_follows(&mut self, version: u64) -> Result<bool, Fault> {

@@ -81,6 +81,7 @@ pub mod kinds {
         Map: Vec<(u64, u64)>, words => words[1..].chunks(2).take(words[0] as usize).map(|pair| (pair[0], pair[1])).collect();
         Book: [u64; 16], words => std::array::from_fn(|account| words[account]);
         Machine: u64, words => words[0];
+        Program: Vec<u64>, words => words;
     }
 }
 
@@ -217,7 +218,7 @@ pub struct Small<K> {
 }
 
 impl<K: Kind> Small<K> {
-    fn opened(width: usize, open: impl FnOnce(&mut Handle) -> u32) -> Result<Small<K>, Fault> {
+    pub(crate) fn opened(width: usize, open: impl FnOnce(&mut Handle) -> u32) -> Result<Small<K>, Fault> {
         let handle = Handle::opened(open)?;
         Ok(Small { held: Held { handle, width }, kind: PhantomData })
     }
@@ -305,6 +306,11 @@ impl<K: Kind> SmallSeat<K> {
     /// Closes the object, if this is the last handle that has it: the last state.
     pub fn close(mut self) -> Result<K::State, Busy<SmallSeat<K>>> {
         self.held.close::<K>().ok_or(Busy(self))
+    }
+
+    pub(crate) fn apply_into(&mut self, invocation: &[u64], reply: &mut [u64]) -> Result<(), Fault> {
+        self.version = self.held.handle.small_apply_into(invocation, reply)?;
+        Ok(())
     }
 
     fn apply<const REPLY: usize>(&mut self, invocation: &[u64]) -> Result<[u64; REPLY], Spent> {

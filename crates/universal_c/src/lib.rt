@@ -8,6 +8,7 @@ mod held;
 mod loose;
 mod object;
 mod open;
+mod program_open;
 mod small;
 mod small_close;
 mod small_kind;

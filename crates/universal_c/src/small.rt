@@ -8,7 +8,7 @@ ghost use Rattle.uni_small.specs.Final.{IsFinal};
 ghost use Rattle.uni_small.specs.Invariant.{most_calls};
 ghost use Rattle.uni_small.specs.Orphans.{IsInCall, IsOrphanOf, calls_after, calls_before, orphan_process};
 ghost use Rattle.uni_small.specs.Orphans.{steps_before, take_over_steps};
-ghost use Rattle.universal_c.specs.SmallMeaning.{small_meaning, small_sizes, state_words};
+ghost use Rattle.universal_c.specs.SmallMeaning.{IsNarrow, small_meaning, small_sizes, state_words};
 
 use crate::small_kind::SmallKind;
 use std::alloc::Global;
@@ -84,6 +84,7 @@ impl SmallOpened {
         kind: SmallKind,
         n: u64,
     ) -> Result<SmallOpened, SmallOpenFault>
+        requires { IsNarrow kind }
         ensures count { IsErrOf result SmallOpenFault.BadCount ↔ ((n ≡ 0) ⊎ (64 < n)) }
         ensures width { IsErrOf result SmallOpenFault.BadWidth
             ↔ ((1 ≤ n) × (n ≤ 64) × (65536 < state_words kind)) }

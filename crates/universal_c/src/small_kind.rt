@@ -2,6 +2,7 @@
 ghost use Rattle.std.specs.Prelude.{◌≡◌, length};
 ghost use Rattle.universal_c.specs.SmallMeaning.{small_meaning, small_steady, state_words};
 
+use program_object::Program;
 use small_objects::{
     SmallBook, SmallCounter, SmallCounters, SmallMap, SmallQueue, SmallRegister, SmallStack,
 };
@@ -27,6 +28,8 @@ pub enum SmallKind {
     Book,
     /// An object of finitely many states, by its tables.
     Machine(WordMachine),
+    /// An object by a program.
+    Program(Program),
 }
 
 #[tactic(auto, using(crate::specs::SmallMeaning::state_long))]
@@ -43,6 +46,7 @@ impl SmallObject for SmallKind {
             SmallKind::Map(map) => map.width(),
             SmallKind::Book => SmallBook.width(),
             SmallKind::Machine(machine) => machine.width(),
+            SmallKind::Program(program) => program.width(),
         }
     }
 
@@ -56,6 +60,7 @@ impl SmallObject for SmallKind {
             SmallKind::Map(map) => map.invocation_width(),
             SmallKind::Book => SmallBook.invocation_width(),
             SmallKind::Machine(machine) => machine.invocation_width(),
+            SmallKind::Program(program) => program.invocation_width(),
         }
     }
 
@@ -69,6 +74,7 @@ impl SmallObject for SmallKind {
             SmallKind::Map(map) => map.reply_width(),
             SmallKind::Book => SmallBook.reply_width(),
             SmallKind::Machine(machine) => machine.reply_width(),
+            SmallKind::Program(program) => program.reply_width(),
         }
     }
 
@@ -82,6 +88,7 @@ impl SmallObject for SmallKind {
             SmallKind::Map(map) => map.start(state),
             SmallKind::Book => SmallBook.start(state),
             SmallKind::Machine(machine) => machine.start(state),
+            SmallKind::Program(program) => program.start(state),
         }
     }
 
@@ -95,6 +102,7 @@ impl SmallObject for SmallKind {
             SmallKind::Map(map) => map.apply(state, invocation, reply),
             SmallKind::Book => SmallBook.apply(state, invocation, reply),
             SmallKind::Machine(machine) => machine.apply(state, invocation, reply),
+            SmallKind::Program(program) => program.apply(state, invocation, reply),
         }
     }
 

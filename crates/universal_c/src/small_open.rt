@@ -4,7 +4,7 @@ ghost use Rattle.std.specs.declared.option.Option.TheVariants.{None};
 ghost use Rattle.word_objects.specs.Machine.{machine_fault};
 ghost use Rattle.universal_c.specs.Meaning.{tables_of};
 ghost use Rattle.universal_c.specs.SmallCalls.{HasOpenedSmall};
-ghost use Rattle.universal_c.specs.SmallMeaning.{state_words};
+ghost use Rattle.universal_c.specs.SmallMeaning.{IsNarrow, state_words};
 ghost use Rattle.universal_c.specs.declared.small_kind.SmallKind.TheVariants.{Book, Counter, Counters, Machine};
 ghost use Rattle.universal_c.specs.declared.small_kind.SmallKind.TheVariants.{Map, Queue, Register, Stack};
 
@@ -21,7 +21,8 @@ use uni_small::SmallOpenFault;
 use word_objects::table_fault;
 
 /// Opens a small object of this kind, with the statuses of `universal_open_queue`.
-fn open(alloc: Global, kind: SmallKind, n: u64, object: &mut Handle) -> u32
+pub(crate) fn open(alloc: Global, kind: SmallKind, n: u64, object: &mut Handle) -> u32
+    requires { IsNarrow kind }
     ensures count { (result ≡ 1) ↔ ((n ≡ 0) ⊎ (64 < n)) }
     ensures capacity { (result ≡ 10) ↔ ((1 ≤ n) × (n ≤ 64) × (65536 < state_words kind)) }
     ensures status { (result ≡ 0) ⊎ (result ≡ 1) ⊎ (result ≡ 3) ⊎ (result ≡ 10) }

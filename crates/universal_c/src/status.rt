@@ -35,3 +35,27 @@ pub const BAD_CAPACITY: u32 = 10;
 
 /// There aren't as many words as the object has.
 pub const BAD_WIDTH: u32 = 11;
+
+/// An instruction has no operation that there is, or not all its words.
+pub const NO_OPERATION: u32 = 12;
+
+/// An instruction names a register that isn't below 16.
+pub const NO_REGISTER: u32 = 13;
+
+/// The fixed place of an instruction lies outside its area.
+pub const NO_PLACE: u32 = 14;
+
+/// An instruction would go on at itself or at an earlier one.
+pub const JUMPS_BACK: u32 = 15;
+
+/// An instruction would go on past the end.
+pub const NO_TARGET: u32 = 16;
+
+/// A loop would go back to a later instruction.
+pub const GOES_FORWARD: u32 = 17;
+
+/// A loop's number isn't below 16.
+pub const NO_LOOP: u32 = 18;
+
+/// There are more than 4,096 instructions, or more than 2^32 steps in a call.
+pub const TOO_LONG: u32 = 19;

@@ -20,10 +20,26 @@ public enum Fault {
     BAD_TABLE,
     /** The closed log has other calls of a process. */
     DIFFERS,
-    /** A state would have more than 65,536 words. */
+    /** A state would have more than 65,536 words; of a program also an invocation or a reply, or the reply none. */
     BAD_CAPACITY,
-    /** These aren't as many words as those of the object. No call of this package gets it. */
+    /** These aren't as many words as those of the object. */
     BAD_WIDTH,
+    /** An instruction of a program has no operation that there is. No call of this package gets it. */
+    NO_OPERATION,
+    /** It names a register that there isn't. */
+    NO_REGISTER,
+    /** Its place lies outside its area. */
+    NO_PLACE,
+    /** It would go on at itself or at an earlier instruction. */
+    JUMPS_BACK,
+    /** It would go on past the end. */
+    NO_TARGET,
+    /** Its loop would go back to a later instruction. */
+    GOES_FORWARD,
+    /** There are more than 16 loops. */
+    NO_LOOP,
+    /** A program has more than 4,096 instructions, or more than 2^32 steps in a call. */
+    TOO_LONG,
     /** A map has no room for a new key: no status of the library, but a reply. */
     NO_ROOM,
     /** A balance would be too great: a reply, too. */

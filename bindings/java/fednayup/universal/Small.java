@@ -171,22 +171,26 @@ public final class Small<S extends Small.Seat> implements AutoCloseable {
 
     /** A process of a small object, which makes its calls: from any thread, one at a time. */
     public abstract static sealed class Seat implements AutoCloseable {
-        private static final int MOST = 4;
-
         private final Place place;
         private final int width;
-        private final Arena arena = Arena.ofAuto();
-        private final MemorySegment invocation = arena.allocate(JAVA_LONG, MOST), reply = arena.allocate(JAVA_LONG, 2);
-        private final MemorySegment answer = arena.allocate(JAVA_LONG);
+        private final MemorySegment invocation, reply, answer;
         private long version;
 
         /** Which process it is, from 0 to n - 1. */
         public final long process;
 
         private Seat(Place place, long process, int width) {
+            this(place, process, width, 4, 2);
+        }
+
+        private Seat(Place place, long process, int width, int mostAsked, int mostAnswered) {
+            Arena arena = Arena.ofAuto();
             this.place = place;
             this.process = process;
             this.width = width;
+            invocation = arena.allocate(JAVA_LONG, Math.max(1, mostAsked));
+            reply = arena.allocate(JAVA_LONG, mostAnswered);
+            answer = arena.allocate(JAVA_LONG);
         }
 
         /** The version that the latest call was answered: one that the call is in, greater than each before. 0: there was none. */
@@ -227,7 +231,7 @@ public final class Small<S extends Small.Seat> implements AutoCloseable {
             MemorySegment.copy(words, 0, invocation, JAVA_LONG, 0, words.length);
             place.apply(invocation, words.length, reply, replies, answer);
             version = answer.get(JAVA_LONG, 0);
-            return new long[] {reply.get(JAVA_LONG, 0), reply.get(JAVA_LONG, 8)};
+            return reply.toArray(JAVA_LONG);
         }
 
         final long ask(long... words) throws Refused {
@@ -439,6 +443,32 @@ public final class Small<S extends Small.Seat> implements AutoCloseable {
         /** A call: the reply. An invocation past the tables, read as an unsigned one, is the last one. */
         public long call(long invocation) throws Refused {
             return ask(invocation);
+        }
+    }
+
+    /** A seat of a {@link Program}'s object. A state is its words. */
+    public static final class Own extends Seat {
+        private final int asks, answers;
+
+        private Own(Place place, long process, int width, int asks, int answers) {
+            super(place, process, width, asks, answers);
+            this.asks = asks;
+            this.answers = answers;
+        }
+
+        static Small<Own> open(long n, MemorySegment code, long count, MemorySegment start, int words, int asks, int answers,
+                MemorySegment wrong) throws Refused {
+            Small<Own> object = new Small<>(words, (place, process, width) -> new Own(place, process, width, asks, answers));
+            return object.opened(at -> (int) Universal.OPEN_PROGRAM.invokeExact(n, code, count, start, (long) words, (long) asks,
+                    (long) answers, wrong, at));
+        }
+
+        /** A call with the words of an invocation: those of its reply. Refused: these aren't so many words. */
+        public long[] call(long... invocation) throws Refused {
+            if (invocation.length != asks) {
+                throw new Refused(Fault.BAD_WIDTH);
+            }
+            return apply(answers, invocation);
         }
     }
 

@@ -38,6 +38,8 @@ final class Universal {
     static final MethodHandle OPEN_MAP = status("universal_open_map", JAVA_LONG, JAVA_INT, ADDRESS);
     static final MethodHandle OPEN_SMALL_MACHINE = status("universal_open_small_machine", JAVA_LONG, JAVA_INT, JAVA_INT,
             ADDRESS, JAVA_LONG, ADDRESS, JAVA_LONG, ADDRESS);
+    static final MethodHandle OPEN_PROGRAM = status("universal_open_program", JAVA_LONG, ADDRESS, JAVA_LONG, ADDRESS, JAVA_LONG,
+            JAVA_LONG, JAVA_LONG, ADDRESS, ADDRESS);
     static final MethodHandle SMALL_SEAT = status("universal_small_seat", ADDRESS, ADDRESS, ADDRESS);
     static final MethodHandle SMALL_APPLY = status("universal_small_apply", ADDRESS, ADDRESS, JAVA_LONG, ADDRESS, JAVA_LONG, ADDRESS);
     static final MethodHandle SMALL_FOLLOWS = status("universal_small_follows", ADDRESS, JAVA_LONG, ADDRESS);

@@ -1,0 +1,4 @@
+pub mod Vocabulary
+pub mod Lists
+pub mod Sound
+pub mod Ending
