@@ -1,6 +1,7 @@
 /* Small objects that operating-system processes share, and that no dead one holds up. A process may be killed at any
  * instruction: the calls of the others return as before, and whoever takes its seat over is told how many calls were
- * made, and what the last was answered. So each call is made exactly once, whatever dies.
+ * made, and what the last was answered. So no call is made twice, or half; one that hadn't begun is made by nobody, until
+ * who claims the seat makes it.
  *
  * A segment is a file in memory, with one object and n seats. Each process maps it at the address that it names. A seat
  * has one owner at a time, a thread of some process, which claims it; where the owner dies, however it dies, the seat

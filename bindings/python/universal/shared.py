@@ -8,7 +8,8 @@
 
 A process may be killed at any instruction: the calls of the others return as before. A thread has a seat from its first call
 on, or from `claim`, and gives it back as it ends. A seat whose process died can be claimed anew. `claim` tells how many calls
-its owners made, with the words of the last one and of its reply: so each call is made exactly once, whatever dies.
+its owners made, with the words of the last one and of its reply: so no call is made twice, or half. One that hadn't begun is
+made by nobody, until who claims the seat makes it.
 
 An object pickles by its name, so `multiprocessing` hands it to a worker, by fork or by spawn. A forked child has its parent's
 objects, and claims seats of its own. With no name (`None`) forked children alone can share it. Linux on x86-64 alone.
