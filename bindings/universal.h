@@ -310,9 +310,10 @@ uint32_t universal_small_leave(universal_handle *seat);
  * ended: *ended is 1, the reply is written, and *version is one that the call is in. Else *ended is 0, and the reply and *version
  * are as they were. The handle has a seat then, which goes on.
  *
- * What the caller vouches for: the former owner takes no more steps. Exactly `made` of its calls have returned; or one more, whose
- * reply it hasn't, and which is told as one that had begun, with the same reply. All were made by
- * universal_small_apply_announced.
+ * What the caller vouches for: the former owner takes no more steps. Exactly `made` of its calls have returned. All were made by
+ * universal_small_apply_announced. This is what the proof asks for.
+ * One more may have returned, whose reply is lost: it is told as one that had begun, with the same reply. That rests on a law of
+ * executions (last_load_leaves_no_trace) and an argument by hand; no clause of this function has it.
  *
  * UNIVERSAL_WRONG_HANDLE: *seat has no seat without an owner. UNIVERSAL_BAD_WIDTH: the reply hasn't as many words as those of the
  * object. UNIVERSAL_MEMORY. In this order; after each nothing is changed. */
