@@ -4,11 +4,13 @@
  *
  * n processes share an object, from 1 to 64. Each has a seat, by which it makes its calls. There are two kinds:
  *   - a small object: a counter, a register, an array of counters, a queue, a stack, a map, a book of accounts, a
- *     machine of two tables, or a program of your own, on words of 64 bits. Its seats make calls without end, and it keeps no history.
+ *     machine of two tables, or a program of your own, on words of 64 bits. A seat makes up to 2^50 calls, and it keeps no history.
  *   - a log: a tally, a sticky register, a register, or a machine of two tables, on words of 31 bits. A seat makes up to k
  *     calls, at most 4,096, and the closed log tells all of them in their order.
  *
- * The functions of this file are proved in crates/universal_c. What a caller owes is written here, and nothing checks it.
+ * The functions of this file stand in crates/universal_c; docs/bindings.md says what is proved of each. Only tested: when memory is
+ * refused, and that a call takes no memory and no lock. That all calls have one order is a law of every execution; what closing an
+ * object says is of the calls of the seat that closes it. What a caller owes is written here, and nothing checks it.
  *
  * What a caller owes:
  *   - A handle begins as UNIVERSAL_NONE. Only these functions change it, and it is never copied: of two copies the
@@ -265,8 +267,8 @@ typedef enum universal_operation {
 
 /* Opens an object by a program, for n processes: its state begins as the `words` words of `start`, an invocation has `invocation`
  * words, and a reply `reply`. `code` are the fields of instructions, `count` words, five of each instruction. All is copied.
- * universal_program.h writes programs. A call ends after as many steps as there are instructions, times one more than the `left`
- * of all AGAINs together.
+ * universal_program.h writes programs. The program ends after at most as many steps as there are instructions, times one more than
+ * the `left` of all AGAINs together. A call may run it up to 3n times, also for the calls of other processes.
  *
  * UNIVERSAL_BAD_COUNT; UNIVERSAL_NO_OPERATION; then, of the first instruction that is wrong, the first of UNIVERSAL_NO_REGISTER,
  * UNIVERSAL_NO_PLACE, UNIVERSAL_JUMPS_BACK, UNIVERSAL_NO_TARGET, UNIVERSAL_GOES_FORWARD, UNIVERSAL_NO_LOOP: after each of these but
@@ -284,7 +286,7 @@ uint32_t universal_open_program(uint64_t n, const uint64_t *code, size_t count, 
 uint32_t universal_small_seat(universal_handle *object, universal_handle *seat, uint64_t *process);
 
 /* A call by a seat of a small object. Versions count from 0, the start; *version is one that the call is in, and greater than
- * each that the seat has had.
+ * each that the seat has had since it was opened or taken over; that it is greater than those before a take-over is in no clause.
  *
  * UNIVERSAL_WRONG_HANDLE: *seat has no seat of a small object. UNIVERSAL_BAD_WIDTH: the invocation or the reply hasn't as many
  * words as those of the object. UNIVERSAL_FULL: the seat has made 2^50 calls. In this order; after each nothing is changed. */
@@ -321,7 +323,8 @@ uint32_t universal_small_resume(universal_handle *seat, uint64_t made, uint64_t 
                                 uint64_t *version);
 
 /* Asks whether a version has come, by one load: *has_come is 1 or 0. 1: all later calls of this seat come after all calls that
- * are in that version. It is always 1 of a version that a call was answered, so that whoever was told so can rely on it.
+ * are in that version. Of a version that a call was answered it is 1 by a law of the rule (returned_has_come); no clause of this
+ * function says so. A program handles 0.
  *
  * UNIVERSAL_WRONG_HANDLE: *seat has no seat of a small object, and nothing is changed. */
 uint32_t universal_small_follows(universal_handle *seat, uint64_t version, uint32_t *has_come);
@@ -411,8 +414,8 @@ uint32_t universal_apply(universal_handle *seat, uint64_t inv, universal_reply *
 
 /* Asks whether a call stands in the log: the call `nth`, from 0, of a process, as that process counts its own calls. It
  * takes no lock and no memory. *is_there is 1 or 0. 1: it stands there, with all that its process made before it, and
- * all later calls of this seat come after it, in the log that is closed too. It is always 1 of a call that has returned,
- * so that whoever was told so can rely on it. 0 says nothing; it is 0 where there is no such process or call.
+ * all later calls of this seat come after it, in the log that is closed too. Of a call that has returned it is 1 by a law of
+ * the rule (returned_is_there); the clause of this function has that of the calls that the seat knows. 0 says nothing; it is 0 where there is no such process or call.
  *
  * UNIVERSAL_WRONG_HANDLE: *seat has no seat, and nothing is changed. */
 uint32_t universal_follows(universal_handle *seat, uint64_t process, uint64_t nth, uint32_t *is_there);

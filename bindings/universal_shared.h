@@ -171,7 +171,7 @@ uint32_t universal_shared_claim(universal_shared_segment *segment, int64_t proce
                                 universal_shared_last *last);
 
 /* A call, as universal_small_apply. What is asked for is written down before the call, and what was answered after it,
- * in the segment, for who claims the seat next. *version is greater than each that the seat has had.
+ * in the segment, for who claims the seat next. *version is greater than each that this owner has had.
  *
  * UNIVERSAL_WRONG_HANDLE: the seat was claimed by the process that this one was forked from. UNIVERSAL_BAD_WIDTH: the
  * invocation or the reply hasn't as many words as those of the object. UNIVERSAL_FULL: the seat has made 2^50 calls. In
