@@ -415,7 +415,8 @@ uint32_t universal_apply(universal_handle *seat, uint64_t inv, universal_reply *
 /* Asks whether a call stands in the log: the call `nth`, from 0, of a process, as that process counts its own calls. It
  * takes no lock and no memory. *is_there is 1 or 0. 1: it stands there, with all that its process made before it, and
  * all later calls of this seat come after it, in the log that is closed too. Of a call that has returned it is 1 by a law of
- * the rule (returned_is_there); the clause of this function has that of the calls that the seat knows. 0 says nothing; it is 0 where there is no such process or call.
+ * the rule (returned_is_there); the clause of this function has that of the calls that the seat knows. 0 says nothing;
+ * it is 0 where there is no such process or call.
  *
  * UNIVERSAL_WRONG_HANDLE: *seat has no seat, and nothing is changed. */
 uint32_t universal_follows(universal_handle *seat, uint64_t process, uint64_t nth, uint32_t *is_there);
