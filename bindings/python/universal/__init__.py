@@ -1,8 +1,8 @@
 """Shared objects that no thread can hold up.
 
-`universal.small` has a counter, a register, a queue, a stack, a map and more on words of 64 bits, whose seats make calls
-without end; `universal.program` has objects of your own. A `Log` is a tally, a sticky register, a register or a machine of two tables on words of 31 bits, and tells all
-its calls in the end.
+`universal.small` has a counter, a register, a queue, a stack, a map and more on words of 64 bits, whose seats make up
+to 2^50 calls; `universal.program` has objects of your own. A `Log` is a tally, a sticky register, a register or a
+machine of two tables on words of 31 bits, and tells all its calls in the end.
 
 A `Log` is an object that n processes share. It gives out a `Seat` for each, and a seat makes up to k calls. A call
 takes no lock of its own and no memory, and ends within 12n + 15 steps on shared words, whatever the other threads do.
@@ -12,7 +12,7 @@ The last seat closes the log and gets all calls in their one order.
         seats = log.seats()
     in_threads(seats, lambda seat: seat.apply(5))   # [Entry(seq=2, process=.., nth=0, inv=5, reply=0), ..]
 
-The functions behind this module are proved; this module is not. A call keeps the interpreter's lock, so a seat is in one
+What is proved of the functions behind this module is in docs/bindings.md; this module is tested. A call keeps the interpreter's lock, so a seat is in one
 call at a time, and no exception of a signal handler comes between its parts. Where an interpreter has no such lock, a
 seat that a second thread uses meanwhile is refused as `BUSY`. The library `libuniversal.so` is the one that the
 variable `UNIVERSAL_LIBRARY` names, or else the one in the package, where `pip install bindings/python` puts it.

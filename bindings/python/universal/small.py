@@ -1,4 +1,4 @@
-"""Objects on words of 64 bits, whose seats make calls without end: `Counter`, `Register`, `Counters`, `Queue`, `Stack`,
+"""Objects on words of 64 bits: `Counter`, `Register`, `Counters`, `Queue`, `Stack`,
 `Map`, `Book` and `Machine`.
 
 `open` of a class gives a `Small`, the object for n processes, with its seats of that class:
