@@ -1,8 +1,9 @@
 //! Shared objects that no thread can hold up.
 //!
-//! [`small`] has a counter, a register, a queue, a stack, a map and more on words of 64 bits, whose seats make calls
-//! without end, and [`program`] has objects of your own. A [`Log`] is a tally, a sticky register, a register or a machine of two tables on words of 31 bits, and
-//! tells all its calls in the end. In [`shared`] processes share the objects of [`small`], and any may be killed.
+//! [`small`] has a counter, a register, a queue, a stack, a map and more on words of 64 bits, whose seats make 2^50 calls
+//! each at most, and [`program`] has objects of your own. A [`Log`] is a tally, a sticky register, a register or a machine of
+//! two tables on words of 31 bits, and tells all its calls in the end. In [`shared`] processes share the objects of [`small`],
+//! and any may be killed.
 //!
 //! A [`Log`] is an object that `n` processes share. It gives out a [`Seat`] for each, and a seat makes up to `k`
 //! calls, from any thread. A call takes no lock and no memory, and ends within `12n + 15` steps on shared words,

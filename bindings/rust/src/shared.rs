@@ -1,8 +1,9 @@
 //! Objects on words of 64 bits that processes of the operating system share, and that no dead one holds up.
 //!
 //! A process may be killed at any instruction: the calls of the others return as before. A [`SharedSeat`] whose process died can be
-//! claimed anew, and a claim tells how many calls its owners made, with the words of the last one and of its reply ([`Last`]). So each
-//! call is made exactly once, whatever dies. Linux on x86-64 alone.
+//! claimed anew, and a claim tells how many calls its owners made, with the words of the last one and of its reply ([`Last`]). So no
+//! call is made twice, or half; one that hadn't begun is made by nobody, until who claims the seat makes it. Linux on
+//! x86-64 alone.
 //!
 //! ```
 //! use std::num::NonZeroU64;

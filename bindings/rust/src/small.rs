@@ -1,4 +1,4 @@
-//! Objects on words of 64 bits, whose seats make calls without end.
+//! Objects on words of 64 bits, whose seats make 2^50 calls each at most.
 //!
 //! [`Counter`], [`Register`], [`Counters`], [`Queue`], [`Stack`], [`Map`], [`Book`] and [`Machine`] are seats. `open`
 //! gives a [`Small`], the object with its seats. A call comes with a version: a number of the object's state, in which the

@@ -22,8 +22,8 @@ import fednayup.universal.Universal.Handle;
  * {@code attach} in each other process. Its seats have the calls of {@link Small}'s. Linux on x86-64 alone.
  *
  * <p>A process may be killed at any instruction: the calls of the others return as before. A seat whose process died can be claimed
- * anew, and who claims it is told how many calls its owners made, with the words of the last one and of its reply. So each call is
- * made exactly once, whatever dies.
+ * anew, and who claims it is told how many calls its owners made, with the words of the last one and of its reply. So no call is
+ * made twice, or half; one that hadn't begun is made by nobody, until who claims the seat makes it.
  *
  * <p>The code of the objects is proved; this class and {@code universal_shared.c} are tested.
  */

@@ -19,7 +19,7 @@ import fednayup.universal.Universal.Handle;
 
 /**
  * A small object that n processes share, on words of 64 bits, with the seats that are still to be given out. {@code open} of
- * the class of its seats gives one, as {@code Small.Queue.open(4, 100)}. Its seats make calls without end.
+ * the class of its seats gives one, as {@code Small.Queue.open(4, 100)}. A seat makes 2^50 calls at most.
  *
  * <p>A call takes no lock of the library and no memory. It comes with a version: a number of the object's state, in which the
  * call is. Who is told a version, by whatever means, can follow it.
