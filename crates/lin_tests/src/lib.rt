@@ -6,4 +6,6 @@ mod bad_lines;
 #[cfg(test)]
 mod objects;
 #[cfg(test)]
+mod pictures;
+#[cfg(test)]
 mod verdicts;
