@@ -1,5 +1,5 @@
 -- What a finding says of a history, and what is written of it.
-use Rattle.std.proofs.Common.{◌≡◌, ◌⊎◌, inl, inr, ◌++◌, ◌+◌, ◌<◌, ℕ, List, Option, Some, None, IfSome, arith, length, take}
+use Rattle.std.proofs.Common.{◌≡◌, ◌++◌, ◌+◌, ◌<◌, ℕ, List, Option, Some, None, IfSome, arith, length, take}
 use Rattle.std.specs.Io.KnownBytes.{Appends}
 use Rattle.seq_object.specs.Sequential.{Sequential}
 use Rattle.lin_check.specs.declared.event.Event.{Event}
@@ -7,9 +7,7 @@ use Rattle.lin_check.specs.Verdicts.{IsLinearizable}
 use Rattle.history_picture.specs.Picture.{IsPageOf, IsPictureOf}
 use Rattle.history_picture.specs.declared.scene.Scene.{Scene}
 use Rattle.unicheck_run.specs.Found.{IsFirstBadIf, IsFound, status_of, verdict, verdict_line}
-use Rattle.unicheck_run.specs.Judged.{Says, Titles, Writes, WritesLine, WritesPage, WritesPicture, WritesVerdict, no_line, yes_line}
-use Rattle.unicheck_run.specs.declared.words.Form.{Form}
-use Rattle.unicheck_run.specs.declared.words.Form.TheVariants.{Lines, Order, Svg, Html}
+use Rattle.unicheck_run.specs.Judged.{Says, Titles, WritesLine, WritesPage, WritesPicture, no_line, yes_line}
 use Rattle.unicheck_run.specs.declared.judging.Finding.{Finding}
 use Rattle.unicheck_run.specs.declared.judging.Finding.TheVariants.{Linearizable, NotLinearizable, GaveUp}
 
@@ -52,20 +50,3 @@ wrote_picture scene svg finding old new status drawn a title e = (scene, svg, dr
 pub wrote_page : (scene : Scene) (page : List ℕ) (finding : Finding) (old new : Option (List ℕ)) (status : ℕ) → IsPageOf scene page → Appends old new page
     → scene.title.items ≡ verdict finding → status ≡ status_of finding → WritesPage status old new
 wrote_page scene page finding old new status drawn a title e = (scene, page, drawn, titles_of scene finding status title e, a)
-
--- what is written with another status isn't told
-pub writes_nothing : (form : Form) (old new : Option (List ℕ)) (status : ℕ) → 1 < status → Writes form status old new
-writes_nothing Lines old new status more = (λ z. absurd (omega arith), λ z. absurd (omega arith))
-writes_nothing Order old new status more = (λ z. absurd (omega arith), λ z. absurd (omega arith))
-writes_nothing Svg old new status more = λ z. absurd (omega arith)
-writes_nothing Html old new status more = λ z. absurd (omega arith)
-
--- a form of lines, and a picture
-pub writes_lines : (form : Form) (old new : Option (List ℕ)) (status : ℕ) → (form ≡ Lines) ⊎ (form ≡ Order) → WritesVerdict status old new → Writes form status old new
-writes_lines form old new status (inl e) h = rw e h
-writes_lines form old new status (inr e) h = rw e h
-
-pub writes_drawn : (form : Form) (old new : Option (List ℕ)) (status : ℕ) → (form ≡ Svg) ⊎ (form ≡ Html)
-    → (form ≡ Svg → WritesPicture status old new) → (form ≡ Html → WritesPage status old new) → Writes form status old new
-writes_drawn form old new status (inl e) picture page = rw e (λ z. picture e)
-writes_drawn form old new status (inr e) picture page = rw e (λ z. page e)

@@ -1,4 +1,4 @@
-use Rattle.std.proofs.Common.{◌∙◌, List, ℕ, subst}
+use Rattle.std.proofs.Common.{List, ℕ, subst}
 use Rattle.std.specs.Io.KnownBytes.{Appends}
 use Rattle.unicheck_run.specs.Found.{IsFound}
 use Rattle.unicheck_run.proofs.Saying.{says_of, wrote_page, wrote_picture}
