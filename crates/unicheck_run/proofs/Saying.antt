@@ -4,8 +4,10 @@ use Rattle.std.specs.Io.KnownBytes.{Appends}
 use Rattle.seq_object.specs.Sequential.{Sequential}
 use Rattle.lin_check.specs.declared.event.Event.{Event}
 use Rattle.lin_check.specs.Verdicts.{IsLinearizable}
-use Rattle.unicheck_run.specs.Found.{IsFirstBadIf, IsFound, status_of, verdict_line}
-use Rattle.unicheck_run.specs.Judged.{Says, WritesLine, no_line, yes_line}
+use Rattle.history_picture.specs.Picture.{IsPageOf, IsPictureOf}
+use Rattle.history_picture.specs.declared.scene.Scene.{Scene}
+use Rattle.unicheck_run.specs.Found.{IsFirstBadIf, IsFound, status_of, verdict, verdict_line}
+use Rattle.unicheck_run.specs.Judged.{Says, Titles, WritesLine, WritesPage, WritesPicture, no_line, yes_line}
 use Rattle.unicheck_run.specs.declared.judging.Finding.{Finding}
 use Rattle.unicheck_run.specs.declared.judging.Finding.TheVariants.{Linearizable, NotLinearizable, GaveUp}
 
@@ -34,3 +36,17 @@ pub wrote_no : (finding : Finding) (details : List ℕ) (old new : Option (List 
 wrote_no (Linearizable order) details old new status a e z = absurd (omega arith)
 wrote_no (NotLinearizable first) details old new status a e z = (details, a)
 wrote_no GaveUp details old new status a e z = absurd (omega arith)
+
+-- the title of a picture tells the status
+titles_of : (scene : Scene) (finding : Finding) (status : ℕ) → scene.title.items ≡ verdict finding → status ≡ status_of finding → Titles scene status
+titles_of scene (Linearizable order) status title e = (λ z. title, λ z. absurd (omega arith))
+titles_of scene (NotLinearizable first) status title e = (λ z. absurd (omega arith), λ z. title)
+titles_of scene GaveUp status title e = (λ z. absurd (omega arith), λ z. absurd (omega arith))
+
+pub wrote_picture : (scene : Scene) (svg : List ℕ) (finding : Finding) (old new : Option (List ℕ)) (status : ℕ) → IsPictureOf scene svg → Appends old new svg
+    → scene.title.items ≡ verdict finding → status ≡ status_of finding → WritesPicture status old new
+wrote_picture scene svg finding old new status drawn a title e = (scene, svg, drawn, titles_of scene finding status title e, a)
+
+pub wrote_page : (scene : Scene) (page : List ℕ) (finding : Finding) (old new : Option (List ℕ)) (status : ℕ) → IsPageOf scene page → Appends old new page
+    → scene.title.items ≡ verdict finding → status ≡ status_of finding → WritesPage status old new
+wrote_page scene page finding old new status drawn a title e = (scene, page, drawn, titles_of scene finding status title e, a)

@@ -29,7 +29,12 @@ status_of (Linearizable order) = 0
 status_of (NotLinearizable first) = 1
 status_of GaveUp = 5
 
--- the first line of what is written of it
+-- what is found, in words, and the first line of what is written of it
+abbrev pub verdict : Finding → List ℕ
+verdict (Linearizable order) = codes "linearizable"
+verdict (NotLinearizable first) = codes "not linearizable"
+verdict GaveUp = codes "gave up"
+
 abbrev pub verdict_line : Finding → List ℕ
 verdict_line (Linearizable order) = codes "linearizable" ++ 10 ∷ []
 verdict_line (NotLinearizable first) = codes "not linearizable" ++ 10 ∷ []

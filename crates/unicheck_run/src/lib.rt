@@ -3,10 +3,11 @@
 #![tactic(auto)]
 
 mod judging;
+mod picture;
 mod program;
 mod report;
 mod words;
 
 pub use judging::{Finding, judge};
 pub use program::{judge_text, run};
-pub use words::{ObjectName, Request};
+pub use words::{Form, ObjectName, Request};

@@ -1,12 +1,16 @@
 //! The program over its ends, and its statuses.
 
 ghost use Rattle.std.specs.Prelude.{◌≡◌, ◌⊎◌, ◌++◌, IfOk};
+ghost use Rattle.history_picture.specs.Picture.{IsPageOf, IsPictureOf};
 ghost use Rattle.unicheck_run.specs.Found.{status_of, verdict_line};
-ghost use Rattle.unicheck_run.specs.Judged.{Says, SaysBy, SaysOfText, WritesLine, no_line, yes_line};
+ghost use Rattle.unicheck_run.specs.Judged.{Says, SaysBy, SaysOfText, Writes, WritesLine, WritesPage};
+ghost use Rattle.unicheck_run.specs.Judged.{WritesPicture, no_line, yes_line};
 
 use crate::judging::{Finding, judge};
+use crate::picture::scene_of;
 use crate::report::{first_bad_text, order_text, verdict_line};
-use crate::words::{ObjectName, Request, matches_of, request_in};
+use crate::words::{Form, ObjectName, Request, matches_of, request_in};
+use history_picture::{PictureError, Scene, page_of_scene, svg_of_scene};
 use history_text::{Fault, History, ReadError, read_history};
 use judged_objects::{Counter, Map, Queue, Register, Set, Stack, Worded};
 use std::alloc::{AllocError, Global};
@@ -35,7 +39,7 @@ fn details_of<O: Worded>(
     finding: &Finding,
 ) -> Result<Vec<u8>, AllocError> {
     match finding {
-        Finding::Linearizable(order) if request.with_order => {
+        Finding::Linearizable(order) if request.form == Form::Order => {
             order_text::<O>(alloc, lines, history, order.as_slice())
         }
         Finding::NotLinearizable(Some(place)) => {
@@ -65,11 +69,25 @@ enum Stop {
     Output,
     /// Memory was refused.
     Memory,
+    /// The history has too many calls for a picture.
+    TooManyCalls,
+    /// The drawing doesn't show the history. None is known of which it is so.
+    Misdrawn,
 }
 
 impl From<AllocError> for Stop {
     fn from(_: AllocError) -> Stop {
         Stop::Memory
+    }
+}
+
+impl From<PictureError> for Stop {
+    fn from(error: PictureError) -> Stop {
+        match error {
+            PictureError::TooManyCalls => Stop::TooManyCalls,
+            PictureError::Memory => Stop::Memory,
+            PictureError::Disorderly | PictureError::Misdrawn => Stop::Misdrawn,
+        }
     }
 }
 
@@ -95,6 +113,14 @@ fn tell_stop<F: Write>(why: Stop, faults: &mut F) -> u8
         Stop::Memory => {
             let _ = writeln!(faults, "out of memory");
             4
+        }
+        Stop::TooManyCalls => {
+            let _ = writeln!(faults, "too many calls for a picture: at most 400");
+            2
+        }
+        Stop::Misdrawn => {
+            let _ = writeln!(faults, "the picture does not show the history");
+            3
         }
     }
 }
@@ -126,6 +152,72 @@ fn tell_finding<O: Worded, W: Write>(
     }
 }
 
+/// The picture of a scene, or a page with it.
+fn picture_of(alloc: Global, form: Form, scene: &Scene) -> Result<Vec<u8>, PictureError>
+    ensures picture { IfOk result (λ svg. form ≡ Form.Svg → IsPictureOf scene.now svg.items) }
+    ensures page { IfOk result (λ page. form ≡ Form.Html → IsPageOf scene.now page.items) }
+{
+    match form {
+        Form::Html => page_of_scene(alloc, scene),
+        _ => svg_of_scene(alloc, scene),
+    }
+}
+
+/// Judges a history that was read from a text, and writes its picture, or a page with it; the answer is the status.
+///
+/// An `Err` says that the history has too many calls, that the output failed, or that memory was refused.
+fn draw_finding<O: Worded, W: Write>(
+    alloc: Global,
+    object: &O,
+    request: Request,
+    text: &[u8],
+    history: &History<O::Inv, O::Resp>,
+    output: &mut W,
+) -> Result<u8, Stop>
+    ensures said { IfOk result (Says (O.sequential object.now) history.now.events.items) }
+    ensures picture { IfOk result (λ status. request.form ≡ Form.Svg
+        → WritesPicture status (W.contents output.old) (W.contents output.new)) }
+    ensures page { IfOk result (λ status. request.form ≡ Form.Html
+        → WritesPage status (W.contents output.old) (W.contents output.new)) }
+{
+    let finding = judge(alloc, object, history.events.as_slice(), request.rounds)?;
+    let lines: Vec<&[u8]> = text.split(|byte| *byte == b'\n').collect(alloc)?;
+    let scene = scene_of(
+        alloc,
+        object,
+        lines.as_slice(),
+        history,
+        &finding,
+        request.rounds,
+    )?;
+    let written = picture_of(alloc, request.form, &scene)?;
+    match output.write_all(written.as_slice()) {
+        Ok(()) => Ok(status_of(&finding)),
+        Err(_) => Err(Stop::Output),
+    }
+}
+
+/// Judges a history that was read from a text, and writes what is asked for; the answer is the status.
+///
+/// An `Err` says that there are too many calls for a picture, that the output failed, or that memory was refused.
+fn tell<O: Worded, W: Write>(
+    alloc: Global,
+    object: &O,
+    request: Request,
+    text: &[u8],
+    history: &History<O::Inv, O::Resp>,
+    output: &mut W,
+) -> Result<u8, Stop>
+    ensures said { IfOk result (Says (O.sequential object.now) history.now.events.items) }
+    ensures written { IfOk result (λ status.
+        Writes request.form status (W.contents output.old) (W.contents output.new)) }
+{
+    match request.form {
+        Form::Lines | Form::Order => tell_finding(alloc, object, request, text, history, output),
+        Form::Svg | Form::Html => draw_finding(alloc, object, request, text, history, output),
+    }
+}
+
 /// Judges the history that a text is by an object, and writes what is found; the answer is the status.
 fn judge_by<O: Worded, W: Write, F: Write>(
     alloc: Global,
@@ -136,15 +228,14 @@ fn judge_by<O: Worded, W: Write, F: Write>(
     faults: &mut F,
 ) -> u8
     ensures said { SaysOfText (O.sequential object.now) O.wording text.now result }
-    ensures linearizable { result ≡ 0 → WritesLine yes_line (W.contents output.old) (W.contents output.new) }
-    ensures not_linearizable { result ≡ 1 → WritesLine no_line (W.contents output.old) (W.contents output.new) }
+    ensures written { Writes request.form result (W.contents output.old) (W.contents output.new) }
 {
     let history = match read_history::<O>(alloc, text) {
         Ok(history) => history,
         Err(ReadError::Refused(fault)) => return tell_stop(Stop::Refused(fault), faults),
         Err(ReadError::Memory) => return tell_stop(Stop::Memory, faults),
     };
-    match tell_finding(alloc, object, request, text, &history, output) {
+    match tell(alloc, object, request, text, &history, output) {
         Ok(status) => status,
         Err(why) => tell_stop(why, faults),
     }
@@ -152,9 +243,9 @@ fn judge_by<O: Worded, W: Write, F: Write>(
 
 /// Judges the history that a text is, and writes what is found; the answer is the status.
 ///
-/// It is 0 where the history is linearizable, 1 where it isn't, 2 where a line is refused, 3 where the output failed, 4
-/// where memory was refused, and 5 where a search gave up. Why the status is 2, 3 or 4 goes to `faults`, as far as that
-/// takes it.
+/// It is 0 where the history is linearizable, 1 where it isn't, 2 where a line is refused or where there are too many
+/// calls for a picture, 3 where the output failed, 4 where memory was refused, and 5 where a search gave up. Why the
+/// status is 2, 3 or 4 goes to `faults`, as far as that takes it.
 pub fn judge_text<W: Write, F: Write>(
     alloc: Global,
     request: Request,
@@ -163,8 +254,7 @@ pub fn judge_text<W: Write, F: Write>(
     faults: &mut F,
 ) -> u8
     ensures said { SaysBy request.object text.now result }
-    ensures linearizable { result ≡ 0 → WritesLine yes_line (W.contents output.old) (W.contents output.new) }
-    ensures not_linearizable { result ≡ 1 → WritesLine no_line (W.contents output.old) (W.contents output.new) }
+    ensures written { Writes request.form result (W.contents output.old) (W.contents output.new) }
 {
     match request.object {
         ObjectName::Queue => judge_by(alloc, &Queue, request, text, output, faults),

@@ -1,7 +1,7 @@
 //! The text of a finding.
 
 ghost use Rattle.std.specs.Prelude.{◌≡◌};
-ghost use Rattle.unicheck_run.specs.Found.{verdict_line};
+ghost use Rattle.unicheck_run.specs.Found.{verdict, verdict_line};
 
 use crate::judging::Finding;
 use history_text::History;
@@ -50,7 +50,10 @@ pub(crate) fn order_text<O: Worded>(
 }
 
 /// The place of the pending call of a process, after these events.
-fn pending_call<O: Worded>(events: &[Event<O::Inv, O::Resp>], process: usize) -> Option<usize> {
+pub(crate) fn pending_call<O: Worded>(
+    events: &[Event<O::Inv, O::Resp>],
+    process: usize,
+) -> Option<usize> {
     for (place, event) in events.iter().enumerate().rev() {
         if event.process() == process {
             return match event {
@@ -123,6 +126,17 @@ pub(crate) fn first_bad_text<O: Worded>(
         text.push(b'\n')?;
     }
     Ok(text)
+}
+
+/// What is found, in words.
+pub(crate) fn verdict(finding: &Finding) -> &'static str
+    ensures { result.now ≡ verdict finding.now }
+{
+    match finding {
+        Finding::Linearizable(_) => "linearizable",
+        Finding::NotLinearizable(_) => "not linearizable",
+        Finding::GaveUp => "gave up",
+    }
 }
 
 /// The first line of what is written of a finding.

@@ -41,9 +41,14 @@ Status:
   3 where the input or the output failed, 4 where memory was refused, 5 where
   the search gave up.
 
+With --svg or --html a browser shows a lane for each process, a bar for each call
+and a dot where it takes effect; in red the call with whose reply no order is
+left. More than 400 calls are refused with status 2.
+
 Examples:
   unicheck queue history.txt
-  unicheck --order map < history.txt";
+  unicheck --order map < history.txt
+  unicheck --svg queue history.txt > history.svg";
 
 /// An object that a history can be judged by.
 #[derive(Clone, Copy, Debug, PartialEq, Eq)]
@@ -77,13 +82,26 @@ impl ObjectName {
     }
 }
 
+/// What is written of a finding.
+#[derive(Clone, Copy, Debug, PartialEq, Eq)]
+pub enum Form {
+    /// Lines.
+    Lines,
+    /// Lines, and an order of the calls where there is one.
+    Order,
+    /// A picture, as the text of an SVG.
+    Svg,
+    /// A page that shows it.
+    Html,
+}
+
 /// How a history is judged.
 #[derive(Clone, Copy, Debug)]
 pub struct Request {
     /// By which object.
     pub object: ObjectName,
-    /// Whether the order is told.
-    pub with_order: bool,
+    /// What is written.
+    pub form: Form,
     /// How many rounds a search has at most.
     pub rounds: u64,
 }
@@ -98,23 +116,33 @@ fn rounds_option<'a>(alloc: Global) -> Arg<'a> {
         .value_parser(ValueParser::Unsigned(0, u64::MAX))
 }
 
+/// An option that is there or isn't.
+fn flag<'a>(alloc: Global, name: &'a str, help: &'a str) -> Arg<'a> {
+    Arg::new(alloc, name)
+        .long(name)
+        .action(ArgAction::SetTrue)
+        .help(help)
+}
+
 /// The command line of the program.
 fn unicheck<'a>(alloc: Global) -> Result<Command<'a>, AllocError> {
     let object = Arg::new(alloc, "OBJECT")
         .required(true)
         .help("One of queue, stack, register, counter, map and set");
     let file = Arg::new(alloc, "FILE").help("The history; - or nothing is standard input");
-    let order = Arg::new(alloc, "order")
-        .long("order")
-        .action(ArgAction::SetTrue)
-        .help("Tells an order of the calls, where there is one");
     Command::new(alloc, "unicheck")
         .version(VERSION)
         .about("Judges whether a recorded history is linearizable")
         .after_help(NOTES)
         .arg(object)?
         .arg(file)?
-        .arg(order)?
+        .arg(flag(
+            alloc,
+            "order",
+            "Tells an order of the calls, where there is one",
+        ))?
+        .arg(flag(alloc, "svg", "Draws the history, as the text of an SVG"))?
+        .arg(flag(alloc, "html", "Draws it in a page"))?
         .arg(rounds_option(alloc))
 }
 
@@ -126,9 +154,21 @@ pub(crate) fn matches_of<'a, S: AsStr>(
     unicheck(alloc)?.try_get_matches_from(words)
 }
 
+/// What is to be written; `None` where matches ask for two forms at once.
+fn form_in(matches: &ArgMatches<'_>) -> Option<Form> {
+    let is_set = |name: &str| matches.get_str(name) == Some("true");
+    match (is_set("order"), is_set("svg"), is_set("html")) {
+        (false, false, false) => Some(Form::Lines),
+        (true, false, false) => Some(Form::Order),
+        (false, true, false) => Some(Form::Svg),
+        (false, false, true) => Some(Form::Html),
+        _ => None,
+    }
+}
+
 /// What matches ask for.
 ///
-/// An `Err` says that there is no such object, or that memory was refused.
+/// An `Err` says that there is no such object, that two forms are asked for, or that memory was refused.
 pub(crate) fn request_in(alloc: Global, matches: &ArgMatches<'_>) -> Result<Request, clap::Error> {
     let object = matches
         .get_str("OBJECT")
@@ -136,12 +176,16 @@ pub(crate) fn request_in(alloc: Global, matches: &ArgMatches<'_>) -> Result<Requ
     let rounds = matches
         .get_str("rounds")
         .and_then(|text| text.parse::<u64>().ok());
-    match (object, rounds) {
-        (Some(object), Some(rounds)) => Ok(Request {
+    match (object, rounds, form_in(matches)) {
+        (Some(object), Some(rounds), Some(form)) => Ok(Request {
             object,
-            with_order: matches.get_str("order") == Some("true"),
+            form,
             rounds,
         }),
+        (_, _, None) => Err(unicheck(alloc)?.error(
+            ErrorKind::ArgumentConflict,
+            "only one of --order, --svg and --html can be used",
+        )?),
         _ => Err(unicheck(alloc)?.error(
             ErrorKind::InvalidValue,
             "OBJECT is one of queue, stack, register, counter, map and set",
