@@ -32,6 +32,7 @@ __all__ = ["BadProgram", "Label", "Program", "ProgramCalls", "ProgramSeat", "Reg
 
 _REGISTERS = 14  # of 16; the last two take the numbers that an instruction names
 _SET, _LOAD, _STORE, _ANSWER, _CHECKED, _WRAPPING, _JUMP, _AGAIN = 0x10, 0x20, 0x30, 0x32, 0x40, 0x50, 0x60, 0x70
+_ADD, _SUBTRACT, _MULTIPLY, _DIVIDE, _REMAINDER = range(5)
 _ALWAYS, _EQUAL, _NOT_EQUAL, _LESS, _AT_MOST = range(5)
 
 
@@ -68,41 +69,38 @@ class Register:
         else:
             self._program._write(_SET, self._number, _number(value, 64))
 
-    def _made(self, by: int, left: Value, right: Value, to: Register | None = None) -> Register:
-        return self._program.compute(by, left, right, to)
-
     def __add__(self, other: Value) -> Register:
-        return self._made(0, self, other)
+        return self._program.compute(_ADD, self, other)
 
     def __radd__(self, other: int) -> Register:
-        return self._made(0, other, self)
+        return self._program.compute(_ADD, other, self)
 
     def __sub__(self, other: Value) -> Register:
-        return self._made(1, self, other)
+        return self._program.compute(_SUBTRACT, self, other)
 
     def __rsub__(self, other: int) -> Register:
-        return self._made(1, other, self)
+        return self._program.compute(_SUBTRACT, other, self)
 
     def __mul__(self, other: Value) -> Register:
-        return self._made(2, self, other)
+        return self._program.compute(_MULTIPLY, self, other)
 
     def __rmul__(self, other: int) -> Register:
-        return self._made(2, other, self)
+        return self._program.compute(_MULTIPLY, other, self)
 
     def __floordiv__(self, other: Value) -> Register:
-        return self._made(3, self, other)
+        return self._program.compute(_DIVIDE, self, other)
 
     def __mod__(self, other: Value) -> Register:
-        return self._made(4, self, other)
+        return self._program.compute(_REMAINDER, self, other)
 
     def __iadd__(self, other: Value) -> Register:
-        return self._made(0, self, other, self)
+        return self._program.compute(_ADD, self, other, self)
 
     def __isub__(self, other: Value) -> Register:
-        return self._made(1, self, other, self)
+        return self._program.compute(_SUBTRACT, self, other, self)
 
     def __imul__(self, other: Value) -> Register:
-        return self._made(2, self, other, self)
+        return self._program.compute(_MULTIPLY, self, other, self)
 
     def __eq__(self, other: object) -> Test:  # type: ignore[override]
         return Test(_EQUAL, self, other)
@@ -220,15 +218,15 @@ class Program:
 
     def add(self, left: Value, right: Value, otherwise: Label) -> Register:
         """The sum; where it is no number of 64 bits, the program goes on at the label."""
-        return self.compute(0, left, right, None, otherwise)
+        return self.compute(_ADD, left, right, None, otherwise)
 
     def subtract(self, left: Value, right: Value, otherwise: Label) -> Register:
         """The difference; where it is below 0, the program goes on at the label."""
-        return self.compute(1, left, right, None, otherwise)
+        return self.compute(_SUBTRACT, left, right, None, otherwise)
 
     def multiply(self, left: Value, right: Value, otherwise: Label) -> Register:
         """The product; where it is no number of 64 bits, the program goes on at the label."""
-        return self.compute(2, left, right, None, otherwise)
+        return self.compute(_MULTIPLY, left, right, None, otherwise)
 
     def wrapping_add(self, left: Value, right: Value) -> Register:
         """The sum modulo 2^64."""
