@@ -259,8 +259,9 @@ impl<O: SmallObject> SmallSeat<O> {
     /// versions are greater. The answer is `true` exactly where the present version is at least the one
     /// that was asked for.
     ///
-    /// A version that an answer had has come: whoever was told of a call's version, by whatever means, and
-    /// follows it, makes its later calls come after that call.
+    /// A version that an answer had has come: the law `returned_has_come` says so, and no clause of this call.
+    /// So whoever was told of a call's version, by whatever means, and follows it, makes its later calls come
+    /// after that call.
     pub fn follows(&mut self, shared: &SmallShared<O>, version: u64) -> bool
         requires seat { IsSeatOf shared.now self.old }
         ensures kept { IsSeatOf shared.now self.new × (calls_of self.new ≡ calls_of self.old) }

@@ -6,8 +6,9 @@ use crate::seat::{Seen, SmallSeat};
 use crate::view::View;
 use atomic_table::Seat;
 
-/// A process's place at the object that has no owner: its owner has left it, or has stopped for good, at any step
-/// of any call. Nothing is known of where it stands but that its call, if it is in one, was announced.
+/// A process's place at the object that has no owner: its owner has left it, or has stopped for good. Where it
+/// stopped isn't known: at any step of a call that was announced, or between calls. In Rattle only `leave` makes an
+/// orphan, between calls; that a seat whose owner died is one is what the caller across processes answers for.
 #[derive(Drop)]
 pub struct SmallOrphan<O> {
     pub(crate) seat: Seat<Seen, View<O>>,

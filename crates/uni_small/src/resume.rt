@@ -50,8 +50,8 @@ impl<O: SmallObject> SmallShared<O> {
         if s % 128 == 2 * p + 1 { 0 } else { 1 }
     }
 
-    /// Ends the call of process p that has begun, wherever it stood, by what the words of the table tell: what the
-    /// process kept for itself isn't read. The answer is a version in which the call is.
+    /// Ends the call of process p that has begun, wherever it stood, by what the words of the table tell. The answer
+    /// is a version in which the call is.
     pub(crate) fn resume(
         &self,
         seat: &mut Seat<Seen, View<O>>,
@@ -102,7 +102,7 @@ impl<O: SmallObject> SmallShared<O> {
     }
 
     /// Puts process p, of which no call has begun, before its next call, wherever it stood: between calls, or in a
-    /// direct attempt, which is given up. What the process kept for itself isn't read.
+    /// direct attempt, which is given up.
     pub(crate) fn rejoin(&self, seat: &mut Seat<Seen, View<O>>, p: u64, own: &mut Buffers)
         requires table { seat.old.table_id ≡ self.now.table.shared.table_id }
         requires inside { p < self.now.setup.sizes.processes }
@@ -130,8 +130,8 @@ impl<O: SmallObject> SmallShared<O> {
 impl<O: SmallObject> SmallOrphan<O> {
     /// Takes the seat over. Of its calls `made` have returned; if its former owner had begun one more, that is
     /// ended by what the shared words tell: its reply is written, and the answer has a version in which it is.
-    /// Else the answer has none, and the reply stays as it was. The seat goes on with its next call. What the former
-    /// owner kept for itself isn't read.
+    /// Else the answer has none, and the reply stays as it was. The seat goes on with its next call. An orphan has
+    /// nothing of what its former owner kept for itself: its handle and its number are all that it is made of.
     ///
     /// It returns after at most `take_over_steps` word steps, whatever the other seats do.
     ///

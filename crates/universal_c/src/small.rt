@@ -159,7 +159,7 @@ impl SmallOpened {
 impl SmallPlace {
     ghost use Rattle.universal_c.specs.SmallCalls.{AsksVersion, MakesCall};
 
-    /// Applies an invocation, and writes the reply: a version in which the call is. It takes no lock and no memory.
+    /// Applies an invocation, and writes the reply: a version in which the call is.
     /// Errors, in this order: the invocation or the reply hasn't as many words as those of the object; the seat
     /// has made 2^50 calls. After either nothing is changed.
     pub(crate) fn apply(

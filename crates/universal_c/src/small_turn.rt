@@ -124,7 +124,7 @@ fn apply_to(
     }
 }
 
-/// A call by a seat of a small object. It takes no lock and no memory.
+/// A call by a seat of a small object. It takes no lock and no memory; no clause says so.
 /// 0: it is done, the reply is written, and the version is one in which the call is. 7: the handle has no seat of
 /// a small object. 11: the invocation or the reply hasn't as many words as those of the object. 4: the seat has
 /// made 2^50 calls. In this order; after each but 0 nothing is changed, and there is no other status.
@@ -158,7 +158,7 @@ pub extern "C" fn universal_small_apply(
 }
 
 /// A call by a seat of a small object, which is announced at once: a seat that may be taken over in the midst of a
-/// call makes its calls by this one. It takes no lock and no memory.
+/// call makes its calls by this one. It takes no lock and no memory; no clause says so.
 /// 0: it is done, the reply is written, and the version is one in which the call is. 7: the handle has no seat of
 /// a small object. 11: the invocation or the reply hasn't as many words as those of the object. 4: the seat has
 /// made 2^50 calls. In this order; after each but 0 nothing is changed, and there is no other status.
@@ -207,7 +207,8 @@ fn ask(held: &mut Held, version: u64, has_come: &mut u32) -> u32
 }
 
 /// Asks whether a version of a small object has come: 1 or 0, by one load. 1 says that all later calls of this
-/// seat come after all calls that are in that version; a version that an answer had is answered 1.
+/// seat come after all calls that are in that version. A version that an answer had is answered 1: the law of the
+/// words says so (`returned_has_come` of `uni_small`), and no clause of this call.
 /// 0: it is done. 7: the handle has no seat of a small object, and nothing is changed.
 #[unsafe(no_mangle)]
 pub extern "C" fn universal_small_follows(

@@ -111,7 +111,7 @@ fn apply_to(held: &mut Held, inv: u64, answer: &mut Reply) -> u32
     }
 }
 
-/// A call by a seat. It takes no lock and no memory.
+/// A call by a seat. It takes no lock and no memory; no clause says so.
 /// 0: it is done. 4: the seat has made its k calls. 7: the handle has no seat. After 4 and 7 nothing is
 /// changed, and there is no other status.
 #[unsafe(no_mangle)]
@@ -155,7 +155,8 @@ fn ask(held: &mut Held, process: u64, nth: u64, is_there: &mut u32) -> u32
 }
 
 /// Asks whether the call `nth` of a process stands in the log: 1 or 0, by one load. 1 says that all later
-/// calls of this seat come after it; a call that has returned is answered 1.
+/// calls of this seat come after it. A call that has returned is answered 1: the law of the words says so
+/// (`returned_is_there` of `uni_words`), and no clause of this call.
 /// 0: it is done. 7: the handle has no seat, and nothing is changed.
 #[unsafe(no_mangle)]
 pub extern "C" fn universal_follows(

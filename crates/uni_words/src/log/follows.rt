@@ -11,8 +11,9 @@ use crate::seat::WordSeat;
 use seq_object::CallId;
 
 impl WordSeat {
-    /// Asks whether a call stands in the log: one load of its number. A call that has returned has one,
-    /// so whoever was told that it returned, by whatever means, is answered `true`.
+    /// Asks whether a call stands in the log: one load of its number. A call that has returned has one: the
+    /// law `returned_is_there` says so, and no clause of this call. So whoever was told that it returned, by
+    /// whatever means, is answered `true`.
     ///
     /// `true` says that it stands there, with all that its process made before it, and that all later
     /// calls of this seat come after it, in the log that is closed and in its run. `false` says nothing,
