@@ -1,5 +1,6 @@
 -- The step that announces a call.
-use Rattle.uni_any.proofs.Vocabulary.{AcceptsAll-append, Allows, AreWords, Block, Board, HasAnnounced, HasSeen, Image, Invoke, IsAt, IsBoard, IsHistory, IsTold, None, Option, Returned, Sequential, Some, [], ap, at_start, pending_of, ◌++◌, ◌∷◌, IsOf, IsReader, IsStageAt, List, Local, Mail, Mine, Posting, Ready, ShowsBoard, Sizes, Stage, Step, arith, call_frame, false, get_or-set_other, get_or-set_same, goes, in_of, inl, inr, keeps, length-set, local_of, made_of, number_cases, refl, set_at, set_at-cases, set_at_elsewhere, set_at_same, slice_index, slice_set, stage_of, subst, sym, with_local, ℕ, ◌+◌, ◌<◌, ◌∙◌, ◌≡◌, ◌≢◌, ◌≤◌}
+use Rattle.uni_any.proofs.Vocabulary.{AcceptsAll-append, AreWords, Block, Board, HasAnnounced, HasSeen, Image, Invoke, IsAt, IsBoard, IsHistory, IsTold, None, Option, Returned, Sequential, Some, [], ap, at_start, pending_of, ◌++◌, ◌∷◌, IsOf, IsReader, IsStageAt, List, Local, Mail, Mine, Posting, Ready, Sizes, Stage, Step, arith, call_frame, false, get_or-set_other, get_or-set_same, goes, in_of, inl, inr, keeps, length-set, local_of, made_of, number_cases, refl, set_at, set_at-cases, set_at_elsewhere, set_at_same, slice_index, slice_set, stage_of, subst, sym, with_local, ℕ, ◌+◌, ◌<◌, ◌∙◌, ◌≡◌, ◌≢◌, ◌≤◌}
+use Rattle.uni_any.specs.Laws.{Invokes, Moves}
 use Rattle.uni_any.proofs.Frame.{Found, Given, sound_with, step_law}
 use Rattle.uni_any.proofs.Ordering.{order_kept}
 use Rattle.uni_any.proofs.Slots.{slots_kept}
@@ -11,7 +12,7 @@ use Rattle.uni_any.proofs.Acts.{invoked_other, invoked_own}
 pub reader_goes : {I S R : Type 0} (sizes : Sizes) (g : Board I S R) (r : ℕ) (l : Local I S R) (stage : Stage I S R) → IsReader sizes g r l → IsReader sizes g r (goes l stage)
 reader_goes sizes g r l stage h = record { old = h.old; base = h.base; same = h.same; new = h.new; long = h.long; call = h.call; taken_most = h.taken_most }
 
-module _ {O I S R : Type 0} (meaning : O → Sequential S I R) (o : O) (sizes : Sizes) (slots id : ℕ) (me : Mine O I S R) (p number : ℕ) (st : Step (Mail I (Block S R))) (of : IsOf o sizes p me)
+module _ {O I S R : Type 0} (meaning : O → Sequential S I R) (o : O) (sizes : Sizes) (id : ℕ) (me : Mine O I S R) (p number : ℕ) (st : Step (Mail I (Block S R))) (of : IsOf o sizes p me)
     (inv : I) (stage : stage_of me ≡ Posting inv sizes.processes false) (number_is : number ≡ made_of me + 1) (few : number ≤ sizes.calls) where
   abbrev l : Local I S R
   l = local_of me
@@ -204,10 +205,13 @@ module _ {O I S R : Type 0} (meaning : O → Sequential S I R) (o : O) (sizes : 
           ];
         }
 
-    given : (x : ℕ) → Given (meaning o) sizes me local (slice_set words (1 + q0) number) homes (λ me'. HasAnnounced st me number me')
+    given : (x : ℕ) → Given (meaning o) sizes me g local (slice_set words (1 + q0) number) homes (Invokes q0 inv) (λ me'. HasAnnounced st me number me')
     given x = record {
       board = g';
       local' = goes l (Ready inv 0);
+      acts = Invoke q0 m inv ∷ [];
+      appended = refl;
+      made = refl;
       act = keeps;
       valid = tt;
       sound = sound_with (meaning o) sizes g g' local q0 (goes l (Ready inv 0)) f.sound board' others' mine' history'
@@ -220,6 +224,6 @@ module _ {O I S R : Type 0} (meaning : O → Sequential S I R) (o : O) (sizes : 
           λ k. (with_local me.0 (goes l (Ready (a k) 0)), me.1);
     }
 
-  pub announces : Allows (ShowsBoard meaning o sizes) slots id me (1 + p) (λ x. number) (λ x me'. HasAnnounced st me number me')
-  announces = subst (λ k. Allows (ShowsBoard meaning o sizes) slots id me (1 + k) (λ x. number) (λ x me'. HasAnnounced st me number me')) of.first
-      (step_law meaning o sizes slots id me (1 + q0) (λ x. number) (λ x me'. HasAnnounced st me number me') of.alone (λ g local words homes f fits. given g local words homes f 0))
+  pub announces : Moves meaning o sizes id me (1 + p) (λ x. number) (λ g found. Invokes p inv) (λ x me'. HasAnnounced st me number me')
+  announces = subst (λ k. Moves meaning o sizes id me (1 + k) (λ x. number) (λ g found. Invokes k inv) (λ x me'. HasAnnounced st me number me')) of.first
+      (step_law meaning o sizes id me (1 + q0) (λ x. number) (λ g found. Invokes q0 inv) (λ x me'. HasAnnounced st me number me') of.alone (λ g local words homes f fits. given g local words homes f 0))

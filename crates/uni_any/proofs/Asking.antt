@@ -1,12 +1,13 @@
 -- The load of S between calls.
-use Rattle.uni_any.proofs.Vocabulary.{Allows, Block, Board, HasAsked, Idle, IsBoard, IsOf, IsOrdered, IsStageAt, List, Local, Mail, Mine, Sequential, ShowsBoard, Sizes, Step, ap, arith, in_of, keeps, knows, local_of, mul-le-mul_right, refl, slice_index, slice_set, stage_of, subst, sym, version_in, ℕ, ◌*◌, ◌≡◌, ◌≤◌}
+use Rattle.uni_any.proofs.Vocabulary.{[], Block, Board, HasAsked, Idle, IsBoard, IsOf, IsOrdered, IsStageAt, List, append-nil, Local, Mail, Mine, Sequential, Sizes, Step, ap, arith, in_of, keeps, knows, local_of, mul-le-mul_right, refl, slice_index, slice_set, stage_of, subst, sym, version_in, ℕ, ◌*◌, ◌≡◌, ◌≤◌}
+use Rattle.uni_any.specs.Laws.{Moves, MakesNoAct}
 use Rattle.uni_any.proofs.Frame.{Found, Given, sound_with, step_law}
 use Rattle.uni_any.proofs.Ordering.{order_with, ordered_asked}
 use Rattle.uni_any.proofs.Posting.{words_same}
 use Rattle.uni_any.proofs.Takings.{history_taken}
 use mathlib.Core.Option.{Option as Maybe}
 
-module _ {O I S R : Type 0} (meaning : O → Sequential S I R) (o : O) (sizes : Sizes) (slots id : ℕ) (me : Mine O I S R) (p : ℕ) (of : IsOf o sizes p me) (idle : stage_of me ≡ Idle) (st : Step (Mail I (Block S R))) where
+module _ {O I S R : Type 0} (meaning : O → Sequential S I R) (o : O) (sizes : Sizes) (id : ℕ) (me : Mine O I S R) (p : ℕ) (of : IsOf o sizes p me) (idle : stage_of me ≡ Idle) (st : Step (Mail I (Block S R))) where
   abbrev l : Local I S R
   l = local_of me
 
@@ -40,10 +41,13 @@ module _ {O I S R : Type 0} (meaning : O → Sequential S I R) (o : O) (sizes : 
         (ordered_asked object sizes.processes g.atomic.agreed g.calls_in_version g.version local f.sound.order q0 l.after l.own ordered
         (λ c has mine. let b = (f.sound.history.agreed c has).1 in let e : in_of g c.process ≡ in_of g q0 = ap (in_of g) mine in let d = at.0.1 in omega arith))
 
-    given : Given object sizes me local (slice_set words 0 s) homes (HasAsked st me s)
+    given : Given object sizes me g local (slice_set words 0 s) homes MakesNoAct (HasAsked st me s)
     given = record {
       board = g;
       local' = l';
+      acts = [];
+      appended = sym (append-nil g.acts);
+      made = refl;
       act = keeps;
       valid = tt;
       sound = sound_with object sizes g g local q0 l' f.sound board (λ q q_in n h. h) (record {
@@ -57,5 +61,5 @@ module _ {O I S R : Type 0} (meaning : O → Sequential S I R) (o : O) (sizes : 
       said = λ is. ((let r = ordered.reached in let e = present in omega arith), refl);
     }
 
-  pub asks : Allows (ShowsBoard meaning o sizes) slots id me 0 (λ n. n) (λ found me'. HasAsked st me found me')
-  asks = step_law meaning o sizes slots id me 0 (λ n. n) (λ found me'. HasAsked st me found me') of.alone (λ g local words homes f few. given g local words homes f)
+  pub asks : Moves meaning o sizes id me 0 (λ n. n) (λ g found. MakesNoAct) (λ found me'. HasAsked st me found me')
+  asks = step_law meaning o sizes id me 0 (λ n. n) (λ g found. MakesNoAct) (λ found me'. HasAsked st me found me') of.alone (λ g local words homes f few. given g local words homes f)

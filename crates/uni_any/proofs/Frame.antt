@@ -1,6 +1,7 @@
 -- A word step of a seat of one process keeps the rule: what has to be shown of the board.
-use Rattle.uni_any.proofs.Vocabulary.{Sequential, Setup, Allows, AreFew, AreOrdered, AreSlots, AreWords, Block, Board, IsAt, IsBoard, IsHistory, IsShown, IsSound, List, Local, Mail, Mine, ShowsBoard, Sizes, State, Tells, Valid, View, ap, arith, at_set, carried_after, get_elem?, homes_after, inl, inr, set, set_at, set_at-cases, set_at_elsewhere, set_at_same, slice_index, slice_set, some, subst, sym, with_local, ℕ, ⊎_elim, ◌<◌, ◌∙◌, ◌≡◌, ◌≢◌}
-use Rattle.atomic_table.specs.Table.{Act}
+use Rattle.uni_any.proofs.Vocabulary.{Act, Sequential, Setup, Allows, AreFew, AreOrdered, AreSlots, AreWords, Block, Board, IsAt, IsBoard, IsHistory, IsShown, IsSound, List, Local, Mail, Mine, ShowsBoard, Sizes, State, Tells, Valid, View, ap, arith, at_set, carried_after, get_elem?, homes_after, inl, inr, set, set_at, set_at-cases, set_at_elsewhere, set_at_same, slice_index, slice_set, some, subst, sym, with_local, ℕ, ⊎_elim, ◌++◌, ◌<◌, ◌∙◌, ◌≡◌, ◌≢◌}
+use Rattle.atomic_table.specs.Table.{Act as Handling}
+use Rattle.uni_any.specs.Laws.{Moves}
 use mathlib.Core.Option.{Option}
 
 -- one process gets another local, and the others stay where they are
@@ -30,18 +31,22 @@ pub record Found {O I S R : Type 0} (meaning : O → Sequential S I R) (o : O) (
   pub mine : IsAt (meaning o) sizes g me.0.known.first me.0.known.local
 
 -- what has to be given: the board afterwards, and what the process knows then
-pub record Given {O I S R : Type 0} (object : Sequential S I R) (sizes : Sizes) (me : Mine O I S R) (local : ℕ → Local I S R) (words' : List ℕ) (homes : List (Option (Mail I (Block S R)))) (says : Mine O I S R → Type 0) : Type 0 where
+pub record Given {O I S R : Type 0} (object : Sequential S I R) (sizes : Sizes) (me : Mine O I S R) (g : Board I S R) (local : ℕ → Local I S R) (words' : List ℕ) (homes : List (Option (Mail I (Block S R))))
+    (makes : (before after : Local I S R) → List (Act I R) → Type 0) (says : Mine O I S R → Type 0) : Type 0 where
   pub board : Board I S R
   pub local' : Local I S R
-  pub act : Act (Mail I (Block S R))
+  pub acts : List (Act I R)
+  pub appended : board.acts ≡ g.acts ++ acts
+  pub made : makes me.0.known.local local' acts
+  pub act : Handling (Mail I (Block S R))
   pub valid : Valid homes me.1 act
   pub sound : IsSound object sizes board (set_at local me.0.known.first local')
   pub words_are : AreWords sizes board words'
   pub slots_are : AreSlots sizes board (homes_after homes me.1 act)
   pub said : says (with_local me.0 local', carried_after me.1 act)
 
-module _ {O I S R : Type 0} (meaning : O → Sequential S I R) (o : O) (sizes : Sizes) (slots id : ℕ) (me : Mine O I S R) (i : ℕ) (f : ℕ → ℕ) (says : ℕ → Mine O I S R → Type 0)
-    (single : me.0.known.count ≡ 1) where
+module _ {O I S R : Type 0} (meaning : O → Sequential S I R) (o : O) (sizes : Sizes) (id : ℕ) (me : Mine O I S R) (i : ℕ) (f : ℕ → ℕ)
+    (makes : Board I S R → (found : ℕ) → (before after : Local I S R) → List (Act I R) → Type 0) (says : ℕ → Mine O I S R → Type 0) (single : me.0.known.count ≡ 1) where
   abbrev p : ℕ
   p = me.0.known.first
 
@@ -65,7 +70,7 @@ module _ {O I S R : Type 0} (meaning : O → Sequential S I R) (o : O) (sizes : 
       mine = subst (λ l. IsAt (meaning o) sizes g p l) own.2 (is.sound.each p own.0);
     }
 
-    module _ (given : Given (meaning o) sizes me local (slice_set s.words i (f (slice_index s.words i))) s.homes (says (slice_index s.words i))) where
+    module _ (given : Given (meaning o) sizes me g local (slice_set s.words i (f (slice_index s.words i))) s.homes (makes g (slice_index s.words i)) (says (slice_index s.words i))) where
       seats_later : (j : ℕ) (u : View O I S R) → get_elem? (set s.views id (with_local me.0 given.local')) j ≡ some u → Tells sizes o (set_at local p given.local') seat_of j u
       seats_later j u e = ⊎_elim
           (λ (h : (j ≡ id) × (with_local me.0 given.local' ≡ u)).
@@ -95,26 +100,26 @@ module _ {O I S R : Type 0} (meaning : O → Sequential S I R) (o : O) (sizes : 
           (at_set s.views id j (with_local me.0 given.local') u e)
 
   pub step_law : ((g : Board I S R) (local : ℕ → Local I S R) (words : List ℕ) (homes : List (Option (Mail I (Block S R)))) → Found meaning o sizes me g local words homes → slice_index words i < 18446744073709551616
-      → Given (meaning o) sizes me local (slice_set words i (f (slice_index words i))) homes (says (slice_index words i)))
-      → Allows (ShowsBoard meaning o sizes) slots id me i f says
-  step_law give s holds many at fits =
-      let g = holds.0 in let local = holds.1.0 in let seat_of = holds.1.1.0 in let is = holds.1.1.1 in
+      → Given (meaning o) sizes me g local (slice_set words i (f (slice_index words i))) homes (makes g (slice_index words i)) (says (slice_index words i)))
+      → Moves meaning o sizes id me i f makes says
+  step_law give s g local seat_of is at fits =
       let given = give g local s.words s.homes (found s g local seat_of is at) fits in (
         with_local me.0 given.local',
         given.act,
+        given.board,
+        given.acts,
         given.valid,
-        (
-          given.board,
-          (
-            set_at local p given.local',
-            (
-              seat_of,
-              record { few = is.few; words = given.words_are; slots = given.slots_are; seats = seats_later s g local seat_of is at given; sound = given.sound },
-            ),
-          ),
-        ),
+        record { few = is.few; words = given.words_are; slots = given.slots_are; seats = seats_later s g local seat_of is at given; sound = given.sound },
         given.said,
+        given.appended,
+        given.made,
       )
+
+  -- so the step is allowed
+  pub allowed : (slots : ℕ) → Moves meaning o sizes id me i f makes says → Allows (ShowsBoard meaning o sizes) slots id me i f says
+  allowed slots moves s holds many at fits =
+      let to = moves s holds.0 holds.1.0 holds.1.1.0 holds.1.1.1 at fits in
+      (to.0, to.1, to.4, (to.2, (set_at holds.1.0 me.0.known.first to.0.known.local, (holds.1.1.0, to.5))), to.6)
 
 -- what the table was told is what the object has
 pub by_key : {O I S R A B C : Type 0} (meaning : O → Sequential S I R) (told setup : Setup O A B C) → told ≡ setup → (slots id : ℕ) (me : Mine O I S R) (i : ℕ) (f : ℕ → ℕ) (says : ℕ → Mine O I S R → Type 0)

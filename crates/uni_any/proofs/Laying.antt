@@ -1,5 +1,6 @@
 -- The steps that lay out a block.
-use Rattle.uni_any.proofs.Vocabulary.{Allows, AreHome, AreSlots, Block, Board, HasLaid, HasLaidOpen, HoldsBlock, Image, IsAt, IsLaid, IsLaying, IsOf, IsOpen, IsStageAt, IsTrying, List, Local, Made, Mail, Mine, Reading, Sequential, ShowsBoard, Sizes, Some, Step, Valid, Writing, applied_in, length, ap, arith, block_frame, call_frame, carried_after, false, frames_of, gives, goes, homes_after, inl, inr, local_of, made_of, number_cases, pending_of, refl, rest, set_at, set_at_elsewhere, set_at_same, slice_index, slice_set, slot_of, stage_of, subst, sym, takes, true, with_local, ℕ, ◌*◌, ◌+◌, ◌<◌, ◌∙◌, ◌∷◌, ◌≡◌, ◌≢◌}
+use Rattle.uni_any.proofs.Vocabulary.{[], append-nil, AreHome, AreSlots, Block, Board, HasLaid, HasLaidOpen, HoldsBlock, Image, IsAt, IsLaid, IsLaying, IsOf, IsOpen, IsStageAt, IsTrying, List, Local, Made, Mail, Mine, Reading, Sequential, Sizes, Some, Step, Valid, Writing, applied_in, length, ap, arith, block_frame, call_frame, carried_after, false, frames_of, gives, goes, homes_after, inl, inr, local_of, made_of, number_cases, pending_of, refl, rest, set_at, set_at_elsewhere, set_at_same, slice_index, slice_set, slot_of, stage_of, subst, sym, takes, true, with_local, ℕ, ◌*◌, ◌+◌, ◌<◌, ◌∙◌, ◌∷◌, ◌≡◌, ◌≢◌}
+use Rattle.uni_any.specs.Laws.{MakesNoAct, Moves}
 use Rattle.uni_any.proofs.Frame.{Found, Given, sound_with, step_law}
 use Rattle.uni_any.proofs.Ordering.{order_kept}
 use Rattle.uni_any.proofs.Slots.{block_inside, block_number}
@@ -9,7 +10,7 @@ use Rattle.uni_any.proofs.Posting.{blocks_apart, call_no_block, words_same}
 use Rattle.atomic_table.specs.Table.{Act}
 use mathlib.Core.Option.{Option as Maybe}
 
-module _ {O I S R : Type 0} (meaning : O → Sequential S I R) (o : O) (sizes : Sizes) (slots id : ℕ) (me : Mine O I S R) (p : ℕ) (of : IsOf o sizes p me) where
+module _ {O I S R : Type 0} (meaning : O → Sequential S I R) (o : O) (sizes : Sizes) (id : ℕ) (me : Mine O I S R) (p : ℕ) (of : IsOf o sizes p me) where
   abbrev l : Local I S R
   l = local_of me
 
@@ -82,10 +83,13 @@ module _ {O I S R : Type 0} (meaning : O → Sequential S I R) (o : O) (sizes : 
       pub given_laying : (i count : ℕ) (out : _) (act : Act (Mail I (Block S R))) (says : Mine O I S R → Type 0) → pending_of l.stage ≡ Some inv
           → IsLaid sizes g' f0 count out (Made image) → Valid homes me.1 act → AreSlots sizes g' (homes_after homes me.1 act)
           → says (with_local me.0 (goes l (Writing inv tries image count out)), carried_after me.1 act)
-          → Given object sizes me local (slice_set words i (slice_index words i)) homes says
+          → Given object sizes me g local (slice_set words i (slice_index words i)) homes MakesNoAct says
       given_laying i count out act says pending laid valid are said = record {
         board = g';
         local' = goes l (Writing inv tries image count out);
+        acts = [];
+        appended = sym (append-nil g.acts);
+        made = refl;
         act = act;
         valid = valid;
         sound = sound_with object sizes g g' local q0 (goes l (Writing inv tries image count out)) f.sound
@@ -103,7 +107,7 @@ module _ {O I S R : Type 0} (meaning : O → Sequential S I R) (o : O) (sizes : 
           → ((c : ℕ) → c ≢ r → (row c ≢ 1 → g.slot f0 c ≢ 1) × (row c ≡ 2 → (g.slot f0 c ≡ 2) × (Made image ≡ g.content f0)))
           → ((z : ℕ) → z < r → row z ≡ 2) → ((z : ℕ) → r < z → row z ≢ 1) → (says : Mine O I S R → Type 0)
           → ((y : Mail I (Block S R)) → says (with_local me.0 (goes l (Writing inv tries image r true)), (slot_of sizes f0 r, y) ∷ me.1))
-          → Given object sizes me local (slice_set words i (slice_index words i)) homes says
+          → Given object sizes me g local (slice_set words i (slice_index words i)) homes MakesNoAct says
       open_from r i r_in pending here out rows before after says said =
           let t = taken_framed object sizes g f0 q0 row (Made image) theirs asked current f_in r r_in homes me.1 f.slots_are here out rows in
           given_laying i r true (takes (slot_of sizes f0 r) t.0) says pending
@@ -130,7 +134,7 @@ module _ {O I S R : Type 0} (meaning : O → Sequential S I R) (o : O) (sizes : 
 
     module _ (g : Board I S R) (local : ℕ → Local I S R) (words : List ℕ) (homes : List (Maybe (Mail I (Block S R)))) (f : Found meaning o sizes me g local words homes) (i : ℕ) where
       abbrev Wanted : Type 0
-      Wanted = Given object sizes me local (slice_set words i (slice_index words i)) homes (HasLaidOpen st me (slice_index words i))
+      Wanted = Given object sizes me g local (slice_set words i (slice_index words i)) homes MakesNoAct (HasLaidOpen st me (slice_index words i))
 
       from_reading : r ≡ 0 → stage_of me ≡ Reading inv tries sizes.processes image → IsLaying inv tries image r me → Wanted
       from_reading first stage laying =
@@ -152,8 +156,8 @@ module _ {O I S R : Type 0} (meaning : O → Sequential S I R) (o : O) (sizes : 
           (λ z below. else z (λ y. omega arith) ∙ at.2.written z below) (λ z above e. at.2.others z above (sym (else z (λ y. omega arith)) ∙ e))
           (HasLaidOpen st me (slice_index words i)) (λ y. opened_told f.sizes_are (inr stage) y (slice_index words i))
 
-    pub lays_open : IsLaying inv tries image r me → Allows (ShowsBoard meaning o sizes) slots id me (1 + p) (λ n. n) (λ found me'. HasLaidOpen st me found me')
-    lays_open laying = step_law meaning o sizes slots id me (1 + p) (λ n. n) (λ found me'. HasLaidOpen st me found me') of.alone (λ g local words homes f fits.
+    pub lays_open : IsLaying inv tries image r me → Moves meaning o sizes id me (1 + p) (λ n. n) (λ g found. MakesNoAct) (λ found me'. HasLaidOpen st me found me')
+    lays_open laying = step_law meaning o sizes id me (1 + p) (λ n. n) (λ g found. MakesNoAct) (λ found me'. HasLaidOpen st me found me') of.alone (λ g local words homes f fits.
         elim laying [
           | inl first ↦ from_reading g local words homes f (1 + p) first.0 (first.1 ∙ ap (λ k. Reading inv tries k image) (ap (λ (z : Sizes). z.processes) f.sizes_are)) (inl first)
           | inr next ↦ from_writing g local words homes f (1 + p) next
@@ -162,7 +166,7 @@ module _ {O I S R : Type 0} (meaning : O → Sequential S I R) (o : O) (sizes : 
   -- it is given back
   module _ (inv : I) (tries r : ℕ) (image : Image S R) (stage : stage_of me ≡ Writing inv tries image r true) (holds : HoldsBlock sizes q0 r image me) (st : Step (Mail I (Block S R))) where
     module _ (g : Board I S R) (local : ℕ → Local I S R) (words : List ℕ) (homes : List (Maybe (Mail I (Block S R)))) (f : Found meaning o sizes me g local words homes) (i : ℕ) where
-      close_now : Given object sizes me local (slice_set words i (slice_index words i)) homes (HasLaid st me (slice_index words i))
+      close_now : Given object sizes me g local (slice_set words i (slice_index words i)) homes MakesNoAct (HasLaid st me (slice_index words i))
       close_now =
           let at : IsStageAt object sizes g q0 l (Writing inv tries image r true) = subst (IsStageAt object sizes g q0 l) stage f.mine.stage in
           let out = at.2.is_out refl in
@@ -187,5 +191,5 @@ module _ {O I S R : Type 0} (meaning : O → Sequential S I R) (o : O) (sizes : 
           let a : inv ≡ inv' = cc in let b : tries ≡ tries' = cc in let c : r ≡ r' = cc in let d : image ≡ image' = cc in
           λ k. (with_local me.0 (goes l (Writing (a k) (b k) (d k) (c k + 1) false)), rest me.1))
 
-    pub lays : Allows (ShowsBoard meaning o sizes) slots id me (1 + p) (λ n. n) (λ found me'. HasLaid st me found me')
-    lays = step_law meaning o sizes slots id me (1 + p) (λ n. n) (λ found me'. HasLaid st me found me') of.alone (λ g local words homes f fits. close_now g local words homes f (1 + p))
+    pub lays : Moves meaning o sizes id me (1 + p) (λ n. n) (λ g found. MakesNoAct) (λ found me'. HasLaid st me found me')
+    lays = step_law meaning o sizes id me (1 + p) (λ n. n) (λ g found. MakesNoAct) (λ found me'. HasLaid st me found me') of.alone (λ g local words homes f fits. close_now g local words homes f (1 + p))

@@ -1,8 +1,9 @@
 -- The load of an announcement.
-use Rattle.uni_any.proofs.Vocabulary.{Allows, AreSlots, Asked, Block, Board, Contains-append_cases, HasLooked, Image, Invoked, IsBoard, IsOf, IsReader, IsStageAt, IsTrying, List, Local, Mail, Mine, Reading, Row, Sequential, ShowsBoard, Sizes, Some, Stage, Step, Valid, [], ap, applied_in, arith, block_frame, call_frame, carried_after, get_or-set_other, get_or-set_same, goes, homes_after, in_of, inl, inr, keeps, length, length-set, local_of, lt_cases, made_of, nothing_taken, number_cases, pending_of, refl, row_in, set_at, set_at_elsewhere, set_at_same, slice_index, slice_set, slot_of, stage_of, subst, sym, taken_in, taken_of, takes, took, with_local, ℕ, ◌*◌, ◌++◌, ◌+◌, ◌-◌, ◌<◌, ◌∙◌, ◌∷◌, ◌≡◌, ◌≢◌, ◌≤◌}
+use Rattle.uni_any.proofs.Vocabulary.{append-nil, AreSlots, Asked, Block, Board, Contains-append_cases, HasLooked, Image, Invoked, IsBoard, IsOf, IsReader, IsStageAt, IsTrying, List, Local, Mail, Mine, Reading, Row, Sequential, Sizes, Some, Stage, Step, Valid, [], ap, applied_in, arith, block_frame, call_frame, carried_after, get_or-set_other, get_or-set_same, goes, homes_after, in_of, inl, inr, keeps, length, length-set, local_of, lt_cases, made_of, nothing_taken, number_cases, pending_of, refl, row_in, set_at, set_at_elsewhere, set_at_same, slice_index, slice_set, slot_of, stage_of, subst, sym, taken_in, taken_of, takes, took, with_local, ℕ, ◌*◌, ◌++◌, ◌+◌, ◌-◌, ◌<◌, ◌∙◌, ◌∷◌, ◌≡◌, ◌≢◌, ◌≤◌}
 use Rattle.uni_any.specs.declared.view.Taken.{Taken}
 use Rattle.uni_any.specs.declared.view.Stage.TheVariants.{Idle, Posting, Ready, Writing}
 use Rattle.uni_any.proofs.Batches.{contains_cons, image_from-append, not_empty, rising_snoc, row_else, row_here}
+use Rattle.uni_any.specs.Laws.{MakesNoAct, Moves}
 use Rattle.uni_any.proofs.Frame.{Found, Given, sound_with, step_law}
 use Rattle.uni_any.proofs.Ordering.{order_kept}
 use Rattle.uni_any.proofs.Posting.{call_no_block, calls_apart, words_same}
@@ -18,7 +19,7 @@ announced_most object sizes g q l (Ready inv tries) h = (let a = h.0.1 in let b 
 announced_most object sizes g q l (Reading inv tries r image) h = (let a = h.0.1 in let b = h.0.2 in omega arith)
 announced_most object sizes g q l (Writing inv tries image count out) h = (let a = h.0.1 in let b = h.0.2 in omega arith)
 
-module _ {O I S R : Type 0} (meaning : O → Sequential S I R) (o : O) (sizes : Sizes) (slots id : ℕ) (me : Mine O I S R) (p : ℕ) (of : IsOf o sizes p me)
+module _ {O I S R : Type 0} (meaning : O → Sequential S I R) (o : O) (sizes : Sizes) (id : ℕ) (me : Mine O I S R) (p : ℕ) (of : IsOf o sizes p me)
     (inv : I) (tries r : ℕ) (image : Image S R) (stage : stage_of me ≡ Reading inv tries r image) (r_in : r < sizes.processes) (st : Step (Mail I (Block S R))) where
   abbrev l : Local I S R
   l = local_of me
@@ -149,7 +150,7 @@ module _ {O I S R : Type 0} (meaning : O → Sequential S I R) (o : O) (sizes : 
         (act : Rattle.atomic_table.specs.Table.Act (Mail I (Block S R))) (valid : Valid homes me.1 act) (are : AreSlots sizes (record g { slot = slot' }) (homes_after homes me.1 act))
         (t2 : List (Taken I)) (reader2 : IsReader sizes (record g { slot = slot' }) q0 (record l { taken = t2 })) (image' : Image S R) (trying' : IsTrying object sizes g q0 l tries (r + 1) image')
         (said : HasLooked meaning st me a (with_local me.0 (goes (record l { taken = t2 }) (Reading inv tries (r + 1) image')), carried_after me.1 act)) where
-      given_next : Given object sizes me local (slice_set words (1 + r) (slice_index words (1 + r))) homes (HasLooked meaning st me a)
+      given_next : Given object sizes me g local (slice_set words (1 + r) (slice_index words (1 + r))) homes MakesNoAct (HasLooked meaning st me a)
       given_next =
           let l' = goes (record l { taken = t2 }) (Reading inv tries (r + 1) image') in
           let g1 : Board I S R = taken_board object sizes g local q0 slot' g.atomic g.acts else blocks calls in
@@ -158,6 +159,9 @@ module _ {O I S R : Type 0} (meaning : O → Sequential S I R) (o : O) (sizes : 
           record {
             board = g1;
             local' = l';
+            acts = [];
+            appended = sym (append-nil g.acts);
+            made = refl;
             act = act;
             valid = valid;
             sound = sound_with object sizes g g1 local q0 l' f.sound (board_taken object sizes g local q0 slot' g.atomic g.acts else blocks calls board)
@@ -188,12 +192,12 @@ module _ {O I S R : Type 0} (meaning : O → Sequential S I R) (o : O) (sizes : 
 
     -- nothing is taken
     quiet : (image' : Image S R) → IsTrying object sizes g q0 l tries (r + 1) image' → HasLooked meaning st me a (with_local me.0 (goes l (Reading inv tries (r + 1) image')), me.1)
-        → Given object sizes me local (slice_set words (1 + r) (slice_index words (1 + r))) homes (HasLooked meaning st me a)
+        → Given object sizes me g local (slice_set words (1 + r) (slice_index words (1 + r))) homes MakesNoAct (HasLooked meaning st me a)
     quiet image' trying' said = given_next g.slot (λ e c n. refl) (λ q k c x y z. refl) (λ q k c x y z. refl) keeps tt
         (slots_kept sizes g (record g { slot = g.slot }) homes f.slots_are (λ e c. ((λ n. n), (λ full. (full, refl))))) l.taken
         (let w = f.mine.reader in record { old = w.old; base = w.base; same = w.same; new = w.new; long = w.long; call = w.call; taken_most = w.taken_most }) image' trying' said
 
-    looks_now : Given object sizes me local (slice_set words (1 + r) (slice_index words (1 + r))) homes (HasLooked meaning st me a)
+    looks_now : Given object sizes me g local (slice_set words (1 + r) (slice_index words (1 + r))) homes MakesNoAct (HasLooked meaning st me a)
     looks_now = elim (lt_cases (applied_in image r) a) [
       | inr enough ↦ quiet image (trying_none enough.0) (λ inv' tries' r' image' stage' r_in'.
           let e : Reading inv tries r image ≡ Reading inv' tries' r' image' = sym stage ∙ stage' in
@@ -313,5 +317,5 @@ module _ {O I S R : Type 0} (meaning : O → Sequential S I R) (o : O) (sizes : 
           ]
     ]
 
-  pub looks : Allows (ShowsBoard meaning o sizes) slots id me (1 + r) (λ n. n) (λ found me'. HasLooked meaning st me found me')
-  looks = step_law meaning o sizes slots id me (1 + r) (λ n. n) (λ found me'. HasLooked meaning st me found me') of.alone (λ g local words homes f fits. looks_now g local words homes f)
+  pub looks : Moves meaning o sizes id me (1 + r) (λ n. n) (λ g found. MakesNoAct) (λ found me'. HasLooked meaning st me found me')
+  looks = step_law meaning o sizes id me (1 + r) (λ n. n) (λ g found. MakesNoAct) (λ found me'. HasLooked meaning st me found me') of.alone (λ g local words homes f fits. looks_now g local words homes f)

@@ -1,5 +1,6 @@
 -- The steps that lay out an invocation.
-use Rattle.uni_any.proofs.Vocabulary.{Allows, AreHome, AreWords, Asked, Block, Board, HasClosed, HasOpened, HoldsCall, Idle, some-injective, carried_after, IsAt, IsClosed, IsHome, IsLaid, IsOf, IsOpening, IsStageAt, List, Local, Mail, Mine, None, Posting, Sequential, ShowsBoard, Sizes, Step, ap, arith, block_frame, call_frame, either, eqb, exchanged, false, frames_of, gives, goes, homes_after, inl, inr, local_of, made_of, number_cases, pending_of, refl, rest, set-get_or, set_at, set_at_elsewhere, set_at_same, slice_index, slice_set, slot_of, some, stage_of, subst, sym, takes, told, true, with_local, ℕ, ◌*◌, ◌+◌, ◌<◌, ◌∙◌, ◌∷◌, ◌≡◌, ◌≢◌}
+use Rattle.uni_any.proofs.Vocabulary.{[], append-nil, AreHome, AreWords, Asked, Block, Board, HasClosed, HasOpened, HoldsCall, Idle, some-injective, carried_after, IsAt, IsClosed, IsHome, IsLaid, IsOf, IsOpening, IsStageAt, List, Local, Mail, Mine, None, Posting, Sequential, Sizes, Step, ap, arith, block_frame, call_frame, either, eqb, exchanged, false, frames_of, gives, goes, homes_after, inl, inr, local_of, made_of, number_cases, pending_of, refl, rest, set-get_or, set_at, set_at_elsewhere, set_at_same, slice_index, slice_set, slot_of, some, stage_of, subst, sym, takes, told, true, with_local, ℕ, ◌*◌, ◌+◌, ◌<◌, ◌∙◌, ◌∷◌, ◌≡◌, ◌≢◌}
+use Rattle.uni_any.specs.Laws.{MakesNoAct, Moves}
 use Rattle.uni_any.proofs.Frame.{Found, Given, sound_with, step_law}
 use Rattle.uni_any.proofs.Ordering.{order_kept}
 use Rattle.uni_any.proofs.Slots.{call_inside, block_number, row_and_column}
@@ -26,7 +27,7 @@ words_same sizes g g' words i version current announced are = subst (AreWords si
   announced = λ z z_in. are.announced z z_in ∙ ap (λ f. f z) (sym announced);
 })
 
-module _ {O I S R : Type 0} (meaning : O → Sequential S I R) (o : O) (sizes : Sizes) (slots id : ℕ) (me : Mine O I S R) (p : ℕ) (of : IsOf o sizes p me) where
+module _ {O I S R : Type 0} (meaning : O → Sequential S I R) (o : O) (sizes : Sizes) (id : ℕ) (me : Mine O I S R) (p : ℕ) (of : IsOf o sizes p me) where
   abbrev l : Local I S R
   l = local_of me
 
@@ -87,10 +88,13 @@ module _ {O I S R : Type 0} (meaning : O → Sequential S I R) (o : O) (sizes : 
       pub given_posting : (i : ℕ) (count : ℕ) (out : _) (act : Rattle.atomic_table.specs.Table.Act (Mail I (Block S R))) (says : Mine O I S R → Type 0) → pending_of l.stage ≡ None
           → IsLaid sizes g' f0 count out (Asked inv) → Rattle.atomic_table.specs.Table.Valid homes me.1 act → Rattle.uni_any.specs.Shown.AreSlots sizes g' (homes_after homes me.1 act)
           → says (with_local me.0 (goes l (Posting inv count out)), Rattle.atomic_table.specs.Table.carried_after me.1 act)
-          → Given object sizes me local (slice_set words i (slice_index words i)) homes says
+          → Given object sizes me g local (slice_set words i (slice_index words i)) homes MakesNoAct says
       given_posting i count out act says none laid valid are said = record {
         board = g';
         local' = goes l (Posting inv count out);
+        acts = [];
+        appended = sym (append-nil g.acts);
+        made = refl;
         act = act;
         valid = valid;
         sound = sound_with object sizes g g' local q0 (goes l (Posting inv count out)) f.sound
@@ -123,7 +127,7 @@ module _ {O I S R : Type 0} (meaning : O → Sequential S I R) (o : O) (sizes : 
 
     module _ (g : Board I S R) (local : ℕ → Local I S R) (words : List ℕ) (homes : List (Maybe (Mail I (Block S R)))) (f : Found meaning o sizes me g local words homes) (i : ℕ) where
       abbrev Wanted : Type 0
-      Wanted = Given object sizes me local (slice_set words i (slice_index words i)) homes (HasOpened st me (slice_index words i))
+      Wanted = Given object sizes me g local (slice_set words i (slice_index words i)) homes MakesNoAct (HasOpened st me (slice_index words i))
 
       open_from : (none : pending_of l.stage ≡ None) → IsOpening inv r me → (closed : IsClosed sizes g q0 m) (later : AreHome sizes g q0 (m + 1)) (spare : IsHome sizes g (block_frame sizes (q0 * sizes.calls + m)))
           (row : ℕ → ℕ) → g.slot (call_frame sizes q0 m) r ≢ 1 → row r ≡ 1 → ((c : ℕ) → c ≢ r → (row c ≢ 1 → g.slot (call_frame sizes q0 m) c ≢ 1) × (row c ≡ 2 → (g.slot (call_frame sizes q0 m) c ≡ 2) × (Asked inv ≡ g.content (call_frame sizes q0 m))))
@@ -156,15 +160,15 @@ module _ {O I S R : Type 0} (meaning : O → Sequential S I R) (o : O) (sizes : 
           (λ c n. ((λ e x. e (else c n ∙ x)), (λ e. (sym (else c n) ∙ e, sym at.3.content))))
           (λ z below. else z (λ y. omega arith) ∙ at.3.written z below) (λ z above e. at.3.others z above (sym (else z (λ y. omega arith)) ∙ e))
 
-    pub opens : IsOpening inv r me → Allows (ShowsBoard meaning o sizes) slots id me (1 + p) (λ n. either (eqb n m) m n) (λ found me'. HasOpened st me found me')
-    opens opening = step_law meaning o sizes slots id me (1 + p) (λ n. either (eqb n m) m n) (λ found me'. HasOpened st me found me') of.alone (λ g local words homes f fits.
+    pub opens : IsOpening inv r me → Moves meaning o sizes id me (1 + p) (λ n. either (eqb n m) m n) (λ g found. MakesNoAct) (λ found me'. HasOpened st me found me')
+    opens opening = step_law meaning o sizes id me (1 + p) (λ n. either (eqb n m) m n) (λ g found. MakesNoAct) (λ found me'. HasOpened st me found me') of.alone (λ g local words homes f fits.
         let x = slice_index words (1 + p) in
-        let given : Given object sizes me local (slice_set words (1 + p) x) homes (HasOpened st me x) = elim opening [
+        let given : Given object sizes me g local (slice_set words (1 + p) x) homes MakesNoAct (HasOpened st me x) = elim opening [
           | inl first ↦ from_idle g local words homes f (1 + p) first.0 first.1
           | inr next ↦ from_posting g local words homes f (1 + p) next
         ] in
-        exchanged x m m (λ y. Given object sizes me local (slice_set words (1 + p) y) homes (HasOpened st me x))
-        (λ e. subst (λ y. Given object sizes me local (slice_set words (1 + p) y) homes (HasOpened st me x)) e given) (λ ne. given))
+        exchanged x m m (λ y. Given object sizes me g local (slice_set words (1 + p) y) homes MakesNoAct (HasOpened st me x))
+        (λ e. subst (λ y. Given object sizes me g local (slice_set words (1 + p) y) homes MakesNoAct (HasOpened st me x)) e given) (λ ne. given))
 
   -- it is given back
   module _ (inv : I) (r : ℕ) (stage : stage_of me ≡ Posting inv r true) (holds : HoldsCall sizes q0 r inv me) (st : Step (Mail I (Block S R))) where
@@ -172,7 +176,7 @@ module _ {O I S R : Type 0} (meaning : O → Sequential S I R) (o : O) (sizes : 
       at_posting : IsStageAt object sizes g q0 l (Posting inv r true)
       at_posting = subst (IsStageAt object sizes g q0 l) stage f.mine.stage
 
-      close_now : Given object sizes me local (slice_set words i (slice_index words i)) homes (HasClosed st me (slice_index words i))
+      close_now : Given object sizes me g local (slice_set words i (slice_index words i)) homes MakesNoAct (HasClosed st me (slice_index words i))
       close_now =
           let at = at_posting in
           let out = at.3.is_out refl in
@@ -197,5 +201,5 @@ module _ {O I S R : Type 0} (meaning : O → Sequential S I R) (o : O) (sizes : 
           let a : inv ≡ inv' = cc in let b : r ≡ r' = cc in
           λ k. (with_local me.0 (goes l (Posting (a k) (b k + 1) false)), rest me.1))
 
-    pub closes : Allows (ShowsBoard meaning o sizes) slots id me (1 + p) (λ n. n) (λ found me'. HasClosed st me found me')
-    closes = step_law meaning o sizes slots id me (1 + p) (λ n. n) (λ found me'. HasClosed st me found me') of.alone (λ g local words homes f fits. close_now g local words homes f (1 + p))
+    pub closes : Moves meaning o sizes id me (1 + p) (λ n. n) (λ g found. MakesNoAct) (λ found me'. HasClosed st me found me')
+    closes = step_law meaning o sizes id me (1 + p) (λ n. n) (λ g found. MakesNoAct) (λ found me'. HasClosed st me found me') of.alone (λ g local words homes f fits. close_now g local words homes f (1 + p))

@@ -1,6 +1,7 @@
 -- The load of S with which an attempt begins, or a call ends.
-use Rattle.uni_any.proofs.Vocabulary.{AcceptsAll-append, Act, Allows, AreHome, AreOrdered, AreSlots, Atomic, Block, Board, GoesOn, HasStarted, HasStartedAs, Invoke, IsBoard, IsHistory, IsHome, IsOf, IsOpen, IsOrdered, IsPending, IsReader, IsStageAt, IsTold, IsWhole, List, Local, Mail, Mine, None, Option, Reading, Ready, Respond, Returned, Sequential, ShowsBoard, Sizes, Some, Step, Valid, [], ap, applied_in, arith, at_start, block_frame, call_frame, carried_after, ending, goes, has_block, homes_after, in_of, inl, inr, keeps, length, length-append, local_of, made_of, map, mul-le-mul_right, slice_index_or, nothing_taken, taken_of, append_assoc, response_at, number_cases, pending_of, plain, refl, returns, row_in, sequential_acts, set_at, set_at-cases, set_at_elsewhere, set_at_same, slice_index, slice_set, slot_of, subst, sym, takes, version_in, with_local, word_of, ℕ, ◌*◌, ◌++◌, ◌+◌, ◌<◌, ◌∙◌, ◌∷◌, ◌≡◌, ◌≢◌, ◌≤◌}
-use Rattle.uni_any.proofs.Acts.{responded_other, responded_own, sequential_acts-snoc}
+use Rattle.uni_any.proofs.Vocabulary.{append-nil, AcceptsAll-append, Act, AreHome, AreOrdered, AreSlots, Atomic, Block, Board, GoesOn, HasStarted, HasStartedAs, Invoke, IsBoard, IsHistory, IsHome, IsOf, IsOpen, IsOrdered, IsPending, IsReader, IsStageAt, IsTold, IsWhole, List, Local, Mail, Mine, None, Option, Reading, Ready, Respond, Returned, Sequential, Sizes, Some, Step, Valid, [], ap, applied_in, arith, at_start, block_frame, call_frame, carried_after, ending, goes, has_block, homes_after, in_of, inl, inr, keeps, length, length-append, local_of, made_of, map, mul-le-mul_right, slice_index_or, nothing_taken, taken_of, append_assoc, response_at, number_cases, pending_of, plain, refl, returns, row_in, sequential_acts, set_at, set_at-cases, set_at_elsewhere, set_at_same, slice_index, slice_set, slot_of, subst, sym, takes, version_in, with_local, word_of, ℕ, ◌*◌, ◌++◌, ◌+◌, ◌<◌, ◌∙◌, ◌∷◌, ◌≡◌, ◌≢◌, ◌≤◌}
+use Rattle.uni_any.proofs.Acts.{none_returned, one_returned, responded_other, responded_own, sequential_acts-snoc}
+use Rattle.uni_any.specs.Laws.{Moves, Responds}
 use Rattle.uni_any.proofs.Frame.{Found, Given, sound_with, step_law}
 use Rattle.uni_any.proofs.Ordering.{order_kept, order_with, ordered_returned, version_rises}
 use Rattle.uni_any.proofs.Posting.{call_no_block, words_same}
@@ -9,7 +10,7 @@ use Rattle.uni_any.proofs.Takings.{board_taken, others_taken, stage_taken, taken
 use mathlib.Core.Option.{Option as Maybe}
 use Rattle.uni_any.proofs.Sums.{rows_most}
 
-module _ {O I S R : Type 0} (meaning : O → Sequential S I R) (o : O) (sizes : Sizes) (slots id : ℕ) (me : Mine O I S R) (p : ℕ) (of : IsOf o sizes p me)
+module _ {O I S R : Type 0} (meaning : O → Sequential S I R) (o : O) (sizes : Sizes) (id : ℕ) (me : Mine O I S R) (p : ℕ) (of : IsOf o sizes p me)
     (inv : I) (tries : ℕ) (pending : IsPending inv tries me) (st : Step (Mail I (Block S R))) where
   abbrev l : Local I S R
   l = local_of me
@@ -83,7 +84,7 @@ module _ {O I S R : Type 0} (meaning : O → Sequential S I R) (o : O) (sizes : 
         (act : Rattle.atomic_table.specs.Table.Act (Mail I (Block S R))) (valid : Valid homes me.1 act) (are : AreSlots sizes (record g { slot = slot' }) (homes_after homes me.1 act))
         (said : (l' : Local I S R) → GoesOn l1 q0 inv tries g.image l' → HasStartedAs sizes inv tries me s (with_local me.0 l', carried_after me.1 act)) where
       abbrev Wanted : Type 0
-      Wanted = Given object sizes me local (slice_set words 0 (slice_index words 0)) homes (HasStarted st me s)
+      Wanted = Given object sizes me g local (slice_set words 0 (slice_index words 0)) homes (Responds q0) (HasStarted st me s)
 
       said_all : (l' : Local I S R) → GoesOn l1 q0 inv tries g.image l' → HasStarted st me s (with_local me.0 l', carried_after me.1 act)
       said_all l' on inv' tries' pending' =
@@ -133,6 +134,9 @@ module _ {O I S R : Type 0} (meaning : O → Sequential S I R) (o : O) (sizes : 
           record {
             board = g1 g.atomic g.acts;
             local' = l';
+            acts = [];
+            appended = sym (append-nil g.acts);
+            made = sym (none_returned q0 l l' refl);
             act = act;
             valid = valid;
             sound = sound_with object sizes g (g1 g.atomic g.acts) local q0 l' f.sound (board_taken object sizes g local q0 slot' g.atomic g.acts else blocks calls board)
@@ -201,6 +205,9 @@ module _ {O I S R : Type 0} (meaning : O → Sequential S I R) (o : O) (sizes : 
           record {
             board = g1 atomic' acts';
             local' = l';
+            acts = Respond q0 m x ∷ [];
+            appended = refl;
+            made = sym (one_returned q0 l l' _ refl);
             act = act;
             valid = valid;
             sound = sound_with object sizes g (g1 atomic' acts') local q0 l' f.sound (board_taken object sizes g local q0 slot' atomic' acts' else blocks calls board)
@@ -274,7 +281,7 @@ module _ {O I S R : Type 0} (meaning : O → Sequential S I R) (o : O) (sizes : 
       either_way = elim (number_cases (applied_in g.image q0) (m + 1)) [ inl e ↦ ends e.0 | inr n ↦ goes_on n.0 ]
 
     -- the process has this block already
-    same_word : s ≡ l.word → Given object sizes me local (slice_set words 0 (slice_index words 0)) homes (HasStarted st me s)
+    same_word : s ≡ l.word → Given object sizes me g local (slice_set words 0 (slice_index words 0)) homes (Responds q0) (HasStarted st me s)
     same_word same = either_way g.slot (λ f r n. refl) (λ q k r a b c. refl) (λ q k r a b c. refl) (λ z k a b. refl) keeps tt
         (slots_kept sizes g (record g { slot = g.slot }) homes f.slots_are (λ e c. ((λ n. n), (λ full. (full, refl)))))
         (λ l' on. (
@@ -289,7 +296,7 @@ module _ {O I S R : Type 0} (meaning : O → Sequential S I R) (o : O) (sizes : 
         ))
 
     -- it takes the block out of its slot
-    new_word : s ≢ l.word → Given object sizes me local (slice_set words 0 (slice_index words 0)) homes (HasStarted st me s)
+    new_word : s ≢ l.word → Given object sizes me g local (slice_set words 0 (slice_index words 0)) homes (Responds q0) (HasStarted st me s)
     new_word apart =
         let new = f.mine.reader.new (λ e. apart (is ∙ sym e)) in
         let c = new.0 in
@@ -333,9 +340,10 @@ module _ {O I S R : Type 0} (meaning : O → Sequential S I R) (o : O) (sizes : 
           fits,
         ))
 
-  pub starts : Allows (ShowsBoard meaning o sizes) slots id me 0 (λ n. n) (λ found me'. HasStarted st me found me')
-  starts = step_law meaning o sizes slots id me 0 (λ n. n) (λ found me'. HasStarted st me found me') of.alone (λ g local words homes f few.
+  pub starts : Moves meaning o sizes id me 0 (λ n. n) (λ g found. Responds p) (λ found me'. HasStarted st me found me')
+  starts = subst (λ k. Moves meaning o sizes id me 0 (λ n. n) (λ g found. Responds k) (λ found me'. HasStarted st me found me')) of.first
+      (step_law meaning o sizes id me 0 (λ n. n) (λ g found. Responds q0) (λ found me'. HasStarted st me found me') of.alone (λ g local words homes f few.
       elim (number_cases (slice_index words 0) l.word) [
         | inl same ↦ same_word g local words homes f same.0
         | inr other ↦ new_word g local words homes f other.0
-      ])
+      ]))

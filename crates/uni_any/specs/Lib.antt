@@ -9,3 +9,4 @@ pub mod Standing
 pub mod Belongs
 pub mod Calls
 pub mod Final
+pub mod Laws

@@ -1,5 +1,6 @@
 use Rattle.uni_any.proofs.Vocabulary.{HasBrought, arith, either, made_of, none, span, step, sym, word_of, ◌*◌, ◌+◌, ◌/◌, ◌==◌, ◌∙◌}
-use Rattle.uni_any.proofs.Frame.{by_key}
+use Rattle.uni_any.specs.Laws.{TakesEffect}
+use Rattle.uni_any.proofs.Frame.{allowed, by_key}
 use Rattle.uni_any.proofs.Bringing.{brings_in}
 use Rattle.uni_any.proofs.shared.AnyShared.bring_in.Goals as goal
 
@@ -16,6 +17,7 @@ compare_exchange-requires g c =
       c.requires.table,
       (let q0 = shared.sized in omega arith),
       by_key meaning shared.table.shared.key shared.setup shared.same slots c.args.seat.now.id me 0 (λ x. either (x == c.args.s) c.args.new x) (λ x me'. HasBrought st me x me')
-          (brings_in meaning shared.setup.object sizes slots c.args.seat.now.id me c.args.p of q.0 q.1 q.2 q.3 st
-          (c.requires.word.1 ∙ (λ k. word_of (sym c.requires.word.0 k / span + 1) (sym of.first k * sizes.calls + made_of me + 1))) c.args.s c.requires.word.0),
+          (allowed meaning shared.setup.object sizes c.args.seat.now.id me 0 (λ x. either (x == c.args.s) c.args.new x) (λ g found. TakesEffect (meaning shared.setup.object) sizes g c.args.p found q.2) (λ x me'. HasBrought st me x me') c.requires.of.alone slots
+          (brings_in meaning shared.setup.object sizes c.args.seat.now.id me c.args.p of q.0 q.1 q.2 q.3 st
+          (c.requires.word.1 ∙ (λ k. word_of (sym c.requires.word.0 k / span + 1) (sym of.first k * sizes.calls + made_of me + 1))) c.args.s c.requires.word.0)),
     )

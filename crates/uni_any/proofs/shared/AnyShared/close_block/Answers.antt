@@ -1,5 +1,6 @@
 use Rattle.uni_any.proofs.Vocabulary.{HasLaid, HoldsBlock, arith, none, step, subst, sym, ◌+◌}
-use Rattle.uni_any.proofs.Frame.{by_key}
+use Rattle.uni_any.specs.Laws.{MakesNoAct}
+use Rattle.uni_any.proofs.Frame.{allowed, by_key}
 use Rattle.uni_any.proofs.Laying.{lays}
 use Rattle.uni_any.proofs.shared.AnyShared.close_block.Goals as goal
 
@@ -13,6 +14,7 @@ load-requires g c =
       c.requires.table,
       (let q0 = shared.sized in let q1 = c.requires.inside in omega arith),
       by_key g.O.SeqObject.sequential shared.table.shared.key shared.setup shared.same slots c.args.seat.now.id me (1 + c.args.p) (λ x. x) (λ x me'. HasLaid st me x me')
-          (lays g.O.SeqObject.sequential shared.setup.object shared.setup.sizes slots c.args.seat.now.id me c.args.p c.requires.of held.0 held.1 c.args.r held.2 held.3
-          (subst (λ k. HoldsBlock shared.setup.sizes k c.args.r held.2 me) (sym c.requires.of.first) held.4) st),
+          (allowed g.O.SeqObject.sequential shared.setup.object shared.setup.sizes c.args.seat.now.id me (1 + c.args.p) (λ x. x) (λ g found. MakesNoAct) (λ x me'. HasLaid st me x me') c.requires.of.alone slots
+          (lays g.O.SeqObject.sequential shared.setup.object shared.setup.sizes c.args.seat.now.id me c.args.p c.requires.of held.0 held.1 c.args.r held.2 held.3
+          (subst (λ k. HoldsBlock shared.setup.sizes k c.args.r held.2 me) (sym c.requires.of.first) held.4) st)),
     )

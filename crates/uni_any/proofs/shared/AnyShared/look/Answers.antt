@@ -1,5 +1,6 @@
 use Rattle.uni_any.proofs.Vocabulary.{HasLooked, arith, none, step, ◌+◌}
-use Rattle.uni_any.proofs.Frame.{by_key}
+use Rattle.uni_any.specs.Laws.{MakesNoAct}
+use Rattle.uni_any.proofs.Frame.{allowed, by_key}
 use Rattle.uni_any.proofs.Looking.{looks}
 use Rattle.uni_any.proofs.shared.AnyShared.look.Goals as goal
 
@@ -14,5 +15,6 @@ load-requires g c =
       c.requires.table,
       (let q0 = shared.sized in let q1 = q.4 in omega arith),
       by_key meaning shared.table.shared.key shared.setup shared.same slots c.args.seat.now.id me (1 + c.args.r) (λ x. x) (λ x me'. HasLooked meaning st me x me')
-          (looks meaning shared.setup.object shared.setup.sizes slots c.args.seat.now.id me c.args.p c.requires.of q.0 q.1 c.args.r q.2 q.3 q.4 st),
+          (allowed meaning shared.setup.object shared.setup.sizes c.args.seat.now.id me (1 + c.args.r) (λ x. x) (λ g found. MakesNoAct) (λ x me'. HasLooked meaning st me x me') c.requires.of.alone slots
+          (looks meaning shared.setup.object shared.setup.sizes c.args.seat.now.id me c.args.p c.requires.of q.0 q.1 c.args.r q.2 q.3 q.4 st)),
     )

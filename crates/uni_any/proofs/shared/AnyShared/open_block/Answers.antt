@@ -1,5 +1,6 @@
 use Rattle.uni_any.proofs.Vocabulary.{HasLaidOpen, Writing, arith, block_frame, goes, local_of, none, slot_of, step, true, with_local, ◌*◌, ◌+◌, ◌∙◌, ◌∷◌}
-use Rattle.uni_any.proofs.Frame.{by_key}
+use Rattle.uni_any.specs.Laws.{MakesNoAct}
+use Rattle.uni_any.proofs.Frame.{allowed, by_key}
 use Rattle.uni_any.proofs.Laying.{lays_open}
 use Rattle.uni_any.proofs.shared.AnyShared.open_block.Goals as goal
 
@@ -13,7 +14,8 @@ load-requires g c =
       c.requires.table,
       (let q0 = shared.sized in let q1 = c.requires.inside in omega arith),
       by_key g.O.SeqObject.sequential shared.table.shared.key shared.setup shared.same slots c.args.seat.now.id me (1 + c.args.p) (λ x. x) (λ x me'. HasLaidOpen st me x me')
-          (lays_open g.O.SeqObject.sequential shared.setup.object shared.setup.sizes slots c.args.seat.now.id me c.args.p c.requires.of laying.0 laying.1 c.args.r laying.2 c.requires.made.1 st laying.3),
+          (allowed g.O.SeqObject.sequential shared.setup.object shared.setup.sizes c.args.seat.now.id me (1 + c.args.p) (λ x. x) (λ g found. MakesNoAct) (λ x me'. HasLaidOpen st me x me') c.requires.of.alone slots
+          (lays_open g.O.SeqObject.sequential shared.setup.object shared.setup.sizes c.args.seat.now.id me c.args.p c.requires.of laying.0 laying.1 c.args.r laying.2 c.requires.made.1 st laying.3)),
     )
 
 pub returns-clause-left : goal.returns-clause-left

@@ -1,5 +1,6 @@
-use Rattle.uni_any.proofs.Vocabulary.{Allows, IsOpening, ShowsBoard, with_local, refl, ◌∷◌, Asked, HasOpened, Posting, arith, call_frame, eqb, either, goes, local_of, some, slot_of, step, subst, sym, true, ◌+◌, ◌==◌, ◌∙◌, ◌≡◌}
-use Rattle.uni_any.proofs.Frame.{by_key}
+use Rattle.uni_any.proofs.Vocabulary.{Allows, IsOpening, ShowsBoard, with_local, refl, ◌∷◌, Asked, HasOpened, Posting, arith, call_frame, eqb, either, goes, local_of, made_of, some, slot_of, step, subst, sym, true, ◌+◌, ◌==◌, ◌∙◌, ◌≡◌}
+use Rattle.uni_any.specs.Laws.{MakesNoAct}
+use Rattle.uni_any.proofs.Frame.{allowed, by_key}
 use Rattle.uni_any.proofs.Posting.{opens}
 use Rattle.uni_any.proofs.shared.AnyShared.open_call.Goals as goal
 
@@ -15,8 +16,9 @@ compare_exchange_with-requires g c =
       (let q0 = shared.sized in let q1 = c.requires.inside in omega arith),
       by_key g.O.SeqObject.sequential shared.table.shared.key shared.setup shared.same slots c.args.seat.now.id me (1 + c.args.p) (λ n. either (n == c.args.made) c.args.made n) (λ x me'. HasOpened st me x me')
           (subst (λ k. Allows (ShowsBoard g.O.SeqObject.sequential shared.setup.object sizes) slots c.args.seat.now.id me (1 + c.args.p) (λ n. either (eqb n k) k n) (λ x me'. HasOpened st me x me')) made
-          (opens g.O.SeqObject.sequential shared.setup.object sizes slots c.args.seat.now.id me c.args.p c.requires.of c.args.mail.now c.requires.call.0 c.requires.call.1 c.args.r c.requires.made.2
-          (let b = c.requires.made.1 in omega arith) st refl c.requires.call.2)),
+          (allowed g.O.SeqObject.sequential shared.setup.object sizes c.args.seat.now.id me (1 + c.args.p) (λ n. either (eqb n (made_of me)) (made_of me) n) (λ g found. MakesNoAct) (λ x me'. HasOpened st me x me') c.requires.of.alone slots
+          (opens g.O.SeqObject.sequential shared.setup.object sizes c.args.seat.now.id me c.args.p c.requires.of c.args.mail.now c.requires.call.0 c.requires.call.1 c.args.r c.requires.made.2
+          (let b = c.requires.made.1 in omega arith) st refl c.requires.call.2))),
     )
 
 pub returns-clause-left : goal.returns-clause-left

@@ -1,5 +1,6 @@
 use Rattle.uni_any.proofs.Vocabulary.{HasAsked, arith, none, step}
-use Rattle.uni_any.proofs.Frame.{by_key}
+use Rattle.uni_any.specs.Laws.{MakesNoAct}
+use Rattle.uni_any.proofs.Frame.{allowed, by_key}
 use Rattle.uni_any.proofs.Asking.{asks}
 use Rattle.uni_any.proofs.shared.AnyShared.present.Goals as goal
 
@@ -13,5 +14,6 @@ load-requires g c =
       c.requires.table,
       (let q0 = shared.sized in omega arith),
       by_key g.O.SeqObject.sequential shared.table.shared.key shared.setup shared.same slots id me 0 (λ x. x) (λ x me'. HasAsked st me x me')
-          (asks g.O.SeqObject.sequential shared.setup.object shared.setup.sizes slots id me c.args.p c.requires.of c.requires.stage st),
+          (allowed g.O.SeqObject.sequential shared.setup.object shared.setup.sizes id me 0 (λ x. x) (λ g found. MakesNoAct) (λ x me'. HasAsked st me x me') c.requires.of.alone slots
+          (asks g.O.SeqObject.sequential shared.setup.object shared.setup.sizes id me c.args.p c.requires.of c.requires.stage st)),
     )

@@ -1,5 +1,6 @@
 use Rattle.uni_any.proofs.Vocabulary.{HasStarted, arith, none, step}
-use Rattle.uni_any.proofs.Frame.{by_key}
+use Rattle.uni_any.specs.Laws.{Responds}
+use Rattle.uni_any.proofs.Frame.{allowed, by_key}
 use Rattle.uni_any.proofs.Starting.{starts}
 use Rattle.uni_any.proofs.shared.AnyShared.start.Goals as goal
 
@@ -12,5 +13,6 @@ load-requires g c =
       c.requires.table,
       (let q0 = shared.sized in omega arith),
       by_key g.O.SeqObject.sequential shared.table.shared.key shared.setup shared.same slots c.args.seat.now.id me 0 (λ x. x) (λ x me'. HasStarted st me x me')
-          (starts g.O.SeqObject.sequential shared.setup.object shared.setup.sizes slots c.args.seat.now.id me c.args.p c.requires.of c.requires.pending.0 c.requires.pending.1.0 c.requires.pending.1.1 st),
+          (allowed g.O.SeqObject.sequential shared.setup.object shared.setup.sizes c.args.seat.now.id me 0 (λ x. x) (λ g found. Responds c.args.p) (λ x me'. HasStarted st me x me') c.requires.of.alone slots
+          (starts g.O.SeqObject.sequential shared.setup.object shared.setup.sizes c.args.seat.now.id me c.args.p c.requires.of c.requires.pending.0 c.requires.pending.1.0 c.requires.pending.1.1 st)),
     )
