@@ -213,6 +213,7 @@ module _ {O I S R : Type 0} (meaning : O → Sequential S I R) (o : O) (sizes : 
       appended = refl;
       made = refl;
       act = keeps;
+      single = tt;
       valid = tt;
       sound = sound_with (meaning o) sizes g g' local q0 (goes l (Ready inv 0)) f.sound board' others' mine' history'
           (order_kept (meaning o) sizes.processes g.atomic.agreed g.calls_in_version g.version local f.sound.order q0 l (goes l (Ready inv 0)) f.inside f.local_is refl refl);
@@ -226,4 +227,4 @@ module _ {O I S R : Type 0} (meaning : O → Sequential S I R) (o : O) (sizes : 
 
   pub announces : Moves meaning o sizes id me (1 + p) (λ x. number) (λ g found. Invokes p inv) (λ x me'. HasAnnounced st me number me')
   announces = subst (λ k. Moves meaning o sizes id me (1 + k) (λ x. number) (λ g found. Invokes k inv) (λ x me'. HasAnnounced st me number me')) of.first
-      (step_law meaning o sizes id me (1 + q0) (λ x. number) (λ g found. Invokes q0 inv) (λ x me'. HasAnnounced st me number me') of.alone (λ g local words homes f fits. given g local words homes f 0))
+      (step_law meaning o sizes id me (1 + q0) (λ x. number) (λ g found. Invokes q0 inv) (λ x me'. HasAnnounced st me number me') of.alone (λ g local words homes f. given g local words homes f 0))

@@ -49,6 +49,7 @@ module _ {O I S R : Type 0} (meaning : O → Sequential S I R) (o : O) (sizes : 
       appended = sym (append-nil g.acts);
       made = refl;
       act = keeps;
+      single = tt;
       valid = tt;
       sound = sound_with object sizes g g local q0 l' f.sound board (λ q q_in n h. h) (record {
         stage = subst (IsStageAt object sizes g q0 l') (sym idle) (at.0, at.1);
@@ -62,4 +63,4 @@ module _ {O I S R : Type 0} (meaning : O → Sequential S I R) (o : O) (sizes : 
     }
 
   pub asks : Moves meaning o sizes id me 0 (λ n. n) (λ g found. MakesNoAct) (λ found me'. HasAsked st me found me')
-  asks = step_law meaning o sizes id me 0 (λ n. n) (λ g found. MakesNoAct) (λ found me'. HasAsked st me found me') of.alone (λ g local words homes f few. given g local words homes f)
+  asks = step_law meaning o sizes id me 0 (λ n. n) (λ g found. MakesNoAct) (λ found me'. HasAsked st me found me') of.alone (λ g local words homes f. given g local words homes f)

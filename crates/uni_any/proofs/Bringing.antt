@@ -74,6 +74,7 @@ module _ {O I S R : Type 0} (meaning : O → Sequential S I R) (o : O) (sizes : 
       appended = sym (append-nil g.acts);
       made = ((λ e. absurd (apart e)), (λ n. refl));
       act = keeps;
+      single = tt;
       valid = tt;
       sound = sound_with object sizes g g local q0 (goes l (Ready inv (tries + 1))) f.sound board (λ q q_in n h. h) (record {
         stage = (
@@ -340,6 +341,7 @@ module _ {O I S R : Type 0} (meaning : O → Sequential S I R) (o : O) (sizes : 
         appended = append_assoc g.acts (map (λ c. Linearize c) calls) (Respond q0 m x ∷ []);
         made = ((λ e. (seen.batch, ap (λ js. map (λ c. Linearize c) calls ++ js) (sym (one_returned q0 l l' _ refl)))), (λ n. absurd (n same)));
         act = keeps;
+        single = tt;
         valid = tt;
         sound = sound_with object sizes g g' local q0 l' f.sound board' others' mine' history' order';
         words_are = words';
@@ -360,6 +362,6 @@ module _ {O I S R : Type 0} (meaning : O → Sequential S I R) (o : O) (sizes : 
 
   pub brings_in : (s : ℕ) → l.word ≡ s → Moves meaning o sizes id me 0 (λ found. either (eqb found s) st.second found) (λ g found. TakesEffect object sizes g p found image) (λ found me'. HasBrought st me found me')
   brings_in s word_is = subst (λ k. Moves meaning o sizes id me 0 (λ found. either (eqb found s) st.second found) (λ g found. TakesEffect object sizes g k found image) (λ found me'. HasBrought st me found me')) of.first
-      (step_law meaning o sizes id me 0 (λ found. either (eqb found s) st.second found) (λ g found. TakesEffect object sizes g q0 found image) (λ found me'. HasBrought st me found me') of.alone (λ g local words homes f fits.
+      (step_law meaning o sizes id me 0 (λ found. either (eqb found s) st.second found) (λ g found. TakesEffect object sizes g q0 found image) (λ found me'. HasBrought st me found me') of.alone (λ g local words homes f.
       exchanged (slice_index words 0) s st.second (λ y. Given object sizes me g local (slice_set words 0 y) homes (TakesEffect object sizes g q0 (slice_index words 0) image) (HasBrought st me (slice_index words 0)))
       (λ e. hit g local words homes f (e ∙ sym word_is)) (λ n. miss g local words homes f (λ e. n (e ∙ word_is)))))

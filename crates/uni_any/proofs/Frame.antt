@@ -1,7 +1,7 @@
 -- A word step of a seat of one process keeps the rule: what has to be shown of the board.
 use Rattle.uni_any.proofs.Vocabulary.{Act, Sequential, Setup, Allows, AreFew, AreOrdered, AreSlots, AreWords, Block, Board, IsAt, IsBoard, IsHistory, IsShown, IsSound, List, Local, Mail, Mine, ShowsBoard, Sizes, State, Tells, Valid, View, ap, arith, at_set, carried_after, get_elem?, homes_after, inl, inr, set, set_at, set_at-cases, set_at_elsewhere, set_at_same, slice_index, slice_set, some, subst, sym, with_local, ℕ, ⊎_elim, ◌++◌, ◌<◌, ◌∙◌, ◌≡◌, ◌≢◌}
 use Rattle.atomic_table.specs.Table.{Act as Handling}
-use Rattle.uni_any.specs.Laws.{Moves}
+use Rattle.uni_any.specs.Laws.{IsSingle, Moves}
 use mathlib.Core.Option.{Option}
 
 -- one process gets another local, and the others stay where they are
@@ -39,6 +39,7 @@ pub record Given {O I S R : Type 0} (object : Sequential S I R) (sizes : Sizes) 
   pub appended : board.acts ≡ g.acts ++ acts
   pub made : makes me.0.known.local local' acts
   pub act : Handling (Mail I (Block S R))
+  pub single : IsSingle act
   pub valid : Valid homes me.1 act
   pub sound : IsSound object sizes board (set_at local me.0.known.first local')
   pub words_are : AreWords sizes board words'
@@ -99,15 +100,16 @@ module _ {O I S R : Type 0} (meaning : O → Sequential S I R) (o : O) (sizes : 
           })
           (at_set s.views id j (with_local me.0 given.local') u e)
 
-  pub step_law : ((g : Board I S R) (local : ℕ → Local I S R) (words : List ℕ) (homes : List (Option (Mail I (Block S R)))) → Found meaning o sizes me g local words homes → slice_index words i < 18446744073709551616
+  pub step_law : ((g : Board I S R) (local : ℕ → Local I S R) (words : List ℕ) (homes : List (Option (Mail I (Block S R)))) → Found meaning o sizes me g local words homes
       → Given (meaning o) sizes me g local (slice_set words i (f (slice_index words i))) homes (makes g (slice_index words i)) (says (slice_index words i)))
       → Moves meaning o sizes id me i f makes says
-  step_law give s g local seat_of is at fits =
-      let given = give g local s.words s.homes (found s g local seat_of is at) fits in (
+  step_law give s g local seat_of is at =
+      let given = give g local s.words s.homes (found s g local seat_of is at) in (
         with_local me.0 given.local',
         given.act,
         given.board,
         given.acts,
+        given.single,
         given.valid,
         record { few = is.few; words = given.words_are; slots = given.slots_are; seats = seats_later s g local seat_of is at given; sound = given.sound },
         given.said,
@@ -118,8 +120,8 @@ module _ {O I S R : Type 0} (meaning : O → Sequential S I R) (o : O) (sizes : 
   -- so the step is allowed
   pub allowed : (slots : ℕ) → Moves meaning o sizes id me i f makes says → Allows (ShowsBoard meaning o sizes) slots id me i f says
   allowed slots moves s holds many at fits =
-      let to = moves s holds.0 holds.1.0 holds.1.1.0 holds.1.1.1 at fits in
-      (to.0, to.1, to.4, (to.2, (set_at holds.1.0 me.0.known.first to.0.known.local, (holds.1.1.0, to.5))), to.6)
+      let to = moves s holds.0 holds.1.0 holds.1.1.0 holds.1.1.1 at in
+      (to.0, to.1, to.5, (to.2, (set_at holds.1.0 me.0.known.first to.0.known.local, (holds.1.1.0, to.6))), to.7)
 
 -- what the table was told is what the object has
 pub by_key : {O I S R A B C : Type 0} (meaning : O → Sequential S I R) (told setup : Setup O A B C) → told ≡ setup → (slots id : ℕ) (me : Mine O I S R) (i : ℕ) (f : ℕ → ℕ) (says : ℕ → Mine O I S R → Type 0)

@@ -1,6 +1,6 @@
 -- The steps that lay out a block.
 use Rattle.uni_any.proofs.Vocabulary.{[], append-nil, AreHome, AreSlots, Block, Board, HasLaid, HasLaidOpen, HoldsBlock, Image, IsAt, IsLaid, IsLaying, IsOf, IsOpen, IsStageAt, IsTrying, List, Local, Made, Mail, Mine, Reading, Sequential, Sizes, Some, Step, Valid, Writing, applied_in, length, ap, arith, block_frame, call_frame, carried_after, false, frames_of, gives, goes, homes_after, inl, inr, local_of, made_of, number_cases, pending_of, refl, rest, set_at, set_at_elsewhere, set_at_same, slice_index, slice_set, slot_of, stage_of, subst, sym, takes, true, with_local, ℕ, ◌*◌, ◌+◌, ◌<◌, ◌∙◌, ◌∷◌, ◌≡◌, ◌≢◌}
-use Rattle.uni_any.specs.Laws.{MakesNoAct, Moves}
+use Rattle.uni_any.specs.Laws.{IsSingle, MakesNoAct, Moves}
 use Rattle.uni_any.proofs.Frame.{Found, Given, sound_with, step_law}
 use Rattle.uni_any.proofs.Ordering.{order_kept}
 use Rattle.uni_any.proofs.Slots.{block_inside, block_number}
@@ -80,17 +80,18 @@ module _ {O I S R : Type 0} (meaning : O → Sequential S I R) (o : O) (sizes : 
         reader = reader_goes sizes g' q0 l (Writing inv tries image count out) (reader_framed object sizes g f0 q0 row (Made image) theirs asked current q0 l f.mine.reader);
       }
 
-      pub given_laying : (i count : ℕ) (out : _) (act : Act (Mail I (Block S R))) (says : Mine O I S R → Type 0) → pending_of l.stage ≡ Some inv
+      pub given_laying : (i count : ℕ) (out : _) (act : Act (Mail I (Block S R))) → IsSingle act → (says : Mine O I S R → Type 0) → pending_of l.stage ≡ Some inv
           → IsLaid sizes g' f0 count out (Made image) → Valid homes me.1 act → AreSlots sizes g' (homes_after homes me.1 act)
           → says (with_local me.0 (goes l (Writing inv tries image count out)), carried_after me.1 act)
           → Given object sizes me g local (slice_set words i (slice_index words i)) homes MakesNoAct says
-      given_laying i count out act says pending laid valid are said = record {
+      given_laying i count out act single says pending laid valid are said = record {
         board = g';
         local' = goes l (Writing inv tries image count out);
         acts = [];
         appended = sym (append-nil g.acts);
         made = refl;
         act = act;
+        single = single;
         valid = valid;
         sound = sound_with object sizes g g' local q0 (goes l (Writing inv tries image count out)) f.sound
             (board_framed object sizes g f0 q0 row (Made image) theirs asked current f.sound.board)
@@ -110,7 +111,7 @@ module _ {O I S R : Type 0} (meaning : O → Sequential S I R) (o : O) (sizes : 
           → Given object sizes me g local (slice_set words i (slice_index words i)) homes MakesNoAct says
       open_from r i r_in pending here out rows before after says said =
           let t = taken_framed object sizes g f0 q0 row (Made image) theirs asked current f_in r r_in homes me.1 f.slots_are here out rows in
-          given_laying i r true (takes (slot_of sizes f0 r) t.0) says pending
+          given_laying i r true (takes (slot_of sizes f0 r) t.0) tt says pending
           (laid_open object sizes g f0 q0 row (Made image) theirs asked current f_in r r_in out before after) t.1 t.2 (said t.0)
 
   -- a slot of the block is taken
@@ -157,7 +158,7 @@ module _ {O I S R : Type 0} (meaning : O → Sequential S I R) (o : O) (sizes : 
           (HasLaidOpen st me (slice_index words i)) (λ y. opened_told f.sizes_are (inr stage) y (slice_index words i))
 
     pub lays_open : IsLaying inv tries image r me → Moves meaning o sizes id me (1 + p) (λ n. n) (λ g found. MakesNoAct) (λ found me'. HasLaidOpen st me found me')
-    lays_open laying = step_law meaning o sizes id me (1 + p) (λ n. n) (λ g found. MakesNoAct) (λ found me'. HasLaidOpen st me found me') of.alone (λ g local words homes f fits.
+    lays_open laying = step_law meaning o sizes id me (1 + p) (λ n. n) (λ g found. MakesNoAct) (λ found me'. HasLaidOpen st me found me') of.alone (λ g local words homes f.
         elim laying [
           | inl first ↦ from_reading g local words homes f (1 + p) first.0 (first.1 ∙ ap (λ k. Reading inv tries k image) (ap (λ (z : Sizes). z.processes) f.sizes_are)) (inl first)
           | inr next ↦ from_writing g local words homes f (1 + p) next
@@ -176,7 +177,7 @@ module _ {O I S R : Type 0} (meaning : O → Sequential S I R) (o : O) (sizes : 
           let ask = asked inv tries image g local words homes f at.0 at.1 at.3 in
           let cu = current inv tries image g local words homes f at.0 at.1 at.3 in
           let fi = f_in inv tries image g local words homes f at.0 at.1 at.3 in
-          given_laying inv tries image g local words homes f at.0 at.1 at.3 row i (r + 1) false gives (HasLaid st me (slice_index words i)) (ap pending_of stage)
+          given_laying inv tries image g local words homes f at.0 at.1 at.3 row i (r + 1) false gives tt (HasLaid st me (slice_index words i)) (ap pending_of stage)
           (laid_closed object sizes g f0 q0 row (Made image) th ask cu fi r out.0
           (λ z below. elim (number_cases z r) [
             | inl same ↦ ap row same.0 ∙ set_at_same (g.slot f0) r 2
@@ -192,4 +193,4 @@ module _ {O I S R : Type 0} (meaning : O → Sequential S I R) (o : O) (sizes : 
           λ k. (with_local me.0 (goes l (Writing (a k) (b k) (d k) (c k + 1) false)), rest me.1))
 
     pub lays : Moves meaning o sizes id me (1 + p) (λ n. n) (λ g found. MakesNoAct) (λ found me'. HasLaid st me found me')
-    lays = step_law meaning o sizes id me (1 + p) (λ n. n) (λ g found. MakesNoAct) (λ found me'. HasLaid st me found me') of.alone (λ g local words homes f fits. close_now g local words homes f (1 + p))
+    lays = step_law meaning o sizes id me (1 + p) (λ n. n) (λ g found. MakesNoAct) (λ found me'. HasLaid st me found me') of.alone (λ g local words homes f. close_now g local words homes f (1 + p))

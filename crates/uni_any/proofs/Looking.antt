@@ -3,7 +3,7 @@ use Rattle.uni_any.proofs.Vocabulary.{append-nil, AreSlots, Asked, Block, Board,
 use Rattle.uni_any.specs.declared.view.Taken.{Taken}
 use Rattle.uni_any.specs.declared.view.Stage.TheVariants.{Idle, Posting, Ready, Writing}
 use Rattle.uni_any.proofs.Batches.{contains_cons, image_from-append, not_empty, rising_snoc, row_else, row_here}
-use Rattle.uni_any.specs.Laws.{MakesNoAct, Moves}
+use Rattle.uni_any.specs.Laws.{IsSingle, MakesNoAct, Moves}
 use Rattle.uni_any.proofs.Frame.{Found, Given, sound_with, step_law}
 use Rattle.uni_any.proofs.Ordering.{order_kept}
 use Rattle.uni_any.proofs.Posting.{call_no_block, calls_apart, words_same}
@@ -147,7 +147,7 @@ module _ {O I S R : Type 0} (meaning : O → Sequential S I R) (o : O) (sizes : 
     module _ (slot' : ℕ → ℕ → ℕ) (else : (f r : ℕ) → r ≢ q0 → slot' f r ≡ g.slot f r)
         (blocks : (q k r : ℕ) → q < sizes.processes → k < sizes.calls → length (local q).own ≤ k → slot' (block_frame sizes (q * sizes.calls + k)) r ≡ g.slot (block_frame sizes (q * sizes.calls + k)) r)
         (calls : (q k r : ℕ) → q < sizes.processes → k < sizes.calls → g.announced q ≤ k → slot' (call_frame sizes q k) r ≡ g.slot (call_frame sizes q k) r)
-        (act : Rattle.atomic_table.specs.Table.Act (Mail I (Block S R))) (valid : Valid homes me.1 act) (are : AreSlots sizes (record g { slot = slot' }) (homes_after homes me.1 act))
+        (act : Rattle.atomic_table.specs.Table.Act (Mail I (Block S R))) (single : IsSingle act) (valid : Valid homes me.1 act) (are : AreSlots sizes (record g { slot = slot' }) (homes_after homes me.1 act))
         (t2 : List (Taken I)) (reader2 : IsReader sizes (record g { slot = slot' }) q0 (record l { taken = t2 })) (image' : Image S R) (trying' : IsTrying object sizes g q0 l tries (r + 1) image')
         (said : HasLooked meaning st me a (with_local me.0 (goes (record l { taken = t2 }) (Reading inv tries (r + 1) image')), carried_after me.1 act)) where
       given_next : Given object sizes me g local (slice_set words (1 + r) (slice_index words (1 + r))) homes MakesNoAct (HasLooked meaning st me a)
@@ -163,6 +163,7 @@ module _ {O I S R : Type 0} (meaning : O → Sequential S I R) (o : O) (sizes : 
             appended = sym (append-nil g.acts);
             made = refl;
             act = act;
+            single = single;
             valid = valid;
             sound = sound_with object sizes g g1 local q0 l' f.sound (board_taken object sizes g local q0 slot' g.atomic g.acts else blocks calls board)
                 (others_taken object sizes g local q0 slot' g.atomic g.acts else blocks calls)
@@ -193,7 +194,7 @@ module _ {O I S R : Type 0} (meaning : O → Sequential S I R) (o : O) (sizes : 
     -- nothing is taken
     quiet : (image' : Image S R) → IsTrying object sizes g q0 l tries (r + 1) image' → HasLooked meaning st me a (with_local me.0 (goes l (Reading inv tries (r + 1) image')), me.1)
         → Given object sizes me g local (slice_set words (1 + r) (slice_index words (1 + r))) homes MakesNoAct (HasLooked meaning st me a)
-    quiet image' trying' said = given_next g.slot (λ e c n. refl) (λ q k c x y z. refl) (λ q k c x y z. refl) keeps tt
+    quiet image' trying' said = given_next g.slot (λ e c n. refl) (λ q k c x y z. refl) (λ q k c x y z. refl) keeps tt tt
         (slots_kept sizes g (record g { slot = g.slot }) homes f.slots_are (λ e c. ((λ n. n), (λ full. (full, refl))))) l.taken
         (let w = f.mine.reader in record { old = w.old; base = w.base; same = w.same; new = w.new; long = w.long; call = w.call; taken_most = w.taken_most }) image' trying' said
 
@@ -261,7 +262,7 @@ module _ {O I S R : Type 0} (meaning : O → Sequential S I R) (o : O) (sizes : 
                 let taken_here : taken_of l2 r ≡ record { number = a; inv = Some c.0 } = get_or-set_same l.taken r _ nothing_taken long in
                 let taken_else : (z : ℕ) → z ≢ r → taken_of l2 z ≡ taken_of l z = (λ z n. get_or-set_other l.taken r z _ nothing_taken n) in
                 let was = f.mine.reader in
-                given_next slot' else blocks frames (takes (slot_of sizes fc q0) t.0) t.1 t.3 l2.taken
+                given_next slot' else blocks frames (takes (slot_of sizes fc q0) t.0) tt t.1 t.3 l2.taken
                 (record {
                   old = was.old;
                   base = was.base;
@@ -318,4 +319,4 @@ module _ {O I S R : Type 0} (meaning : O → Sequential S I R) (o : O) (sizes : 
     ]
 
   pub looks : Moves meaning o sizes id me (1 + r) (λ n. n) (λ g found. MakesNoAct) (λ found me'. HasLooked meaning st me found me')
-  looks = step_law meaning o sizes id me (1 + r) (λ n. n) (λ g found. MakesNoAct) (λ found me'. HasLooked meaning st me found me') of.alone (λ g local words homes f fits. looks_now g local words homes f)
+  looks = step_law meaning o sizes id me (1 + r) (λ n. n) (λ g found. MakesNoAct) (λ found me'. HasLooked meaning st me found me') of.alone (λ g local words homes f. looks_now g local words homes f)

@@ -1,6 +1,6 @@
 -- The steps that lay out an invocation.
 use Rattle.uni_any.proofs.Vocabulary.{[], append-nil, AreHome, AreWords, Asked, Block, Board, HasClosed, HasOpened, HoldsCall, Idle, some-injective, carried_after, IsAt, IsClosed, IsHome, IsLaid, IsOf, IsOpening, IsStageAt, List, Local, Mail, Mine, None, Posting, Sequential, Sizes, Step, ap, arith, block_frame, call_frame, either, eqb, exchanged, false, frames_of, gives, goes, homes_after, inl, inr, local_of, made_of, number_cases, pending_of, refl, rest, set-get_or, set_at, set_at_elsewhere, set_at_same, slice_index, slice_set, slot_of, some, stage_of, subst, sym, takes, told, true, with_local, ℕ, ◌*◌, ◌+◌, ◌<◌, ◌∙◌, ◌∷◌, ◌≡◌, ◌≢◌}
-use Rattle.uni_any.specs.Laws.{MakesNoAct, Moves}
+use Rattle.uni_any.specs.Laws.{IsSingle, MakesNoAct, Moves}
 use Rattle.uni_any.proofs.Frame.{Found, Given, sound_with, step_law}
 use Rattle.uni_any.proofs.Ordering.{order_kept}
 use Rattle.uni_any.proofs.Slots.{call_inside, block_number, row_and_column}
@@ -85,17 +85,18 @@ module _ {O I S R : Type 0} (meaning : O → Sequential S I R) (o : O) (sizes : 
         reader = reader_goes sizes g' q0 l (Posting inv count out) (reader_framed object sizes g f0 q0 row (Asked inv) theirs asked current q0 l f.mine.reader);
       }
 
-      pub given_posting : (i : ℕ) (count : ℕ) (out : _) (act : Rattle.atomic_table.specs.Table.Act (Mail I (Block S R))) (says : Mine O I S R → Type 0) → pending_of l.stage ≡ None
+      pub given_posting : (i : ℕ) (count : ℕ) (out : _) (act : Rattle.atomic_table.specs.Table.Act (Mail I (Block S R))) → IsSingle act → (says : Mine O I S R → Type 0) → pending_of l.stage ≡ None
           → IsLaid sizes g' f0 count out (Asked inv) → Rattle.atomic_table.specs.Table.Valid homes me.1 act → Rattle.uni_any.specs.Shown.AreSlots sizes g' (homes_after homes me.1 act)
           → says (with_local me.0 (goes l (Posting inv count out)), Rattle.atomic_table.specs.Table.carried_after me.1 act)
           → Given object sizes me g local (slice_set words i (slice_index words i)) homes MakesNoAct says
-      given_posting i count out act says none laid valid are said = record {
+      given_posting i count out act single says none laid valid are said = record {
         board = g';
         local' = goes l (Posting inv count out);
         acts = [];
         appended = sym (append-nil g.acts);
         made = refl;
         act = act;
+        single = single;
         valid = valid;
         sound = sound_with object sizes g g' local q0 (goes l (Posting inv count out)) f.sound
             (board_framed object sizes g f0 q0 row (Asked inv) theirs asked current f.sound.board)
@@ -138,7 +139,7 @@ module _ {O I S R : Type 0} (meaning : O → Sequential S I R) (o : O) (sizes : 
           let cu = current g local words homes f closed m_in later spare in
           let fi = f_in g local words homes f closed m_in later spare in
           let t = taken_framed object sizes g (call_frame sizes q0 m) q0 row (Asked inv) th ask cu fi r r_in homes me.1 f.slots_are here out rows in
-          given_posting g local words homes f closed m_in later spare inv row i r true (takes (slot_of sizes (call_frame sizes q0 m) r) t.0) (HasOpened st me (slice_index words i)) none
+          given_posting g local words homes f closed m_in later spare inv row i r true (takes (slot_of sizes (call_frame sizes q0 m) r) t.0) tt (HasOpened st me (slice_index words i)) none
           (laid_open object sizes g (call_frame sizes q0 m) q0 row (Asked inv) th ask cu fi r r_in out before after) t.1 t.2 (opened_told f.sizes_are opening t.0 (slice_index words i))
 
       from_idle : r ≡ 0 → stage_of me ≡ Idle → Wanted
@@ -161,7 +162,7 @@ module _ {O I S R : Type 0} (meaning : O → Sequential S I R) (o : O) (sizes : 
           (λ z below. else z (λ y. omega arith) ∙ at.3.written z below) (λ z above e. at.3.others z above (sym (else z (λ y. omega arith)) ∙ e))
 
     pub opens : IsOpening inv r me → Moves meaning o sizes id me (1 + p) (λ n. either (eqb n m) m n) (λ g found. MakesNoAct) (λ found me'. HasOpened st me found me')
-    opens opening = step_law meaning o sizes id me (1 + p) (λ n. either (eqb n m) m n) (λ g found. MakesNoAct) (λ found me'. HasOpened st me found me') of.alone (λ g local words homes f fits.
+    opens opening = step_law meaning o sizes id me (1 + p) (λ n. either (eqb n m) m n) (λ g found. MakesNoAct) (λ found me'. HasOpened st me found me') of.alone (λ g local words homes f.
         let x = slice_index words (1 + p) in
         let given : Given object sizes me g local (slice_set words (1 + p) x) homes MakesNoAct (HasOpened st me x) = elim opening [
           | inl first ↦ from_idle g local words homes f (1 + p) first.0 first.1
@@ -186,7 +187,7 @@ module _ {O I S R : Type 0} (meaning : O → Sequential S I R) (o : O) (sizes : 
           let ask = asked g local words homes f at.0 at.1 at.2 at.4 in
           let cu = current g local words homes f at.0 at.1 at.2 at.4 in
           let fi = f_in g local words homes f at.0 at.1 at.2 at.4 in
-          given_posting g local words homes f at.0 at.1 at.2 at.4 inv row i (r + 1) false gives (HasClosed st me (slice_index words i)) (ap pending_of stage)
+          given_posting g local words homes f at.0 at.1 at.2 at.4 inv row i (r + 1) false gives tt (HasClosed st me (slice_index words i)) (ap pending_of stage)
           (laid_closed object sizes g (call_frame sizes q0 m) q0 row (Asked inv) th ask cu fi r out.0
           (λ z below. elim (number_cases z r) [
             | inl same ↦ ap row same.0 ∙ set_at_same (g.slot (call_frame sizes q0 m)) r 2
@@ -202,4 +203,4 @@ module _ {O I S R : Type 0} (meaning : O → Sequential S I R) (o : O) (sizes : 
           λ k. (with_local me.0 (goes l (Posting (a k) (b k + 1) false)), rest me.1))
 
     pub closes : Moves meaning o sizes id me (1 + p) (λ n. n) (λ g found. MakesNoAct) (λ found me'. HasClosed st me found me')
-    closes = step_law meaning o sizes id me (1 + p) (λ n. n) (λ g found. MakesNoAct) (λ found me'. HasClosed st me found me') of.alone (λ g local words homes f fits. close_now g local words homes f (1 + p))
+    closes = step_law meaning o sizes id me (1 + p) (λ n. n) (λ g found. MakesNoAct) (λ found me'. HasClosed st me found me') of.alone (λ g local words homes f. close_now g local words homes f (1 + p))

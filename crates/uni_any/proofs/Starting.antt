@@ -1,7 +1,7 @@
 -- The load of S with which an attempt begins, or a call ends.
 use Rattle.uni_any.proofs.Vocabulary.{append-nil, AcceptsAll-append, Act, AreHome, AreOrdered, AreSlots, Atomic, Block, Board, GoesOn, HasStarted, HasStartedAs, Invoke, IsBoard, IsHistory, IsHome, IsOf, IsOpen, IsOrdered, IsPending, IsReader, IsStageAt, IsTold, IsWhole, List, Local, Mail, Mine, None, Option, Reading, Ready, Respond, Returned, Sequential, Sizes, Some, Step, Valid, [], ap, applied_in, arith, at_start, block_frame, call_frame, carried_after, ending, goes, has_block, homes_after, in_of, inl, inr, keeps, length, length-append, local_of, made_of, map, mul-le-mul_right, slice_index_or, nothing_taken, taken_of, append_assoc, response_at, number_cases, pending_of, plain, refl, returns, row_in, sequential_acts, set_at, set_at-cases, set_at_elsewhere, set_at_same, slice_index, slice_set, slot_of, subst, sym, takes, version_in, with_local, word_of, ℕ, ◌*◌, ◌++◌, ◌+◌, ◌<◌, ◌∙◌, ◌∷◌, ◌≡◌, ◌≢◌, ◌≤◌}
 use Rattle.uni_any.proofs.Acts.{none_returned, one_returned, responded_other, responded_own, sequential_acts-snoc}
-use Rattle.uni_any.specs.Laws.{Moves, Responds}
+use Rattle.uni_any.specs.Laws.{IsSingle, Moves, Responds}
 use Rattle.uni_any.proofs.Frame.{Found, Given, sound_with, step_law}
 use Rattle.uni_any.proofs.Ordering.{order_kept, order_with, ordered_returned, version_rises}
 use Rattle.uni_any.proofs.Posting.{call_no_block, words_same}
@@ -81,7 +81,7 @@ module _ {O I S R : Type 0} (meaning : O → Sequential S I R) (o : O) (sizes : 
         (blocks : (q k r : ℕ) → q < sizes.processes → k < sizes.calls → length (local q).own ≤ k → slot' (block_frame sizes (q * sizes.calls + k)) r ≡ g.slot (block_frame sizes (q * sizes.calls + k)) r)
         (calls : (q k r : ℕ) → q < sizes.processes → k < sizes.calls → g.announced q ≤ k → slot' (call_frame sizes q k) r ≡ g.slot (call_frame sizes q k) r)
         (ready : (z k : ℕ) → z < sizes.processes → k < sizes.calls → slot' (call_frame sizes z k) q0 ≡ g.slot (call_frame sizes z k) q0)
-        (act : Rattle.atomic_table.specs.Table.Act (Mail I (Block S R))) (valid : Valid homes me.1 act) (are : AreSlots sizes (record g { slot = slot' }) (homes_after homes me.1 act))
+        (act : Rattle.atomic_table.specs.Table.Act (Mail I (Block S R))) (single : IsSingle act) (valid : Valid homes me.1 act) (are : AreSlots sizes (record g { slot = slot' }) (homes_after homes me.1 act))
         (said : (l' : Local I S R) → GoesOn l1 q0 inv tries g.image l' → HasStartedAs sizes inv tries me s (with_local me.0 l', carried_after me.1 act)) where
       abbrev Wanted : Type 0
       Wanted = Given object sizes me g local (slice_set words 0 (slice_index words 0)) homes (Responds q0) (HasStarted st me s)
@@ -138,6 +138,7 @@ module _ {O I S R : Type 0} (meaning : O → Sequential S I R) (o : O) (sizes : 
             appended = sym (append-nil g.acts);
             made = sym (none_returned q0 l l' refl);
             act = act;
+            single = single;
             valid = valid;
             sound = sound_with object sizes g (g1 g.atomic g.acts) local q0 l' f.sound (board_taken object sizes g local q0 slot' g.atomic g.acts else blocks calls board)
                 (others_taken object sizes g local q0 slot' g.atomic g.acts else blocks calls)
@@ -209,6 +210,7 @@ module _ {O I S R : Type 0} (meaning : O → Sequential S I R) (o : O) (sizes : 
             appended = refl;
             made = sym (one_returned q0 l l' _ refl);
             act = act;
+            single = single;
             valid = valid;
             sound = sound_with object sizes g (g1 atomic' acts') local q0 l' f.sound (board_taken object sizes g local q0 slot' atomic' acts' else blocks calls board)
                 (others_taken object sizes g local q0 slot' atomic' acts' else blocks calls)
@@ -282,7 +284,7 @@ module _ {O I S R : Type 0} (meaning : O → Sequential S I R) (o : O) (sizes : 
 
     -- the process has this block already
     same_word : s ≡ l.word → Given object sizes me g local (slice_set words 0 (slice_index words 0)) homes (Responds q0) (HasStarted st me s)
-    same_word same = either_way g.slot (λ f r n. refl) (λ q k r a b c. refl) (λ q k r a b c. refl) (λ z k a b. refl) keeps tt
+    same_word same = either_way g.slot (λ f r n. refl) (λ q k r a b c. refl) (λ q k r a b c. refl) (λ z k a b. refl) keeps tt tt
         (slots_kept sizes g (record g { slot = g.slot }) homes f.slots_are (λ e c. ((λ n. n), (λ full. (full, refl)))))
         (λ l' on. (
           g.image,
@@ -321,7 +323,7 @@ module _ {O I S R : Type 0} (meaning : O → Sequential S I R) (o : O) (sizes : 
           ]
           | inr other ↦ (let w = apart_frame e r other.0 in ((λ x y. x (w ∙ y)), (λ full. (sym w ∙ full, refl))))
         ]) homes me.1 f.slots_are (λ e. let x = new.2 in omega arith) (here_frame q0 ∙ set_at_same (g.slot fc) q0 1) in
-        either_way slot' else blocks (λ q k r q_in k_in from. frames q k r q_in k_in) (λ z k z_in k_in. frames z k q0 z_in k_in) (takes (slot_of sizes fc q0) t.0) t.1 t.3
+        either_way slot' else blocks (λ q k r q_in k_in from. frames q k r q_in k_in) (λ z k z_in k_in. frames z k q0 z_in k_in) (takes (slot_of sizes fc q0) t.0) tt t.1 t.3
         (λ l' on. (
           g.image,
           l',
@@ -342,7 +344,7 @@ module _ {O I S R : Type 0} (meaning : O → Sequential S I R) (o : O) (sizes : 
 
   pub starts : Moves meaning o sizes id me 0 (λ n. n) (λ g found. Responds p) (λ found me'. HasStarted st me found me')
   starts = subst (λ k. Moves meaning o sizes id me 0 (λ n. n) (λ g found. Responds k) (λ found me'. HasStarted st me found me')) of.first
-      (step_law meaning o sizes id me 0 (λ n. n) (λ g found. Responds q0) (λ found me'. HasStarted st me found me') of.alone (λ g local words homes f few.
+      (step_law meaning o sizes id me 0 (λ n. n) (λ g found. Responds q0) (λ found me'. HasStarted st me found me') of.alone (λ g local words homes f.
       elim (number_cases (slice_index words 0) l.word) [
         | inl same ↦ same_word g local words homes f same.0
         | inr other ↦ new_word g local words homes f other.0

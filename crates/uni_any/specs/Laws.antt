@@ -1,8 +1,8 @@
 -- What the steps on words append to the history of the board.
-use Rattle.std.specs.Prelude.{◌≡◌, ◌≢◌, ℕ, ◌+◌, ◌<◌, List, [], ◌∷◌, ◌++◌, refl, drop, length, map, slice_index, Some, None}
+use Rattle.std.specs.Prelude.{◌≡◌, ◌≢◌, ℕ, ◌+◌, List, [], ◌∷◌, ◌++◌, refl, drop, length, map, slice_index}
 use mathlib.Core.Option.{some}
 use lib.ListN.{get_elem?}
-use Rattle.atomic_table.specs.Table.{State, Valid, carried_after, stepped}
+use Rattle.atomic_table.specs.Table.{State, Valid, carried_after, chain, stepped}
 use Rattle.atomic_table.specs.Table.{Act as Handling}
 use Rattle.seq_object.specs.Sequential.{Sequential}
 use Rattle.uni_model.specs.AtomicObject.{Act, set_at}
@@ -18,6 +18,11 @@ use Rattle.uni_any.specs.declared.view.Image.{Image}
 use Rattle.uni_any.specs.declared.view.Local.{Local}
 use Rattle.uni_any.specs.declared.view.Returned.{Returned}
 use Rattle.uni_any.specs.declared.view.View.{View}
+
+-- a seat takes one slot, gives one back, or does neither
+abbrev pub IsSingle : {X : Type 0} → Handling X → Type 0
+IsSingle (chain first second) = ⊥
+IsSingle handled = Unit {0}
 
 -- the responses of the calls from call k on
 abbrev pub responses : {I R : Type 0} → (p k : ℕ) → List (Returned I R) → List (Act I R)
@@ -60,9 +65,8 @@ module _ {O S I R : Type 0} (meaning : O → Sequential S I R) (o : O) (sizes : 
   Moves i f makes says =
       (s : State (Mail I (Block S R)) (View O I S R)) (g : Board I S R) (local : ℕ → Local I S R) (seat_of : ℕ → ℕ)
       → IsShown sizes meaning o g local seat_of s → get_elem? s.views id ≡ some me.0
-      → slice_index s.words i < 18446744073709551616
       → (v : View O I S R) × (handled : Handling (Mail I (Block S R))) × (g' : Board I S R) × (acts : List (Act I R))
-      × Valid s.homes me.1 handled
+      × IsSingle handled × Valid s.homes me.1 handled
       × IsShown sizes meaning o g' (set_at local me.0.known.first v.known.local) seat_of
       (stepped s i (f (slice_index s.words i)) id me.1 v handled)
       × says (slice_index s.words i) (v, carried_after me.1 handled)

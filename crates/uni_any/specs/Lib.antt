@@ -10,3 +10,5 @@ pub mod Belongs
 pub mod Calls
 pub mod Final
 pub mod Laws
+pub mod Execution
+pub mod Linearized

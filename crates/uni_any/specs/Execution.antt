@@ -1,0 +1,221 @@
+-- Executions: processes that take word steps in any order, as plain data.
+use Rattle.std.specs.Prelude.{◌≡◌, ◌≢◌, ◌⊎◌, ℕ, ◌+◌, ◌-◌, ◌*◌, ◌/◌, ◌%◌, ◌<◌, ◌≤◌, ◌==◌, List, [], ◌∷◌, ◌++◌, Option, None, Some}
+use Rattle.std.specs.Prelude.{false, true, if◌then◌else◌, length, map, refl, replicate, slice_index, slice_set}
+use mathlib.Core.Option.{Option as Maybe, some, none}
+use lib.ListN.{get_elem?}
+use Rattle.seq_object.specs.Sequential.{Sequential}
+use Rattle.uni_model.specs.AtomicObject.{Act, Invoked, set_at}
+use Rattle.uni_model.specs.AtomicObject.Act.{Invoke, Linearize, Respond}
+use Rattle.uni_any.specs.Batch.{pending_of}
+use Rattle.uni_any.specs.Board.{block_frame, call_frame, frames_of, slot_of, span, word_of}
+use Rattle.uni_any.specs.Content.{Content.Asked, Content.Made, applied_in, row_in, taken_in, told}
+use Rattle.uni_any.specs.Invariant.{taken_of}
+use Rattle.uni_any.specs.Plays.{at_rest, goes, has_block, knows, returns, took, version_in}
+use Rattle.uni_any.specs.declared.block.Block.{Block}
+use Rattle.uni_any.specs.declared.mail.Mail.{Mail}
+use Rattle.uni_any.specs.declared.mail.Mail.TheVariants.{Empty}
+use Rattle.uni_any.specs.declared.sizes.Sizes.{Sizes}
+use Rattle.uni_any.specs.declared.view.Image.{Image}
+use Rattle.uni_any.specs.declared.view.Local.{Local}
+use Rattle.uni_any.specs.declared.view.Stage.{Stage}
+use Rattle.uni_any.specs.declared.view.Stage.TheVariants.{Idle, Posting, Ready, Reading, Writing}
+
+-- the shared words; what lies in each slot that is at home, and nothing where it is out; where each process stands
+pub record Moment (I S R : Type 0) : Type 0 where
+  pub words : List ℕ
+  pub homes : List (Maybe (Mail I (Block S R)))
+  pub local : ℕ → Local I S R
+
+-- What a step does: what one word becomes, which slots are at home then, where its process stands, and which acts of a
+-- history it makes.
+pub record Effect (I S R : Type 0) : Type 0 where
+  pub word : ℕ
+  pub becomes : ℕ
+  pub homes : List (Maybe (Mail I (Block S R)))
+  pub leaves : Local I S R
+  pub acts : List (Act I R)
+
+-- the pending call of process p, where it has one
+abbrev pub pending_call : {I S R : Type 0} → (p : ℕ) → Local I S R → List (Invoked I)
+pending_call {I} p l = call_of (pending_of l.stage) where
+  call_of : Option I → List (Invoked I)
+  call_of None = []
+  call_of (Some inv) = record { process = p; nth = length l.own; inv = inv } ∷ []
+
+-- The calls by which an image has more than another one, of so many processes from p on: their pending calls, in the order
+-- of processes.
+abbrev pub calls_between : {I S R : Type 0} → (local : ℕ → Local I S R) → (before after : Image S R) → (p count : ℕ)
+    → List (Invoked I)
+calls_between local before after p 0 = []
+calls_between local before after p (suc count) =
+    (if applied_in after p == applied_in before p then [] else pending_call p (local p))
+    ++ calls_between local before after (p + 1) count
+
+module _ {S I R : Type 0} (object : Sequential S I R) (sizes : Sizes) where
+  module _ (m : Moment I S R) (p : ℕ) where
+    abbrev pub mine : Local I S R
+    mine = m.local p
+
+    -- the word S, how many calls process p has made, and the slots for reader r of its next or pending call and of its block
+    abbrev pub present : ℕ
+    present = slice_index m.words 0
+
+    abbrev pub made : ℕ
+    made = length mine.own
+
+    abbrev pub call_slot : (r : ℕ) → ℕ
+    call_slot r = slot_of sizes (call_frame sizes p made) r
+
+    abbrev pub block_slot : (r : ℕ) → ℕ
+    block_slot r = slot_of sizes (block_frame sizes (p * sizes.calls + made)) r
+
+    -- this lies in the slot, which is at home
+    abbrev pub Lies : (slot : ℕ) → Mail I (Block S R) → Type 0
+    Lies slot mail = get_elem? m.homes slot ≡ some (some mail)
+
+    -- after so many failed attempts a call is pending; one that was left in an attempt begins anew
+    abbrev pub Waits : I → (tries : ℕ) → Type 0
+    Waits inv tries =
+        (mine.stage ≡ Ready inv tries)
+        ⊎ ((tries ≡ 0) × ((t : ℕ) × (r : ℕ) × (image : Image S R) × (mine.stage ≡ Reading inv t r image)))
+
+    -- the version that S names is the one that the process has; or it takes it out of its slot
+    pub record Reads (base : Image S R) (homes : List (Maybe (Mail I (Block S R)))) : Type 0 where
+      pub same : present ≡ mine.word → (base ≡ mine.base) × (homes ≡ m.homes)
+      pub other : present ≢ mine.word → (c : ℕ) × (mail : Mail I (Block S R)) × (present % span ≡ c + 1)
+          × (told mail ≡ Made base) × Lies (slot_of sizes (block_frame sizes c) p) mail
+          × (homes ≡ slice_set m.homes (slot_of sizes (block_frame sizes c) p) none)
+
+    -- The steps that process p can take next.
+    pub data Next : Type 0 where
+      -- the slot for the next reader of an invocation is taken; it is given back with the invocation in it; once each reader
+      -- has one, the call is announced
+      OpenCall : (inv : I) (r : ℕ) (mail : Mail I (Block S R)) → ((r ≡ 0) × (mine.stage ≡ Idle)) ⊎ (mine.stage ≡ Posting inv r false)
+          → r < sizes.processes → made < sizes.calls → Lies (call_slot r) mail → Next
+      CloseCall : (inv : I) (r : ℕ) (mail : Mail I (Block S R)) → mine.stage ≡ Posting inv r true → told mail ≡ Asked inv → Next
+      Announce : (inv : I) → mine.stage ≡ Posting inv sizes.processes false → made < sizes.calls → Next
+      -- S is loaded: where the call isn't in that version, an attempt begins; where it is, the call returns
+      Start : (inv : I) (tries : ℕ) (base : Image S R) (homes : List (Maybe (Mail I (Block S R)))) → Waits inv tries
+          → Reads base homes → applied_in base p ≢ made + 1 → Next
+      Return : (inv : I) (tries : ℕ) (base : Image S R) (homes : List (Maybe (Mail I (Block S R)))) (reply : R) → Waits inv tries
+          → Reads base homes → applied_in base p ≡ made + 1 → (row_in base p).reply ≡ Some reply → Next
+      -- an announcement is loaded: all that process has announced is in; or its call is applied, the invocation of which was
+      -- taken before; or it is taken out of its slot now
+      Pass : (inv : I) (tries r : ℕ) (image : Image S R) → mine.stage ≡ Reading inv tries r image → r < sizes.processes
+          → slice_index m.words (1 + r) ≤ applied_in image r → Next
+      Apply : (inv : I) (tries r : ℕ) (image : Image S R) (asked : I) → mine.stage ≡ Reading inv tries r image
+          → r < sizes.processes → applied_in image r < slice_index m.words (1 + r)
+          → (taken_of mine r).number ≡ slice_index m.words (1 + r) → (taken_of mine r).inv ≡ Some asked → Next
+      Take : (inv : I) (tries r : ℕ) (image : Image S R) (asked : I) (mail : Mail I (Block S R))
+          → mine.stage ≡ Reading inv tries r image → r < sizes.processes → applied_in image r < slice_index m.words (1 + r)
+          → (taken_of mine r).number ≢ slice_index m.words (1 + r) → told mail ≡ Asked asked
+          → Lies (slot_of sizes (call_frame sizes r (slice_index m.words (1 + r) - 1)) p) mail → Next
+      -- the slot for the next reader of the block is taken, and given back with the block in it
+      OpenBlock : (inv : I) (tries r : ℕ) (image : Image S R) (mail : Mail I (Block S R))
+          → ((r ≡ 0) × (mine.stage ≡ Reading inv tries sizes.processes image)) ⊎ (mine.stage ≡ Writing inv tries image r false)
+          → r < sizes.processes → Lies (block_slot r) mail → Next
+      CloseBlock : (inv : I) (tries r : ℕ) (image : Image S R) (mail : Mail I (Block S R))
+          → mine.stage ≡ Writing inv tries image r true → told mail ≡ Made image → Next
+      -- once each reader has one, S is exchanged, if it is what the attempt began with; else the attempt has failed
+      Bring : (inv : I) (tries : ℕ) (image : Image S R) (reply : R) → mine.stage ≡ Writing inv tries image sizes.processes false
+          → present ≡ mine.word → (row_in image p).reply ≡ Some reply → Next
+      Fail : (inv : I) (tries : ℕ) (image : Image S R) → mine.stage ≡ Writing inv tries image sizes.processes false
+          → present ≢ mine.word → Next
+      -- between calls it is asked which version has come
+      Follow : mine.stage ≡ Idle → Next
+
+    -- a load of a word, by which no slot moves and no act is made
+    abbrev pub load_of : (word : ℕ) → Local I S R → Effect I S R
+    load_of word l = record { word = word; becomes = slice_index m.words word; homes = m.homes; leaves = l; acts = [] }
+
+    -- What such a step does. An announcement invokes a call. An exchange that finds what its attempt began with makes the
+    -- calls that its block has more than the version before take effect, in the order of their processes; the own call,
+    -- which is one of them, responds. So does the load of S that finds the call in. No other step makes an act.
+    abbrev pub effect_of : Next → Effect I S R
+    effect_of (OpenCall inv r mail opens inside few lies) = record (load_of (1 + p) (goes mine (Posting inv r true))) {
+      homes = slice_set m.homes (call_slot r) none;
+    }
+    effect_of (CloseCall inv r mail at holds) = record (load_of (1 + p) (goes mine (Posting inv (r + 1) false))) {
+      homes = slice_set m.homes (call_slot r) (some mail);
+    }
+    effect_of (Announce inv at few) = record {
+      word = 1 + p;
+      becomes = made + 1;
+      homes = m.homes;
+      leaves = goes mine (Ready inv 0);
+      acts = Invoke p made inv ∷ [];
+    }
+    effect_of (Start inv tries base homes waits reads out) =
+        record (load_of 0 (goes (has_block mine present base) (Reading inv tries 0 base))) { homes = homes }
+    effect_of (Return inv tries base homes reply waits reads is_in has) =
+        record (load_of 0 (returns (has_block mine present base) inv reply)) {
+          homes = homes;
+          acts = Respond p made reply ∷ [];
+        }
+    effect_of (Pass inv tries r image at inside none_more) = load_of (1 + r) (goes mine (Reading inv tries (r + 1) image))
+    effect_of (Apply inv tries r image asked at inside more known has) =
+        load_of (1 + r) (goes mine (Reading inv tries (r + 1) (taken_in object image r asked)))
+    effect_of (Take inv tries r image asked mail at inside more unknown holds lies) =
+        record (load_of (1 + r) (goes (took mine r (slice_index m.words (1 + r)) asked)
+            (Reading inv tries (r + 1) (taken_in object image r asked)))) {
+          homes = slice_set m.homes (slot_of sizes (call_frame sizes r (slice_index m.words (1 + r) - 1)) p) none;
+        }
+    effect_of (OpenBlock inv tries r image mail lays inside lies) =
+        record (load_of (1 + p) (goes mine (Writing inv tries image r true))) { homes = slice_set m.homes (block_slot r) none }
+    effect_of (CloseBlock inv tries r image mail at holds) =
+        record (load_of (1 + p) (goes mine (Writing inv tries image (r + 1) false))) {
+          homes = slice_set m.homes (block_slot r) (some mail);
+        }
+    effect_of (Bring inv tries image reply at same has) =
+        let new = word_of (mine.word / span + 1) (p * sizes.calls + made + 1) in
+        record {
+          word = 0;
+          becomes = new;
+          homes = m.homes;
+          leaves = returns (has_block mine new image) inv reply;
+          acts = map (λ c. Linearize c) (calls_between m.local mine.base image 0 sizes.processes) ++ Respond p made reply ∷ [];
+        }
+    effect_of (Fail inv tries image at other) = load_of 0 (goes mine (Ready inv (tries + 1)))
+    effect_of (Follow at) = load_of 0 (knows mine (version_in present))
+
+  -- the moment after process p has taken a step: one word, the slots at home and its own place have changed
+  abbrev pub after : (m : Moment I S R) (p : ℕ) → Next m p → Moment I S R
+  after m p next = let e = effect_of m p next in record {
+    words = slice_set m.words e.word e.becomes;
+    homes = e.homes;
+    local = set_at m.local p e.leaves;
+  }
+
+  -- An execution from a moment on: again and again some process takes a step that it can take.
+  pub data Execution : Moment I S R → Type 0 where
+    Ends : {m : Moment I S R} → Execution m
+    Step : {m : Moment I S R} (p : ℕ) → p < sizes.processes → (next : Next m p) → Execution (after m p next) → Execution m
+
+  -- the acts that its steps make, in the order of the steps
+  abbrev pub history : {m : Moment I S R} → Execution m → List (Act I R)
+  history Ends = []
+  history (Step {m = m} p inside next rest) = (effect_of m p next).acts ++ history rest
+
+  -- the moment at its end
+  abbrev pub last_moment : {m : Moment I S R} → Execution m → Moment I S R
+  last_moment {m = m} Ends = m
+  last_moment (Step p inside next rest) = last_moment rest
+
+  -- one that goes on
+  abbrev pub goes_on : {m : Moment I S R} (e : Execution m) → Execution (last_moment e) → Execution m
+  goes_on Ends more = more
+  goes_on (Step p inside next rest) more = Step p inside next (goes_on rest more)
+
+  -- the opening: no process has a call, S is 0, and all slots are at home, and empty
+  abbrev pub opened_moment : Moment I S R
+  opened_moment = record {
+    words = replicate (1 + sizes.processes) 0;
+    homes = map some (replicate (frames_of sizes * sizes.processes) Empty);
+    local = λ p. at_rest object sizes;
+  }
+
+-- the calls that take effect in a history, in their order
+abbrev pub points : {I R : Type 0} → List (Act I R) → List (Invoked I)
+points [] = []
+points (Linearize c ∷ acts) = c ∷ points acts
+points (act ∷ acts) = points acts
