@@ -26,5 +26,7 @@ pub mod Scanning
 pub mod Ending
 pub mod Brought
 pub mod Meaning
+pub mod Executing
+pub mod Linearity
 pub mod Closing
 pub mod Emptying

@@ -1,5 +1,5 @@
 -- The table that is made shows the board that is opened.
-use Rattle.uni_any.proofs.Vocabulary.{AreFew, AreOrdered, AreSlots, AreWords, Block, IsAt, IsBoard, IsHistory, List, Mail, Row, Sequential, ShowsBoard, Sizes, Some, Tells, View, [], ap, arith, at_rest, blank, first_view, frames_of, get_elem?, in_of, inl, length, length-replicate, map, nothing_taken, opened, refl, replicate, slice_get, slice_index_or, slot_of, some, some-injective, some-ne-none, subst, suc, sym, taken_of, word_of, zero, ℕ, ◌*◌, ◌+◌, ◌∙◌, ◌∷◌, ◌≡◌, ◌≤◌}
+use Rattle.uni_any.proofs.Vocabulary.{AreFew, AreOrdered, AreSlots, AreWords, Block, IsAt, IsBoard, IsHistory, IsSound, List, Mail, Row, Sequential, ShowsBoard, Sizes, Some, Tells, View, [], ap, arith, at_rest, blank, first_view, frames_of, get_elem?, in_of, inl, length, length-replicate, map, nothing_taken, opened, refl, replicate, slice_get, slice_index_or, slot_of, some, some-injective, some-ne-none, subst, suc, sym, taken_of, word_of, zero, ℕ, ◌*◌, ◌+◌, ◌∙◌, ◌∷◌, ◌≡◌, ◌≤◌}
 use Rattle.atomic_table.specs.Table.{opening}
 use Rattle.atomic_table.proofs.Lists.{some_there}
 use Rattle.uni_any.proofs.Slots.{place_inside}
@@ -70,20 +70,23 @@ module _ {O I S R : Type 0} (meaning : O → Sequential S I R) (o : O) (sizes : 
     };
   }
 
-  words' : AreWords sizes (opened object sizes) (replicate (1 + sizes.processes) 0)
+  pub words' : AreWords sizes (opened object sizes) (replicate (1 + sizes.processes) 0)
   words' = record {
     wide = length-replicate (1 + sizes.processes) 0;
     current = copies (1 + sizes.processes) 0 0 ∙ (let e : 0 ≡ word_of 0 0 = omega arith in e);
     announced = λ p p_in. copies (1 + sizes.processes) (1 + p) 0;
   }
 
-  slots' : AreSlots sizes (opened object sizes) (map some slots)
+  pub slots' : AreSlots sizes (opened object sizes) (map some slots)
   slots' = record {
     many = length_somes slots ∙ many;
     home = λ f r f_in r_in there.
         let y = some_there slots (slot_of sizes f r) (let a = place_inside sizes.processes (frames_of sizes) f r f_in r_in in omega arith) in
         (y.0, y.1, (λ full. absurd (let x : 0 ≡ 2 = full in omega arith)));
   }
+
+  pub sound' : IsSound object sizes (opened object sizes) (λ p. at_rest object sizes)
+  sound' = record { board = board'; each = λ p p_in. at_start' p; history = history'; order = order' }
 
   seats' : (id : ℕ) (v : View O I S R) → get_elem? (first_view meaning o sizes ∷ []) id ≡ some v → Tells sizes o (λ p. at_rest object sizes) (λ p. 0) id v
   seats' zero v e = subst (λ (z : View O I S R). Tells sizes o (λ p. at_rest object sizes) (λ p. 0) 0 z) (some-injective _ v e) (record {
@@ -105,7 +108,7 @@ module _ {O I S R : Type 0} (meaning : O → Sequential S I R) (o : O) (sizes : 
           words = words';
           slots = slots';
           seats = seats';
-          sound = record { board = board'; each = λ p p_in. at_start' p; history = history'; order = order' };
+          sound = sound';
         },
       ),
     ),

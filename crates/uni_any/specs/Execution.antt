@@ -1,6 +1,6 @@
 -- Executions: processes that take word steps in any order, as plain data.
 use Rattle.std.specs.Prelude.{◌≡◌, ◌≢◌, ◌⊎◌, ℕ, ◌+◌, ◌-◌, ◌*◌, ◌/◌, ◌%◌, ◌<◌, ◌≤◌, ◌==◌, List, [], ◌∷◌, ◌++◌, Option, None, Some}
-use Rattle.std.specs.Prelude.{false, true, if◌then◌else◌, length, map, refl, replicate, slice_index, slice_set}
+use Rattle.std.specs.Prelude.{false, true, if◌then◌else◌, length, map, replicate, slice_index, slice_set, suc, zero}
 use mathlib.Core.Option.{Option as Maybe, some, none}
 use lib.ListN.{get_elem?}
 use Rattle.seq_object.specs.Sequential.{Sequential}
@@ -35,18 +35,20 @@ pub record Effect (I S R : Type 0) : Type 0 where
   pub leaves : Local I S R
   pub acts : List (Act I R)
 
+-- call k of process p, where it has this invocation
+abbrev pub call_of : {I : Type 0} → (p k : ℕ) → Option I → List (Invoked I)
+call_of p k None = []
+call_of p k (Some inv) = record { process = p; nth = k; inv = inv } ∷ []
+
 -- the pending call of process p, where it has one
 abbrev pub pending_call : {I S R : Type 0} → (p : ℕ) → Local I S R → List (Invoked I)
-pending_call {I} p l = call_of (pending_of l.stage) where
-  call_of : Option I → List (Invoked I)
-  call_of None = []
-  call_of (Some inv) = record { process = p; nth = length l.own; inv = inv } ∷ []
+pending_call p l = call_of p (length l.own) (pending_of l.stage)
 
 -- The calls by which an image has more than another one, of so many processes from p on: their pending calls, in the order
 -- of processes.
 abbrev pub calls_between : {I S R : Type 0} → (local : ℕ → Local I S R) → (before after : Image S R) → (p count : ℕ)
     → List (Invoked I)
-calls_between local before after p 0 = []
+calls_between local before after p zero = []
 calls_between local before after p (suc count) =
     (if applied_in after p == applied_in before p then [] else pending_call p (local p))
     ++ calls_between local before after (p + 1) count
@@ -88,9 +90,10 @@ module _ {S I R : Type 0} (object : Sequential S I R) (sizes : Sizes) where
 
     -- The steps that process p can take next.
     pub data Next : Type 0 where
-      -- the slot for the next reader of an invocation is taken; it is given back with the invocation in it; once each reader
-      -- has one, the call is announced
-      OpenCall : (inv : I) (r : ℕ) (mail : Mail I (Block S R)) → ((r ≡ 0) × (mine.stage ≡ Idle)) ⊎ (mine.stage ≡ Posting inv r false)
+      -- the slot for the next reader of an invocation, of which the process has an owner, is taken; it is given back with the
+      -- invocation in it; once each reader has one, the call is announced
+      OpenCall : (inv : I) (own : Mail I (Block S R)) (r : ℕ) (mail : Mail I (Block S R)) → told own ≡ Asked inv
+          → ((r ≡ 0) × (mine.stage ≡ Idle)) ⊎ (mine.stage ≡ Posting inv r false)
           → r < sizes.processes → made < sizes.calls → Lies (call_slot r) mail → Next
       CloseCall : (inv : I) (r : ℕ) (mail : Mail I (Block S R)) → mine.stage ≡ Posting inv r true → told mail ≡ Asked inv → Next
       Announce : (inv : I) → mine.stage ≡ Posting inv sizes.processes false → made < sizes.calls → Next
@@ -132,7 +135,7 @@ module _ {S I R : Type 0} (object : Sequential S I R) (sizes : Sizes) where
     -- calls that its block has more than the version before take effect, in the order of their processes; the own call,
     -- which is one of them, responds. So does the load of S that finds the call in. No other step makes an act.
     abbrev pub effect_of : Next → Effect I S R
-    effect_of (OpenCall inv r mail opens inside few lies) = record (load_of (1 + p) (goes mine (Posting inv r true))) {
+    effect_of (OpenCall inv own r mail asks opens inside few lies) = record (load_of (1 + p) (goes mine (Posting inv r true))) {
       homes = slice_set m.homes (call_slot r) none;
     }
     effect_of (CloseCall inv r mail at holds) = record (load_of (1 + p) (goes mine (Posting inv (r + 1) false))) {

@@ -5,8 +5,10 @@ ghost use mathlib.Core.Option.{some};
 ghost use prog.Atomic.{either};
 ghost use Rattle.atomic_table.specs.Table.{State, Step};
 ghost use Rattle.uni_any.specs.Content.{Content.Asked, told};
-ghost use Rattle.uni_any.specs.Board.{Board, in_of, span, word_of};
+ghost use Rattle.uni_any.specs.Board.{AreFew, Board, in_of, span, word_of};
 ghost use Rattle.uni_any.specs.Final.{IsLinearized, IsToldBy, ProcessCalls};
+ghost use Rattle.uni_any.specs.Execution.{Execution, last_moment, opened_moment};
+ghost use Rattle.uni_any.specs.Linearized.{IsLinearizedInTime, KeepsOrder};
 ghost use Rattle.uni_any.specs.Laws.{Invokes, MakesNoAct, Moves, Responds, TakesEffect};
 ghost use Rattle.uni_any.specs.Plays.{HasAnnounced, HasAsked, HasBrought, HasClosed, HasLaid, HasLaidOpen, HasLooked};
 ghost use Rattle.uni_any.specs.Plays.{HasOpened, HasStarted, IsLaying, IsOpening, IsPending, Mine};
@@ -118,4 +120,17 @@ pub fn other_steps_append_nothing<O: SeqObject>()
         (st : Step (Mail O.Inv (Block O.State O.Resp))) (me : Mine O O.Inv O.State O.Resp) →
         IsOf o sizes p me → stage_of me ≡ Idle
         → Moves O.sequential o sizes id me 0 (λ x. x) (λ g found. MakesNoAct) (λ found me'. HasAsked st me found me') }
+{}
+
+/// Every execution from the opening, in which the processes take their word steps in any order, is linearizable in real
+/// time: each call takes effect at one of the steps between its announcement and its last one. And strongly: where an
+/// execution goes on, only further calls come behind those that took effect.
+pub fn every_execution_is_linearizable<O: SeqObject>()
+    ensures linearized { (o : O) (sizes : Sizes) → AreFew sizes
+        → (e : Execution {R = O.Resp} (O.sequential o) sizes (opened_moment (O.sequential o) sizes))
+        → IsLinearizedInTime (O.sequential o) sizes e }
+    ensures strongly { (o : O) (sizes : Sizes)
+        → (e : Execution {R = O.Resp} (O.sequential o) sizes (opened_moment (O.sequential o) sizes))
+        (more : Execution (O.sequential o) sizes (last_moment (O.sequential o) sizes e))
+        → KeepsOrder (O.sequential o) sizes e more }
 {}

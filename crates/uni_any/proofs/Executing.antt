@@ -1,0 +1,414 @@
+-- Each step of an execution is one of the table's steps, and so keeps a board whose history is that of the execution.
+use Rattle.uni_any.proofs.Vocabulary.{Act, AreFew, AreSlots, AreWords, Asked, Block, Board, Contains, HasAnnounced, HasAsked, HasBrought, HasClosed, HasLaid, HasLaidOpen, HasBatch, HasLooked, HasOpened, HasStarted, HasStartedAs, IsOpen, Gives, Image, IsLeft, Takes, Invoke, Invoked, IsOf, IsRising, IsShown, IsSound, IsStageAt, Linearize, List, Local, Made, Mail, Mine, None, Option, Posting, Reading, Ready, Respond, Sequential, Sizes, Some, Stage, State, Tells, Valid, View, Writing, Idle, [], ap, append-nil, append_assoc, applied_in, arith, block_frame, call_frame, carried_after, either, eqb, exchanged, false, get_elem?, gives, goes, has_block, homes_after, if◌then◌else◌, in_of, inl, inr, keeps, knows, length, map, none, number_cases, opened, pending_of, refl, rest, returns, row_in, set, set-get_or, set_at, slice_index, slice_set, slot_of, some, some-injective, some-ne-none, span, step, subst, suc, sym, taken_in, taken_of, takes, told, took, true, version_in, with_local, word_of, zero, ℕ, ◌*◌, ◌++◌, ◌+◌, ◌-◌, ◌/◌, ◌<◌, ◌==◌, ◌∙◌, ◌∷◌, ◌≡◌, ◌≢◌, ◌≤◌, ◌⊎◌}
+use Rattle.atomic_table.specs.Table.{chain}
+use Rattle.atomic_table.specs.Table.{Act as Handling}
+use mathlib.Core.Option.{Option as Maybe}
+use Rattle.uni_any.specs.Execution.{Effect, Execution, Moment, Next, Reads, after, call_of, calls_between, effect_of, history, last_moment, pending_call}
+use Rattle.uni_any.specs.Execution.Next.{OpenCall, CloseCall, Announce, Start, Return, Pass, Apply, Take, OpenBlock, CloseBlock, Bring, Fail, Follow}
+use Rattle.uni_any.specs.Execution.Execution.{Ends, Step as Steps}
+use Rattle.uni_any.specs.Laws.{Invokes, IsSingle, MakesNoAct, Moves, Responds, TakesEffect}
+use Rattle.uni_any.proofs.Acts.{none_returned, one_returned}
+use Rattle.uni_any.proofs.Announcing.{announces}
+use Rattle.uni_any.proofs.Asking.{asks}
+use Rattle.uni_any.proofs.Batches.{applied_from, contains_cons, contains_first, contains_later, not_empty, rising_from, row_from}
+use Rattle.uni_any.proofs.Bringing.{brings_in}
+use Rattle.uni_any.proofs.Laying.{lays, lays_open}
+use Rattle.uni_any.proofs.Looking.{looks}
+use Rattle.uni_any.proofs.Posting.{closes, opens}
+use Rattle.uni_any.proofs.Starting.{starts}
+
+-- the values of a function below a number
+abbrev each_of : {A : Type 0} → (ℕ → A) → ℕ → List A
+each_of f zero = []
+each_of f (suc n) = f zero ∷ each_of (λ k. f (suc k)) n
+
+at_each : {A : Type 0} (f : ℕ → A) (n k : ℕ) → k < n → get_elem? (each_of f n) k ≡ some (f k)
+at_each f zero k below = absurd (omega arith)
+at_each f (suc n) zero below = refl
+at_each f (suc n) (suc k) below = at_each (λ j. f (suc j)) n k (omega arith)
+
+from_each : {A : Type 0} (f : ℕ → A) (n k : ℕ) (a : A) → get_elem? (each_of f n) k ≡ some a → (k < n) × (f k ≡ a)
+from_each f zero k a e = absurd (some-ne-none a (sym e))
+from_each f (suc n) zero a e = (omega arith, some-injective (f zero) a e)
+from_each f (suc n) (suc k) a e = let h = from_each (λ j. f (suc j)) n k a e in (let b = h.0 in omega arith, h.1)
+
+-- the first slot that a seat has, and what it holds
+abbrev slot_first : {X : Type 0} → ℕ → List (ℕ × X) → ℕ
+slot_first k [] = k
+slot_first k (x ∷ xs) = x.0
+
+abbrev value_first : {X : Type 0} → X → List (ℕ × X) → X
+value_first y [] = y
+value_first y (x ∷ xs) = x.1
+
+-- what a seat that has no slot, or one, does to the slots
+module _ {X : Type 0} (homes : List (Maybe X)) where
+  kept_homes : (a : Handling X) → IsSingle a → carried_after [] a ≡ [] → homes_after homes [] a ≡ homes
+  kept_homes keeps one e = refl
+  kept_homes gives one e = refl
+  kept_homes (takes k y) one e = absurd (let x = ap length e in omega arith)
+  kept_homes (chain a b) one e = absurd one
+
+  taken_homes : (a : Handling X) (k : ℕ) (y : X) → IsSingle a → Valid homes [] a → carried_after [] a ≡ (k, y) ∷ [] → (homes_after homes [] a ≡ slice_set homes k none) × (get_elem? homes k ≡ some (some y))
+  taken_homes keeps k y one valid e = absurd (let x = ap length e in omega arith)
+  taken_homes gives k y one valid e = absurd (let x = ap length e in omega arith)
+  taken_homes (takes j z) k y one valid e =
+      let at : j ≡ k = ap (slot_first k) e in let same : z ≡ y = ap (value_first y) e in
+      (ap (λ i. slice_set homes i none) at, subst (λ i. get_elem? homes i ≡ some (some y)) at (subst (λ w. get_elem? homes j ≡ some (some w)) same valid))
+  taken_homes (chain a b) k y one valid e = absurd one
+
+  given_homes : (a : Handling X) (k : ℕ) (y : X) → IsSingle a → carried_after ((k, y) ∷ []) a ≡ [] → homes_after homes ((k, y) ∷ []) a ≡ slice_set homes k (some y)
+  given_homes keeps k y one e = absurd (let x = ap length e in omega arith)
+  given_homes gives k y one e = refl
+  given_homes (takes j z) k y one e = absurd (let x = ap length e in omega arith)
+  given_homes (chain a b) k y one e = absurd one
+
+-- the calls by which an image has more than another one
+module _ {I S R : Type 0} (local : ℕ → Local I S R) (before after' : Image S R) where
+  pub calls_are : (count q : ℕ) (calls : List (Invoked I)) → IsRising q calls
+      → ((c : Invoked I) → Contains calls c → (c.process < q + count) × (pending_call c.process (local c.process) ≡ c ∷ []) × (applied_in after' c.process ≢ applied_in before c.process))
+      → ((z : ℕ) → q ≤ z → z < q + count → ((c : Invoked I) × Contains calls c × (c.process ≡ z)) ⊎ (applied_in after' z ≡ applied_in before z))
+      → calls_between local before after' q count ≡ calls
+  calls_are zero q [] rising each all = refl
+  calls_are zero q (c ∷ cs) rising each all = absurd (let a = (each c (contains_first c cs)).0 in let b = rising.0 in omega arith)
+  calls_are (suc k) q calls rising each all = elim (number_cases (applied_in after' q) (applied_in before q)) [
+    | inl same ↦ rw same.1 (calls_are k (q + 1) calls (none_first calls rising each same.0) (λ c has. (let e = each c has in let b = e.0 in ((omega arith), e.1, e.2)))
+        (λ z from below. all z (omega arith) (omega arith)))
+    | inr more ↦ rw more.1 (one_first (λ ds. calls_are k (q + 1) ds) calls rising each all more.0)
+  ] where
+    none_first : (cs : List (Invoked I)) → IsRising q cs
+        → ((c : Invoked I) → Contains cs c → (c.process < q + suc k) × (pending_call c.process (local c.process) ≡ c ∷ []) × (applied_in after' c.process ≢ applied_in before c.process))
+        → applied_in after' q ≡ applied_in before q → IsRising (q + 1) cs
+    none_first [] up each same = tt
+    none_first (d ∷ ds) up each same =
+        let apart : d.process ≢ q = (λ e. (each d (contains_first d ds)).2 (ap (applied_in after') e ∙ same ∙ sym (ap (applied_in before) e))) in
+        ((let u = up.0 in omega (arith, apart)), up.1)
+
+    one_first : ((ds : List (Invoked I)) → IsRising (q + 1) ds
+        → ((c : Invoked I) → Contains ds c → (c.process < q + 1 + k) × (pending_call c.process (local c.process) ≡ c ∷ []) × (applied_in after' c.process ≢ applied_in before c.process))
+        → ((z : ℕ) → q + 1 ≤ z → z < q + 1 + k → ((c : Invoked I) × Contains ds c × (c.process ≡ z)) ⊎ (applied_in after' z ≡ applied_in before z))
+        → calls_between local before after' (q + 1) k ≡ ds) → (cs : List (Invoked I)) → IsRising q cs
+        → ((c : Invoked I) → Contains cs c → (c.process < q + suc k) × (pending_call c.process (local c.process) ≡ c ∷ []) × (applied_in after' c.process ≢ applied_in before c.process))
+        → ((z : ℕ) → q ≤ z → z < q + suc k → ((c : Invoked I) × Contains cs c × (c.process ≡ z)) ⊎ (applied_in after' z ≡ applied_in before z))
+        → applied_in after' q ≢ applied_in before q → pending_call q (local q) ++ calls_between local before after' (q + 1) k ≡ cs
+    one_first later_are [] up each all apart = elim (all q (omega arith) (omega arith)) [
+      | inl there ↦ absurd (not_empty there.0 there.1)
+      | inr same ↦ absurd (apart same)
+    ]
+    one_first later_are (d ∷ ds) up each all apart =
+        let here : d.process ≡ q = elim (all q (omega arith) (omega arith)) [
+          | inl there ↦ elim (contains_cons d ds there.0 there.1) [
+            | inl same ↦ ap (λ (z : Invoked I). z.process) same ∙ there.2
+            | inr later ↦ absurd (let r = rising_from (d.process + 1) ds there.0 up.1 later in let e = there.2 in let u = up.0 in omega arith)
+          ]
+          | inr same ↦ absurd (apart same)
+        ] in
+        let first : pending_call q (local q) ≡ d ∷ [] = subst (λ z. pending_call z (local z) ≡ d ∷ []) here (each d (contains_first d ds)).1 in
+        let others : calls_between local before after' (q + 1) k ≡ ds = later_are ds (subst (λ z. IsRising (z + 1) ds) here up.1)
+        (λ c has. let e = each c (contains_later d ds c has) in let b = e.0 in ((omega arith), e.1, e.2))
+        (λ z from below. elim (all z (omega arith) (omega arith)) [
+          | inl there ↦ elim (contains_cons d ds there.0 there.1) [
+            | inl same ↦ absurd (let e : d.process ≡ there.0.process = ap (λ (y : Invoked I). y.process) same in let f = there.2 in omega arith)
+            | inr later ↦ inl (there.0, later, there.2)
+          ]
+          | inr same ↦ inr same
+        ]) in
+        λ i. first i ++ others i
+
+module _ {O I S R : Type 0} (meaning : O → Sequential S I R) (o : O) (sizes : Sizes) where
+  abbrev object : Sequential S I R
+  object = meaning o
+
+  -- the view of the seat of one process
+  abbrev view_at : (local : ℕ → Local I S R) → (p : ℕ) → View O I S R
+  view_at local p = record { object = o; known = record { sizes = sizes; first = p; count = 1; local = local p } }
+
+  abbrev state_at : Moment I S R → State (Mail I (Block S R)) (View O I S R)
+  state_at m = record { words = m.words; homes = m.homes; views = each_of (view_at m.local) sizes.processes }
+
+  -- a moment shows a board with this history
+  pub record Holds (m : Moment I S R) (acts : List (Act I R)) : Type 0 where
+    pub board : Board I S R
+    pub words_are : AreWords sizes board m.words
+    pub slots_are : AreSlots sizes board m.homes
+    pub sound : IsSound object sizes board m.local
+    pub appended : board.acts ≡ acts
+
+  module _ (few : AreFew sizes) where
+    shown : (m : Moment I S R) (acts : List (Act I R)) (h : Holds m acts) → IsShown sizes meaning o h.board m.local (λ q. q) (state_at m)
+    shown m acts h = record {
+      few = few;
+      words = h.words_are;
+      slots = h.slots_are;
+      seats = λ id v e.
+          let at = from_each (view_at m.local) sizes.processes id v e in
+          subst (λ (u : View O I S R). Tells sizes o m.local (λ q. q) id u) at.1 (record {
+            object = refl;
+            sizes_are = refl;
+            each = λ q from below.
+                let here : id ≡ q = omega (arith, from, below) in
+                (subst (λ k. k < sizes.processes) here at.0, sym here, ap m.local (sym here));
+          });
+      sound = h.sound;
+    }
+
+    of : (m : Moment I S R) (p : ℕ) (carried : List (ℕ × Mail I (Block S R))) → IsOf o sizes p (view_at m.local p, carried)
+    of m p carried = record { object = refl; sizes_are = refl; first = refl; alone = refl }
+
+    -- one step of a process that moves the board, with the slots that it has
+    moved : (m : Moment I S R) (acts : List (Act I R)) → Holds m acts → (p : ℕ) → p < sizes.processes → (next : Next object sizes m p)
+        → (carried : List (ℕ × Mail I (Block S R))) (f : ℕ → ℕ) (makes : Board I S R → ℕ → Local I S R → Local I S R → List (Act I R) → Type 0) (says : ℕ → Mine O I S R → Type 0)
+        → let e = effect_of object sizes m p next in Moves meaning o sizes p (view_at m.local p, carried) e.word f makes says
+        → f (slice_index m.words e.word) ≡ e.becomes
+        → ((v : View O I S R) (a : Handling (Mail I (Block S R))) → IsSingle a → Valid m.homes carried a → says (slice_index m.words e.word) (v, carried_after carried a)
+        → (v.known.local ≡ e.leaves) × (homes_after m.homes carried a ≡ e.homes))
+        → ((g : Board I S R) → AreWords sizes g m.words → IsSound object sizes g m.local → (made : List (Act I R)) → makes g (slice_index m.words e.word) (m.local p) e.leaves made → made ≡ e.acts)
+        → Holds (after object sizes m p next) (acts ++ e.acts)
+    moved m acts h p inside next carried f makes says moves same left made =
+        let e = effect_of object sizes m p next in
+        let found : ℕ = slice_index m.words e.word in
+        let seat : get_elem? (each_of (view_at m.local) sizes.processes) p ≡ some (view_at m.local p) = at_each (view_at m.local) sizes.processes p inside in
+        let to = moves (state_at m) h.board m.local (λ q. q) (shown m acts h) seat in
+        let is = to.6 in
+        let both = left to.0 to.1 to.4 to.5 to.7 in
+        record {
+          board = to.2;
+          words_are = subst (λ x. AreWords sizes to.2 (slice_set m.words e.word x)) same is.words;
+          slots_are = subst (λ hs. AreSlots sizes to.2 hs) both.1 is.slots;
+          sound = subst (λ l. IsSound object sizes to.2 (set_at m.local p l)) both.0 is.sound;
+          appended = to.8 ∙ (λ k. h.appended k ++ made h.board h.words_are h.sound to.3 (subst (λ l. makes h.board found (m.local p) l to.3) both.0 to.9) k);
+        }
+
+    -- the step leaves the process with no slot, one that it took, or none after it gave one back
+    kept_by : (m : Moment I S R) (p : ℕ) (l' : Local I S R) (v : View O I S R) (a : Handling (Mail I (Block S R))) → IsSingle a
+        → IsLeft (view_at m.local p, []) l' (v, carried_after [] a) → (v.known.local ≡ l') × (homes_after m.homes [] a ≡ m.homes)
+    kept_by m p l' v a one e = (ap (λ (x : Mine O I S R). x.0.known.local) e, kept_homes m.homes a one (ap (λ (x : Mine O I S R). x.1) e))
+
+    taken_by : (m : Moment I S R) (p : ℕ) (l' : Local I S R) (k : ℕ) (y : Mail I (Block S R)) (v : View O I S R) (a : Handling (Mail I (Block S R))) → IsSingle a → Valid m.homes [] a
+        → Takes (view_at m.local p, []) l' k y (v, carried_after [] a) → (v.known.local ≡ l') × (homes_after m.homes [] a ≡ slice_set m.homes k none) × (get_elem? m.homes k ≡ some (some y))
+    taken_by m p l' k y v a one valid e = (let t = taken_homes m.homes a k y one valid (ap (λ (x : Mine O I S R). x.1) e) in (ap (λ (x : Mine O I S R). x.0.known.local) e, t.0, t.1))
+
+    given_by : (m : Moment I S R) (p : ℕ) (l' : Local I S R) (k : ℕ) (y : Mail I (Block S R)) (v : View O I S R) (a : Handling (Mail I (Block S R))) → IsSingle a
+        → Gives (view_at m.local p, (k, y) ∷ []) l' (v, carried_after ((k, y) ∷ []) a) → (v.known.local ≡ l') × (homes_after m.homes ((k, y) ∷ []) a ≡ slice_set m.homes k (some y))
+    given_by m p l' k y v a one e = (ap (λ (x : Mine O I S R). x.0.known.local) e, given_homes m.homes a k y one (ap (λ (x : Mine O I S R). x.1) e))
+
+    same_mail : (homes : List (Maybe (Mail I (Block S R)))) (k : ℕ) (y z : Mail I (Block S R)) → get_elem? homes k ≡ some (some y) → get_elem? homes k ≡ some (some z) → y ≡ z
+    same_mail homes k y z one two = some-injective y z (some-injective (some y) (some z) (sym one ∙ two))
+
+    -- what a load of S finds is what the process reads
+    read_as : (m : Moment I S R) (p : ℕ) (inv : I) (tries : ℕ) (base : Image S R) (homes : List (Maybe (Mail I (Block S R)))) → Reads object sizes m p base homes
+        → (v : View O I S R) (a : Handling (Mail I (Block S R))) → IsSingle a → Valid m.homes [] a
+        → (said : HasStartedAs sizes inv tries (view_at m.local p, []) (slice_index m.words 0) (v, carried_after [] a))
+        → (said.0 ≡ base) × (v.known.local ≡ said.1) × (homes_after m.homes [] a ≡ homes)
+    read_as m p inv tries base homes reads v a one valid said = elim (number_cases (slice_index m.words 0) (m.local p).word) [
+      | inl same ↦ (let x = said.5 same.0 in let y = reads.same same.0 in let b = kept_by m p said.1 v a one x.1 in (x.0 ∙ sym y.0, b.0, b.1 ∙ sym y.1))
+      | inr other ↦
+          let x = said.6 other.0 in
+          let y = reads.other other.0 in
+          let slot : ℕ → ℕ = (λ c. slot_of sizes (block_frame sizes c) p) in
+          let c_is : x.0 ≡ y.0 = (let e = x.2 in let d = y.2 in omega arith) in
+          let b = taken_by m p said.1 (slot x.0) x.1 v a one valid x.5 in
+          let mails : x.1 ≡ y.1 = same_mail m.homes (slot y.0) x.1 y.1 (subst (λ c. get_elem? m.homes (slot c) ≡ some (some x.1)) c_is b.2) y.4 in
+          let both : Made said.0 ≡ Made base = sym x.4 ∙ ap told mails ∙ y.3 in
+          let same : said.0 ≡ base = cc in
+          (same, b.0, b.1 ∙ ap (λ c. slice_set m.homes (slot c) none) c_is ∙ sym y.5)
+    ]
+
+    -- a call that an exchange brings in is the pending one of its process
+    pending_is : (g : Board I S R) (q : ℕ) (l : Local I S R) (stage : Stage I S R) (c : Invoked I) → IsStageAt object sizes g q l stage → c.process ≡ q → c.nth ≡ in_of g q → g.announced q ≡ c.nth + 1
+        → g.content (call_frame sizes q c.nth) ≡ Asked c.inv → call_of q (length l.own) (pending_of stage) ≡ c ∷ []
+    pending_is g q l stage c = by_stage stage where
+      opened_is : (inv : I) → IsOpen sizes g q (length l.own) inv → c.process ≡ q → c.nth ≡ in_of g q → g.announced q ≡ c.nth + 1 → g.content (call_frame sizes q c.nth) ≡ Asked c.inv
+          → call_of q (length l.own) (Some inv) ≡ c ∷ []
+      opened_is inv h at nth due asks_it =
+          let same : length l.own ≡ c.nth = (let a = h.1 in omega arith) in
+          let e : Asked inv ≡ Asked c.inv = sym h.3 ∙ ap (λ k. g.content (call_frame sizes q k)) same ∙ asks_it in
+          let i : inv ≡ c.inv = cc in
+          λ k. record { process = sym at k; nth = same k; inv = i k } ∷ []
+
+      by_stage : (stage : Stage I S R) → IsStageAt object sizes g q l stage → c.process ≡ q → c.nth ≡ in_of g q → g.announced q ≡ c.nth + 1 → g.content (call_frame sizes q c.nth) ≡ Asked c.inv
+          → call_of q (length l.own) (pending_of stage) ≡ c ∷ []
+      by_stage Idle h at nth due asks_it = absurd (let a = h.0.0 in let b = h.0.1 in omega arith)
+      by_stage (Posting inv count out) h at nth due asks_it = absurd (let a = h.0.0 in let b = h.0.1 in omega arith)
+      by_stage (Ready inv tries) h at nth due asks_it = opened_is inv h.0 at nth due asks_it
+      by_stage (Reading inv tries r image) h at nth due asks_it = opened_is inv h.0 at nth due asks_it
+      by_stage (Writing inv tries image count out) h at nth due asks_it = opened_is inv h.0 at nth due asks_it
+
+    effects_are : (m : Moment I S R) (p : ℕ) → p < sizes.processes → slice_index m.words 0 ≡ (m.local p).word → (image : Image S R)
+        → (g : Board I S R) → AreWords sizes g m.words → IsSound object sizes g m.local → (batch : HasBatch object sizes g sizes.processes image)
+        → calls_between m.local (m.local p).base image 0 sizes.processes ≡ batch.calls
+    effects_are m p inside same image g words sound batch =
+        let base_is : (m.local p).base ≡ g.image = (sound.each p inside).reader.same (sym same ∙ words.current) in
+        calls_are m.local (m.local p).base image sizes.processes 0 batch.calls batch.rising
+        (λ c has.
+            let c_in : c.process < sizes.processes = (batch.below c has).1 in
+            let a = batch.asked c has in
+            let more : applied_in image c.process ≡ in_of g c.process + 1 = ap (λ (z : Image S R). applied_in z c.process) batch.image_is
+            ∙ applied_from object g.image 0 batch.calls c batch.rising has (λ d has'. let z = (batch.below d has').1 in let v = sound.board.image.long in omega arith) in
+            let was : applied_in (m.local p).base c.process ≡ in_of g c.process = ap (λ (z : Image S R). applied_in z c.process) base_is in (
+              (omega arith),
+              pending_is g c.process (m.local c.process) (m.local c.process).stage c (sound.each c.process c_in).stage refl a.0 a.1 a.2,
+              (λ e. omega (arith, more, was, e)),
+            ))
+        (λ z from below. elim (row_from object g.image batch.calls z) [
+          | inl there ↦ inl there
+          | inr row ↦ inr (ap (λ (i : Image S R). applied_in i z) batch.image_is ∙ ap (λ r. r.applied) row ∙ sym (ap (λ (i : Image S R). applied_in i z) base_is))
+        ])
+
+    pub step_holds : (m : Moment I S R) (acts : List (Act I R)) → Holds m acts → (p : ℕ) → p < sizes.processes → (next : Next object sizes m p)
+        → Holds (after object sizes m p next) (acts ++ (effect_of object sizes m p next).acts)
+    step_holds m acts h p inside (OpenCall inv own r mail holds_it opens_it r_in room lies) =
+        let n = length (m.local p).own in
+        let st = step 0 (1 + p) n n (some own) in
+        let me : Mine O I S R = (view_at m.local p, []) in
+        let x = slice_index m.words (1 + p) in
+        moved m acts h p inside (OpenCall inv own r mail holds_it opens_it r_in room lies) [] (λ y. either (eqb y n) n y) (λ g found. MakesNoAct) (λ found me'. HasOpened st me found me')
+        (opens meaning o sizes p me p (of m p []) own inv holds_it r r_in room st refl opens_it)
+        (exchanged x n n (λ y. y ≡ x) (λ e. sym e) (λ e. refl))
+        (λ v a one valid said. let t = said own inv r refl holds_it opens_it in let b = taken_by m p (goes (m.local p) (Posting inv r true)) _ t.0 v a one valid t.1 in (b.0, b.1))
+        (λ g words sound made e. e)
+    step_holds m acts h p inside (CloseCall inv r mail at holds_it) =
+        let k = slot_of sizes (call_frame sizes p (length (m.local p).own)) r in
+        let st = step 0 0 0 0 none in
+        let me : Mine O I S R = (view_at m.local p, (k, mail) ∷ []) in
+        moved m acts h p inside (CloseCall inv r mail at holds_it) ((k, mail) ∷ []) (λ y. y) (λ g found. MakesNoAct) (λ found me'. HasClosed st me found me')
+        (closes meaning o sizes p me p (of m p ((k, mail) ∷ [])) inv r at (mail, holds_it, refl) st)
+        refl
+        (λ v a one valid said. given_by m p (goes (m.local p) (Posting inv (r + 1) false)) k mail v a one (said inv r at))
+        (λ g words sound made e. e)
+    step_holds m acts h p inside (Announce inv at room) =
+        let n = length (m.local p).own in
+        let st = step 0 0 0 0 none in
+        let me : Mine O I S R = (view_at m.local p, []) in
+        moved m acts h p inside (Announce inv at room) [] (λ y. n + 1) (λ g found. Invokes p inv) (λ found me'. HasAnnounced st me (n + 1) me')
+        (announces meaning o sizes p me p (n + 1) st (of m p []) inv at refl (omega (arith, room)))
+        refl
+        (λ v a one valid said. kept_by m p (goes (m.local p) (Ready inv 0)) v a one (said inv sizes.processes at))
+        (λ g words sound made e. e)
+    step_holds m acts h p inside (OpenBlock inv tries r image mail lays_it r_in lies) =
+        let st = step 0 0 0 0 none in
+        let me : Mine O I S R = (view_at m.local p, []) in
+        moved m acts h p inside (OpenBlock inv tries r image mail lays_it r_in lies) [] (λ y. y) (λ g found. MakesNoAct) (λ found me'. HasLaidOpen st me found me')
+        (lays_open meaning o sizes p me p (of m p []) inv tries r image r_in st lays_it)
+        refl
+        (λ v a one valid said. let t = said inv tries r image lays_it in let b = taken_by m p (goes (m.local p) (Writing inv tries image r true)) _ t.0 v a one valid t.1 in (b.0, b.1))
+        (λ g words sound made e. e)
+    step_holds m acts h p inside (CloseBlock inv tries r image mail at holds_it) =
+        let k = slot_of sizes (block_frame sizes (p * sizes.calls + length (m.local p).own)) r in
+        let st = step 0 0 0 0 none in
+        let me : Mine O I S R = (view_at m.local p, (k, mail) ∷ []) in
+        moved m acts h p inside (CloseBlock inv tries r image mail at holds_it) ((k, mail) ∷ []) (λ y. y) (λ g found. MakesNoAct) (λ found me'. HasLaid st me found me')
+        (lays meaning o sizes p me p (of m p ((k, mail) ∷ [])) inv tries r image at (mail, holds_it, refl) st)
+        refl
+        (λ v a one valid said. given_by m p (goes (m.local p) (Writing inv tries image (r + 1) false)) k mail v a one (said inv tries r image at))
+        (λ g words sound made e. e)
+    step_holds m acts h p inside (Follow at) =
+        let st = step 0 0 0 0 none in
+        let me : Mine O I S R = (view_at m.local p, []) in
+        moved m acts h p inside (Follow at) [] (λ y. y) (λ g found. MakesNoAct) (λ found me'. HasAsked st me found me')
+        (asks meaning o sizes p me p (of m p []) at st)
+        refl
+        (λ v a one valid said. kept_by m p (knows (m.local p) (version_in (slice_index m.words 0))) v a one (said at).1)
+        (λ g words sound made e. e)
+    step_holds m acts h p inside (Pass inv tries r image at r_in none_more) =
+        let st = step 0 0 0 0 none in
+        let me : Mine O I S R = (view_at m.local p, []) in
+        moved m acts h p inside (Pass inv tries r image at r_in none_more) [] (λ y. y) (λ g found. MakesNoAct) (λ found me'. HasLooked meaning st me found me')
+        (looks meaning o sizes p me p (of m p []) inv tries r image at r_in st)
+        refl
+        (λ v a one valid said. kept_by m p (goes (m.local p) (Reading inv tries (r + 1) image)) v a one ((said inv tries r image at r_in).1 none_more))
+        (λ g words sound made e. e)
+    step_holds m acts h p inside (Apply inv tries r image asked at r_in more known has) =
+        let st = step 0 0 0 0 none in
+        let me : Mine O I S R = (view_at m.local p, []) in
+        moved m acts h p inside (Apply inv tries r image asked at r_in more known has) [] (λ y. y) (λ g found. MakesNoAct) (λ found me'. HasLooked meaning st me found me')
+        (looks meaning o sizes p me p (of m p []) inv tries r image at r_in st)
+        refl
+        (λ v a one valid said.
+            let t = (said inv tries r image at r_in).2 more in
+            let k = t.1.0 known in
+            let both : Some t.0 ≡ Some asked = sym k.0 ∙ has in
+            let same : t.0 ≡ asked = cc in
+            let b = kept_by m p (goes (m.local p) (Reading inv tries (r + 1) (taken_in object image r t.0))) v a one k.1 in
+            (b.0 ∙ ap (λ i. goes (m.local p) (Reading inv tries (r + 1) (taken_in object image r i))) same, b.1))
+        (λ g words sound made e. e)
+    step_holds m acts h p inside (Take inv tries r image asked mail at r_in more unknown holds_it lies) =
+        let st = step 0 0 0 0 none in
+        let me : Mine O I S R = (view_at m.local p, []) in
+        let found = slice_index m.words (1 + r) in
+        let k = slot_of sizes (call_frame sizes r (found - 1)) p in
+        moved m acts h p inside (Take inv tries r image asked mail at r_in more unknown holds_it lies) [] (λ y. y) (λ g found. MakesNoAct) (λ found me'. HasLooked meaning st me found me')
+        (looks meaning o sizes p me p (of m p []) inv tries r image at r_in st)
+        refl
+        (λ v a one valid said.
+            let t = (said inv tries r image at r_in).2 more in
+            let u = t.1.1 unknown in
+            let b = taken_by m p (goes (took (m.local p) r found t.0) (Reading inv tries (r + 1) (taken_in object image r t.0))) k u.0 v a one valid u.3 in
+            let mails : u.0 ≡ mail = same_mail m.homes k u.0 mail b.2 lies in
+            let both : Asked t.0 ≡ Asked asked = sym u.1 ∙ ap told mails ∙ holds_it in
+            let same : t.0 ≡ asked = cc in
+            (b.0 ∙ ap (λ i. goes (took (m.local p) r found i) (Reading inv tries (r + 1) (taken_in object image r i))) same, b.1))
+        (λ g words sound made e. e)
+    step_holds m acts h p inside (Fail inv tries image at other) =
+        let l = m.local p in
+        let new = word_of (l.word / span + 1) (p * sizes.calls + length l.own + 1) in
+        let st = step 0 0 l.word new none in
+        let me : Mine O I S R = (view_at m.local p, []) in
+        let x = slice_index m.words 0 in
+        moved m acts h p inside (Fail inv tries image at other) [] (λ found. either (eqb found l.word) new found) (λ g found. TakesEffect object sizes g p found image) (λ found me'. HasBrought st me found me')
+        (brings_in meaning o sizes p me p (of m p []) inv tries image at st refl l.word refl)
+        (exchanged x l.word new (λ y. y ≡ x) (λ e. absurd (other e)) (λ e. refl))
+        (λ v a one valid said. kept_by m p (goes l (Ready inv (tries + 1))) v a one ((said inv tries sizes.processes image at).1 other))
+        (λ g words sound made e. e.1 other)
+    step_holds m acts h p inside (Start inv tries base homes waits reads out) =
+        let st = step 0 0 0 0 none in
+        let me : Mine O I S R = (view_at m.local p, []) in
+        moved m acts h p inside (Start inv tries base homes waits reads out) [] (λ y. y) (λ g found. Responds p) (λ found me'. HasStarted st me found me')
+        (starts meaning o sizes p me p (of m p []) inv tries waits st)
+        refl
+        (λ v a one valid said.
+            let t = said inv tries waits in
+            let b = read_as m p inv tries base homes reads v a one valid t in
+            let on = t.4.1 (λ e. out (ap (λ (i : Image S R). applied_in i p) (sym b.0) ∙ e)) in
+            (b.1 ∙ on.1 ∙ ap (λ i. goes (has_block (m.local p) (slice_index m.words 0) i) (Reading inv tries 0 i)) b.0, b.2))
+        (λ g words sound made e. e ∙ none_returned p (m.local p) (goes (has_block (m.local p) (slice_index m.words 0) base) (Reading inv tries 0 base)) refl)
+    step_holds m acts h p inside (Return inv tries base homes reply waits reads is_in has) =
+        let st = step 0 0 0 0 none in
+        let me : Mine O I S R = (view_at m.local p, []) in
+        moved m acts h p inside (Return inv tries base homes reply waits reads is_in has) [] (λ y. y) (λ g found. Responds p) (λ found me'. HasStarted st me found me')
+        (starts meaning o sizes p me p (of m p []) inv tries waits st)
+        refl
+        (λ v a one valid said.
+            let t = said inv tries waits in
+            let b = read_as m p inv tries base homes reads v a one valid t in
+            let on = t.4.0 (ap (λ (i : Image S R). applied_in i p) b.0 ∙ is_in) in
+            let both : Some on.0 ≡ Some reply = sym on.1 ∙ ap (λ (i : Image S R). (row_in i p).reply) b.0 ∙ has in
+            let same : on.0 ≡ reply = cc in
+            (b.1 ∙ on.3 ∙ (λ k. returns (has_block (m.local p) (slice_index m.words 0) (b.0 k)) inv (same k)), b.2))
+        (λ g words sound made e. e ∙ one_returned p (m.local p) (returns (has_block (m.local p) (slice_index m.words 0) base) inv reply) _ refl)
+    step_holds m acts h p inside (Bring inv tries image reply at same has) =
+        let l = m.local p in
+        let new = word_of (l.word / span + 1) (p * sizes.calls + length l.own + 1) in
+        let st = step 0 0 l.word new none in
+        let me : Mine O I S R = (view_at m.local p, []) in
+        let x = slice_index m.words 0 in
+        moved m acts h p inside (Bring inv tries image reply at same has) [] (λ found. either (eqb found l.word) new found) (λ g found. TakesEffect object sizes g p found image) (λ found me'. HasBrought st me found me')
+        (brings_in meaning o sizes p me p (of m p []) inv tries image at st refl l.word refl)
+        (exchanged x l.word new (λ y. y ≡ new) (λ e. refl) (λ n. absurd (n same)))
+        (λ v a one valid said.
+            let t = (said inv tries sizes.processes image at).0 same in
+            let both : Some t.0 ≡ Some reply = sym t.1 ∙ has in
+            let its : t.0 ≡ reply = cc in
+            let b = kept_by m p (returns (has_block l new image) inv t.0) v a one t.4 in
+            (b.0 ∙ ap (λ y. returns (has_block l new image) inv y) its, b.1))
+        (λ g words sound made e.
+            let t = e.0 same in
+            t.1 ∙ (λ k. map (λ c. Linearize c) (sym (effects_are m p inside same image g words sound t.0) k) ++ one_returned p l (returns (has_block l new image) inv reply) _ refl k))
+
+    -- and so does an execution
+    pub history_holds : {m : Moment I S R} (acts : List (Act I R)) → Holds m acts → (e : Execution object sizes m) → Holds (last_moment object sizes e) (acts ++ history object sizes e)
+    history_holds {m = m} acts h Ends = subst (λ a. Holds m a) (sym (append-nil acts)) h
+    history_holds acts h (Steps {m = m} p inside next rest) =
+        let made = (effect_of object sizes m p next).acts in
+        subst (λ a. Holds (last_moment object sizes rest) a) (append_assoc acts made (history object sizes rest))
+        (history_holds (acts ++ made) (step_holds m acts h p inside next) rest)

@@ -1,0 +1,70 @@
+-- Every execution from the opening is linearizable, in one order that only grows.
+use Rattle.uni_any.specs.declared.mail.Mail.TheVariants.{Empty}
+use Rattle.uni_any.proofs.Vocabulary.{AcceptsAll, Act, AreFew, Atomic, Block, Invoke, Linearize, List, Mail, Respond, Sequential, Sizes, [], ap, append-nil, append_assoc, at_start, frames_of, length, length-replicate, opened, refl, replicate, subst, sym, ◌*◌, ◌++◌, ◌∙◌, ◌∷◌, ◌≡◌}
+use Rattle.uni_model.proofs.Placed.{AgreesInOrder-holds}
+use Rattle.uni_model.specs.Linearizable.{observed}
+use Rattle.uni_any.specs.Execution.{Execution, Moment, effect_of, goes_on, history, last_moment, opened_moment, points}
+use Rattle.uni_any.specs.Execution.Execution.{Ends, Step}
+use Rattle.uni_any.specs.Linearized.{IsLinearizedInTime, KeepsOrder}
+use Rattle.uni_any.proofs.Executing.{Holds, history_holds}
+use Rattle.uni_any.proofs.Opening as Opening
+
+points-append : {I R : Type 0} (xs ys : List (Act I R)) → points (xs ++ ys) ≡ points xs ++ points ys
+points-append [] ys = refl
+points-append (Linearize c ∷ xs) ys = ap (λ l. c ∷ l) (points-append xs ys)
+points-append (Invoke p k i ∷ xs) ys = points-append xs ys
+points-append (Respond p k r ∷ xs) ys = points-append xs ys
+
+-- the atomic object agrees on the calls that take effect, in their order
+agreed_points : {S I R : Type 0} (object : Sequential S I R) (a : Atomic S I) (acts : List (Act I R)) (b : Atomic S I) → AcceptsAll object a acts b
+    → b.agreed ≡ a.agreed ++ points acts
+agreed_points {S} {I} {R} object a [] b e = ap (λ (x : Atomic S I). x.agreed) e ∙ sym (append-nil a.agreed)
+agreed_points {S} {I} {R} object a (Invoke p k i ∷ acts) b h =
+    agreed_points object h.0 acts b h.2 ∙ ap (λ (x : Atomic S I). x.agreed ++ points acts) h.1.2
+agreed_points {S} {I} {R} object a (Linearize c ∷ acts) b h =
+    agreed_points object h.0 acts b h.2 ∙ ap (λ (x : Atomic S I). x.agreed ++ points acts) h.1.2 ∙ append_assoc a.agreed (c ∷ []) (points acts)
+agreed_points {S} {I} {R} object a (Respond p k r ∷ acts) b h =
+    agreed_points object h.0 acts b h.2 ∙ ap (λ (x : Atomic S I). x.agreed ++ points acts) h.1.1
+
+module _ {S I R : Type 0} (object : Sequential S I R) (sizes : Sizes) where
+  history-goes_on : {m : Moment I S R} (e : Execution object sizes m) (more : Execution object sizes (last_moment object sizes e))
+      → history object sizes (goes_on object sizes e more) ≡ history object sizes e ++ history object sizes more
+  history-goes_on Ends more = refl
+  history-goes_on (Step {m = m} p inside next rest) more =
+      let made = (effect_of object sizes m p next).acts in
+      ap (λ l. made ++ l) (history-goes_on rest more) ∙ sym (append_assoc made (history object sizes rest) (history object sizes more))
+
+  pub keeps_order : {m : Moment I S R} (e : Execution object sizes m) (more : Execution object sizes (last_moment object sizes e)) → KeepsOrder object sizes e more
+  keeps_order e more = ap points (history-goes_on e more) ∙ points-append (history object sizes e) (history object sizes more)
+
+  -- an execution whose acts the atomic object takes
+  linearized_by : (e : Execution object sizes (opened_moment object sizes)) (atomic : Atomic S I) → AcceptsAll object (at_start object.initial) (history object sizes e) atomic
+      → IsLinearizedInTime object sizes e
+  linearized_by e atomic accepted =
+      let acts = history object sizes e in
+      let agreed : atomic.agreed ≡ points acts = agreed_points object (at_start object.initial) acts atomic accepted in
+      let both = (AgreesInOrder-holds object object.initial (observed acts) (points acts)).0 (acts, atomic, refl, accepted, agreed) in
+      record { atomic = atomic; accepted = accepted; agreed = agreed; well_formed = both.0; completed = both.1 }
+
+module _ {O I S R : Type 0} (meaning : O → Sequential S I R) (o : O) (sizes : Sizes) (few : AreFew sizes) where
+  abbrev object : Sequential S I R
+  object = meaning o
+
+  abbrev slots : List (Mail I (Block S R))
+  slots = replicate (frames_of sizes * sizes.processes) Empty
+
+  opening_holds : Holds meaning o sizes (opened_moment object sizes) []
+  opening_holds =
+      let many : length slots ≡ frames_of sizes * sizes.processes = length-replicate (frames_of sizes * sizes.processes) Empty in
+      record {
+        board = opened object sizes;
+        words_are = Opening.words' meaning o sizes few slots many;
+        slots_are = Opening.slots' meaning o sizes few slots many;
+        sound = Opening.sound' meaning o sizes few slots many;
+        appended = refl;
+      }
+
+  pub linearized : (e : Execution object sizes (opened_moment object sizes)) → IsLinearizedInTime object sizes e
+  linearized e =
+      let h = history_holds meaning o sizes few [] opening_holds e in
+      linearized_by object sizes e h.board.atomic (subst (λ a. AcceptsAll object (at_start object.initial) a h.board.atomic) h.appended h.sound.history.accepted)
