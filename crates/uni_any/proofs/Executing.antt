@@ -1,9 +1,9 @@
 -- Each step of an execution is one of the table's steps, and so keeps a board whose history is that of the execution.
-use Rattle.uni_any.proofs.Vocabulary.{Act, AreFew, AreSlots, AreWords, Asked, Block, Board, Contains, HasAnnounced, HasAsked, HasBrought, HasClosed, HasLaid, HasLaidOpen, HasBatch, HasLooked, HasOpened, HasStarted, HasStartedAs, IsOpen, Gives, Image, IsLeft, Takes, Invoke, Invoked, IsOf, IsRising, IsShown, IsSound, IsStageAt, Linearize, List, Local, Made, Mail, Mine, None, Option, Posting, Reading, Ready, Respond, Sequential, Sizes, Some, Stage, State, Tells, Valid, View, Writing, Idle, [], ap, append-nil, append_assoc, applied_in, arith, block_frame, call_frame, carried_after, either, eqb, exchanged, false, get_elem?, gives, goes, has_block, homes_after, if◌then◌else◌, in_of, inl, inr, keeps, knows, length, map, none, number_cases, opened, pending_of, refl, rest, returns, row_in, set, set-get_or, set_at, slice_index, slice_set, slot_of, some, some-injective, some-ne-none, span, step, subst, suc, sym, taken_in, taken_of, takes, told, took, true, version_in, with_local, word_of, zero, ℕ, ◌*◌, ◌++◌, ◌+◌, ◌-◌, ◌/◌, ◌<◌, ◌==◌, ◌∙◌, ◌∷◌, ◌≡◌, ◌≢◌, ◌≤◌, ◌⊎◌}
+use Rattle.uni_any.proofs.Vocabulary.{Act, AreFew, AreSlots, AreWords, Asked, Block, Board, Contains, HasAnnounced, HasAsked, HasBrought, HasClosed, HasLaid, HasLaidOpen, HasBatch, HasLooked, HasOpened, HasStarted, HasStartedAs, IsOpen, Gives, Image, IsLeft, Takes, Invoked, IsOf, IsRising, IsShown, IsSound, IsStageAt, Linearize, List, Local, Made, Mail, Mine, Posting, Reading, Ready, Sequential, Sizes, Some, Stage, State, Tells, Valid, View, Writing, Idle, [], ap, append-nil, append_assoc, applied_in, arith, block_frame, call_frame, carried_after, either, eqb, exchanged, false, get_elem?, gives, goes, has_block, homes_after, in_of, inl, inr, keeps, knows, length, map, none, number_cases, pending_of, refl, rest, returns, row_in, set_at, slice_index, slice_set, slot_of, some, some-injective, some-ne-none, span, step, subst, suc, sym, taken_in, takes, told, took, true, version_in, word_of, zero, ℕ, ◌*◌, ◌++◌, ◌+◌, ◌-◌, ◌/◌, ◌<◌, ◌∙◌, ◌∷◌, ◌≡◌, ◌≢◌, ◌≤◌, ◌⊎◌}
 use Rattle.atomic_table.specs.Table.{chain}
 use Rattle.atomic_table.specs.Table.{Act as Handling}
 use mathlib.Core.Option.{Option as Maybe}
-use Rattle.uni_any.specs.Execution.{Effect, Execution, Moment, Next, Reads, after, call_of, calls_between, effect_of, history, last_moment, pending_call}
+use Rattle.uni_any.specs.Execution.{Execution, Moment, Next, Reads, after, call_of, calls_between, effect_of, history, last_moment, pending_call}
 use Rattle.uni_any.specs.Execution.Next.{OpenCall, CloseCall, Announce, Start, Return, Pass, Apply, Take, OpenBlock, CloseBlock, Bring, Fail, Follow}
 use Rattle.uni_any.specs.Execution.Execution.{Ends, Step as Steps}
 use Rattle.uni_any.specs.Laws.{Invokes, IsSingle, MakesNoAct, Moves, Responds, TakesEffect}
@@ -18,7 +18,7 @@ use Rattle.uni_any.proofs.Posting.{closes, opens}
 use Rattle.uni_any.proofs.Starting.{starts}
 
 -- the values of a function below a number
-abbrev each_of : {A : Type 0} → (ℕ → A) → ℕ → List A
+abbrev pub each_of : {A : Type 0} → (ℕ → A) → ℕ → List A
 each_of f zero = []
 each_of f (suc n) = f zero ∷ each_of (λ k. f (suc k)) n
 
@@ -120,10 +120,10 @@ module _ {O I S R : Type 0} (meaning : O → Sequential S I R) (o : O) (sizes : 
   object = meaning o
 
   -- the view of the seat of one process
-  abbrev view_at : (local : ℕ → Local I S R) → (p : ℕ) → View O I S R
+  abbrev pub view_at : (local : ℕ → Local I S R) → (p : ℕ) → View O I S R
   view_at local p = record { object = o; known = record { sizes = sizes; first = p; count = 1; local = local p } }
 
-  abbrev state_at : Moment I S R → State (Mail I (Block S R)) (View O I S R)
+  abbrev pub state_at : Moment I S R → State (Mail I (Block S R)) (View O I S R)
   state_at m = record { words = m.words; homes = m.homes; views = each_of (view_at m.local) sizes.processes }
 
   -- a moment shows a board with this history
@@ -135,7 +135,7 @@ module _ {O I S R : Type 0} (meaning : O → Sequential S I R) (o : O) (sizes : 
     pub appended : board.acts ≡ acts
 
   module _ (few : AreFew sizes) where
-    shown : (m : Moment I S R) (acts : List (Act I R)) (h : Holds m acts) → IsShown sizes meaning o h.board m.local (λ q. q) (state_at m)
+    pub shown : (m : Moment I S R) (acts : List (Act I R)) (h : Holds m acts) → IsShown sizes meaning o h.board m.local (λ q. q) (state_at m)
     shown m acts h = record {
       few = few;
       words = h.words_are;
@@ -152,8 +152,11 @@ module _ {O I S R : Type 0} (meaning : O → Sequential S I R) (o : O) (sizes : 
       sound = h.sound;
     }
 
-    of : (m : Moment I S R) (p : ℕ) (carried : List (ℕ × Mail I (Block S R))) → IsOf o sizes p (view_at m.local p, carried)
+    pub of : (m : Moment I S R) (p : ℕ) (carried : List (ℕ × Mail I (Block S R))) → IsOf o sizes p (view_at m.local p, carried)
     of m p carried = record { object = refl; sizes_are = refl; first = refl; alone = refl }
+
+    pub seat_at : (m : Moment I S R) (p : ℕ) → p < sizes.processes → get_elem? (each_of (view_at m.local) sizes.processes) p ≡ some (view_at m.local p)
+    seat_at m p inside = at_each (view_at m.local) sizes.processes p inside
 
     -- one step of a process that moves the board, with the slots that it has
     moved : (m : Moment I S R) (acts : List (Act I R)) → Holds m acts → (p : ℕ) → p < sizes.processes → (next : Next object sizes m p)
@@ -167,8 +170,7 @@ module _ {O I S R : Type 0} (meaning : O → Sequential S I R) (o : O) (sizes : 
     moved m acts h p inside next carried f makes says moves same left made =
         let e = effect_of object sizes m p next in
         let found : ℕ = slice_index m.words e.word in
-        let seat : get_elem? (each_of (view_at m.local) sizes.processes) p ≡ some (view_at m.local p) = at_each (view_at m.local) sizes.processes p inside in
-        let to = moves (state_at m) h.board m.local (λ q. q) (shown m acts h) seat in
+        let to = moves (state_at m) h.board m.local (λ q. q) (shown m acts h) (seat_at m p inside) in
         let is = to.6 in
         let both = left to.0 to.1 to.4 to.5 to.7 in
         record {
@@ -184,7 +186,7 @@ module _ {O I S R : Type 0} (meaning : O → Sequential S I R) (o : O) (sizes : 
         → IsLeft (view_at m.local p, []) l' (v, carried_after [] a) → (v.known.local ≡ l') × (homes_after m.homes [] a ≡ m.homes)
     kept_by m p l' v a one e = (ap (λ (x : Mine O I S R). x.0.known.local) e, kept_homes m.homes a one (ap (λ (x : Mine O I S R). x.1) e))
 
-    taken_by : (m : Moment I S R) (p : ℕ) (l' : Local I S R) (k : ℕ) (y : Mail I (Block S R)) (v : View O I S R) (a : Handling (Mail I (Block S R))) → IsSingle a → Valid m.homes [] a
+    pub taken_by : (m : Moment I S R) (p : ℕ) (l' : Local I S R) (k : ℕ) (y : Mail I (Block S R)) (v : View O I S R) (a : Handling (Mail I (Block S R))) → IsSingle a → Valid m.homes [] a
         → Takes (view_at m.local p, []) l' k y (v, carried_after [] a) → (v.known.local ≡ l') × (homes_after m.homes [] a ≡ slice_set m.homes k none) × (get_elem? m.homes k ≡ some (some y))
     taken_by m p l' k y v a one valid e = (let t = taken_homes m.homes a k y one valid (ap (λ (x : Mine O I S R). x.1) e) in (ap (λ (x : Mine O I S R). x.0.known.local) e, t.0, t.1))
 
@@ -196,7 +198,7 @@ module _ {O I S R : Type 0} (meaning : O → Sequential S I R) (o : O) (sizes : 
     same_mail homes k y z one two = some-injective y z (some-injective (some y) (some z) (sym one ∙ two))
 
     -- what a load of S finds is what the process reads
-    read_as : (m : Moment I S R) (p : ℕ) (inv : I) (tries : ℕ) (base : Image S R) (homes : List (Maybe (Mail I (Block S R)))) → Reads object sizes m p base homes
+    pub read_as : (m : Moment I S R) (p : ℕ) (inv : I) (tries : ℕ) (base : Image S R) (homes : List (Maybe (Mail I (Block S R)))) → Reads object sizes m p base homes
         → (v : View O I S R) (a : Handling (Mail I (Block S R))) → IsSingle a → Valid m.homes [] a
         → (said : HasStartedAs sizes inv tries (view_at m.local p, []) (slice_index m.words 0) (v, carried_after [] a))
         → (said.0 ≡ base) × (v.known.local ≡ said.1) × (homes_after m.homes [] a ≡ homes)
@@ -241,15 +243,15 @@ module _ {O I S R : Type 0} (meaning : O → Sequential S I R) (o : O) (sizes : 
         let base_is : (m.local p).base ≡ g.image = (sound.each p inside).reader.same (sym same ∙ words.current) in
         calls_are m.local (m.local p).base image sizes.processes 0 batch.calls batch.rising
         (λ c has.
-            let c_in : c.process < sizes.processes = (batch.below c has).1 in
-            let a = batch.asked c has in
-            let more : applied_in image c.process ≡ in_of g c.process + 1 = ap (λ (z : Image S R). applied_in z c.process) batch.image_is
-            ∙ applied_from object g.image 0 batch.calls c batch.rising has (λ d has'. let z = (batch.below d has').1 in let v = sound.board.image.long in omega arith) in
-            let was : applied_in (m.local p).base c.process ≡ in_of g c.process = ap (λ (z : Image S R). applied_in z c.process) base_is in (
-              (omega arith),
-              pending_is g c.process (m.local c.process) (m.local c.process).stage c (sound.each c.process c_in).stage refl a.0 a.1 a.2,
-              (λ e. omega (arith, more, was, e)),
-            ))
+        let c_in : c.process < sizes.processes = (batch.below c has).1 in
+        let a = batch.asked c has in
+        let more : applied_in image c.process ≡ in_of g c.process + 1 = ap (λ (z : Image S R). applied_in z c.process) batch.image_is
+        ∙ applied_from object g.image 0 batch.calls c batch.rising has (λ d has'. let z = (batch.below d has').1 in let v = sound.board.image.long in omega arith) in
+        let was : applied_in (m.local p).base c.process ≡ in_of g c.process = ap (λ (z : Image S R). applied_in z c.process) base_is in (
+          (omega arith),
+          pending_is g c.process (m.local c.process) (m.local c.process).stage c (sound.each c.process c_in).stage refl a.0 a.1 a.2,
+          (λ e. omega (arith, more, was, e)),
+        ))
         (λ z from below. elim (row_from object g.image batch.calls z) [
           | inl there ↦ inl there
           | inr row ↦ inr (ap (λ (i : Image S R). applied_in i z) batch.image_is ∙ ap (λ r. r.applied) row ∙ sym (ap (λ (i : Image S R). applied_in i z) base_is))
@@ -325,12 +327,12 @@ module _ {O I S R : Type 0} (meaning : O → Sequential S I R) (o : O) (sizes : 
         (looks meaning o sizes p me p (of m p []) inv tries r image at r_in st)
         refl
         (λ v a one valid said.
-            let t = (said inv tries r image at r_in).2 more in
-            let k = t.1.0 known in
-            let both : Some t.0 ≡ Some asked = sym k.0 ∙ has in
-            let same : t.0 ≡ asked = cc in
-            let b = kept_by m p (goes (m.local p) (Reading inv tries (r + 1) (taken_in object image r t.0))) v a one k.1 in
-            (b.0 ∙ ap (λ i. goes (m.local p) (Reading inv tries (r + 1) (taken_in object image r i))) same, b.1))
+        let t = (said inv tries r image at r_in).2 more in
+        let k = t.1.0 known in
+        let both : Some t.0 ≡ Some asked = sym k.0 ∙ has in
+        let same : t.0 ≡ asked = cc in
+        let b = kept_by m p (goes (m.local p) (Reading inv tries (r + 1) (taken_in object image r t.0))) v a one k.1 in
+        (b.0 ∙ ap (λ i. goes (m.local p) (Reading inv tries (r + 1) (taken_in object image r i))) same, b.1))
         (λ g words sound made e. e)
     step_holds m acts h p inside (Take inv tries r image asked mail at r_in more unknown holds_it lies) =
         let st = step 0 0 0 0 none in
@@ -341,13 +343,13 @@ module _ {O I S R : Type 0} (meaning : O → Sequential S I R) (o : O) (sizes : 
         (looks meaning o sizes p me p (of m p []) inv tries r image at r_in st)
         refl
         (λ v a one valid said.
-            let t = (said inv tries r image at r_in).2 more in
-            let u = t.1.1 unknown in
-            let b = taken_by m p (goes (took (m.local p) r found t.0) (Reading inv tries (r + 1) (taken_in object image r t.0))) k u.0 v a one valid u.3 in
-            let mails : u.0 ≡ mail = same_mail m.homes k u.0 mail b.2 lies in
-            let both : Asked t.0 ≡ Asked asked = sym u.1 ∙ ap told mails ∙ holds_it in
-            let same : t.0 ≡ asked = cc in
-            (b.0 ∙ ap (λ i. goes (took (m.local p) r found i) (Reading inv tries (r + 1) (taken_in object image r i))) same, b.1))
+        let t = (said inv tries r image at r_in).2 more in
+        let u = t.1.1 unknown in
+        let b = taken_by m p (goes (took (m.local p) r found t.0) (Reading inv tries (r + 1) (taken_in object image r t.0))) k u.0 v a one valid u.3 in
+        let mails : u.0 ≡ mail = same_mail m.homes k u.0 mail b.2 lies in
+        let both : Asked t.0 ≡ Asked asked = sym u.1 ∙ ap told mails ∙ holds_it in
+        let same : t.0 ≡ asked = cc in
+        (b.0 ∙ ap (λ i. goes (took (m.local p) r found i) (Reading inv tries (r + 1) (taken_in object image r i))) same, b.1))
         (λ g words sound made e. e)
     step_holds m acts h p inside (Fail inv tries image at other) =
         let l = m.local p in
@@ -367,10 +369,10 @@ module _ {O I S R : Type 0} (meaning : O → Sequential S I R) (o : O) (sizes : 
         (starts meaning o sizes p me p (of m p []) inv tries waits st)
         refl
         (λ v a one valid said.
-            let t = said inv tries waits in
-            let b = read_as m p inv tries base homes reads v a one valid t in
-            let on = t.4.1 (λ e. out (ap (λ (i : Image S R). applied_in i p) (sym b.0) ∙ e)) in
-            (b.1 ∙ on.1 ∙ ap (λ i. goes (has_block (m.local p) (slice_index m.words 0) i) (Reading inv tries 0 i)) b.0, b.2))
+        let t = said inv tries waits in
+        let b = read_as m p inv tries base homes reads v a one valid t in
+        let on = t.4.1 (λ e. out (ap (λ (i : Image S R). applied_in i p) (sym b.0) ∙ e)) in
+        (b.1 ∙ on.1 ∙ ap (λ i. goes (has_block (m.local p) (slice_index m.words 0) i) (Reading inv tries 0 i)) b.0, b.2))
         (λ g words sound made e. e ∙ none_returned p (m.local p) (goes (has_block (m.local p) (slice_index m.words 0) base) (Reading inv tries 0 base)) refl)
     step_holds m acts h p inside (Return inv tries base homes reply waits reads is_in has) =
         let st = step 0 0 0 0 none in
@@ -379,12 +381,12 @@ module _ {O I S R : Type 0} (meaning : O → Sequential S I R) (o : O) (sizes : 
         (starts meaning o sizes p me p (of m p []) inv tries waits st)
         refl
         (λ v a one valid said.
-            let t = said inv tries waits in
-            let b = read_as m p inv tries base homes reads v a one valid t in
-            let on = t.4.0 (ap (λ (i : Image S R). applied_in i p) b.0 ∙ is_in) in
-            let both : Some on.0 ≡ Some reply = sym on.1 ∙ ap (λ (i : Image S R). (row_in i p).reply) b.0 ∙ has in
-            let same : on.0 ≡ reply = cc in
-            (b.1 ∙ on.3 ∙ (λ k. returns (has_block (m.local p) (slice_index m.words 0) (b.0 k)) inv (same k)), b.2))
+        let t = said inv tries waits in
+        let b = read_as m p inv tries base homes reads v a one valid t in
+        let on = t.4.0 (ap (λ (i : Image S R). applied_in i p) b.0 ∙ is_in) in
+        let both : Some on.0 ≡ Some reply = sym on.1 ∙ ap (λ (i : Image S R). (row_in i p).reply) b.0 ∙ has in
+        let same : on.0 ≡ reply = cc in
+        (b.1 ∙ on.3 ∙ (λ k. returns (has_block (m.local p) (slice_index m.words 0) (b.0 k)) inv (same k)), b.2))
         (λ g words sound made e. e ∙ one_returned p (m.local p) (returns (has_block (m.local p) (slice_index m.words 0) base) inv reply) _ refl)
     step_holds m acts h p inside (Bring inv tries image reply at same has) =
         let l = m.local p in
@@ -396,14 +398,14 @@ module _ {O I S R : Type 0} (meaning : O → Sequential S I R) (o : O) (sizes : 
         (brings_in meaning o sizes p me p (of m p []) inv tries image at st refl l.word refl)
         (exchanged x l.word new (λ y. y ≡ new) (λ e. refl) (λ n. absurd (n same)))
         (λ v a one valid said.
-            let t = (said inv tries sizes.processes image at).0 same in
-            let both : Some t.0 ≡ Some reply = sym t.1 ∙ has in
-            let its : t.0 ≡ reply = cc in
-            let b = kept_by m p (returns (has_block l new image) inv t.0) v a one t.4 in
-            (b.0 ∙ ap (λ y. returns (has_block l new image) inv y) its, b.1))
+        let t = (said inv tries sizes.processes image at).0 same in
+        let both : Some t.0 ≡ Some reply = sym t.1 ∙ has in
+        let its : t.0 ≡ reply = cc in
+        let b = kept_by m p (returns (has_block l new image) inv t.0) v a one t.4 in
+        (b.0 ∙ ap (λ y. returns (has_block l new image) inv y) its, b.1))
         (λ g words sound made e.
-            let t = e.0 same in
-            t.1 ∙ (λ k. map (λ c. Linearize c) (sym (effects_are m p inside same image g words sound t.0) k) ++ one_returned p l (returns (has_block l new image) inv reply) _ refl k))
+        let t = e.0 same in
+        t.1 ∙ (λ k. map (λ c. Linearize c) (sym (effects_are m p inside same image g words sound t.0) k) ++ one_returned p l (returns (has_block l new image) inv reply) _ refl k))
 
     -- and so does an execution
     pub history_holds : {m : Moment I S R} (acts : List (Act I R)) → Holds m acts → (e : Execution object sizes m) → Holds (last_moment object sizes e) (acts ++ history object sizes e)

@@ -28,5 +28,6 @@ pub mod Brought
 pub mod Meaning
 pub mod Executing
 pub mod Linearity
+pub mod Progressing
 pub mod Closing
 pub mod Emptying

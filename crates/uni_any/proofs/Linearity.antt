@@ -53,7 +53,7 @@ module _ {O I S R : Type 0} (meaning : O → Sequential S I R) (o : O) (sizes : 
   abbrev slots : List (Mail I (Block S R))
   slots = replicate (frames_of sizes * sizes.processes) Empty
 
-  opening_holds : Holds meaning o sizes (opened_moment object sizes) []
+  pub opening_holds : Holds meaning o sizes (opened_moment object sizes) []
   opening_holds =
       let many : length slots ≡ frames_of sizes * sizes.processes = length-replicate (frames_of sizes * sizes.processes) Empty in
       record {

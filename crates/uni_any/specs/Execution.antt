@@ -17,7 +17,6 @@ use Rattle.uni_any.specs.declared.mail.Mail.TheVariants.{Empty}
 use Rattle.uni_any.specs.declared.sizes.Sizes.{Sizes}
 use Rattle.uni_any.specs.declared.view.Image.{Image}
 use Rattle.uni_any.specs.declared.view.Local.{Local}
-use Rattle.uni_any.specs.declared.view.Stage.{Stage}
 use Rattle.uni_any.specs.declared.view.Stage.TheVariants.{Idle, Posting, Ready, Reading, Writing}
 
 -- the shared words; what lies in each slot that is at home, and nothing where it is out; where each process stands
@@ -160,7 +159,7 @@ module _ {S I R : Type 0} (object : Sequential S I R) (sizes : Sizes) where
         load_of (1 + r) (goes mine (Reading inv tries (r + 1) (taken_in object image r asked)))
     effect_of (Take inv tries r image asked mail at inside more unknown holds lies) =
         record (load_of (1 + r) (goes (took mine r (slice_index m.words (1 + r)) asked)
-            (Reading inv tries (r + 1) (taken_in object image r asked)))) {
+        (Reading inv tries (r + 1) (taken_in object image r asked)))) {
           homes = slice_set m.homes (slot_of sizes (call_frame sizes r (slice_index m.words (1 + r) - 1)) p) none;
         }
     effect_of (OpenBlock inv tries r image mail lays inside lies) =

@@ -1,5 +1,5 @@
 -- What is said of every execution.
-use Rattle.std.specs.Prelude.{◌≡◌, List, ◌++◌}
+use Rattle.std.specs.Prelude.{◌≡◌, ◌++◌}
 use Rattle.seq_object.specs.Sequential.{Sequential}
 use Rattle.uni_model.specs.AtomicObject.{Atomic, AcceptsAll, at_start}
 use Rattle.uni_model.specs.HerlihyWing.{IsWellFormed, IsLinearizedByCompletion}

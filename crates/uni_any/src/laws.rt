@@ -9,6 +9,7 @@ ghost use Rattle.uni_any.specs.Board.{AreFew, Board, in_of, span, word_of};
 ghost use Rattle.uni_any.specs.Final.{IsLinearized, IsToldBy, ProcessCalls};
 ghost use Rattle.uni_any.specs.Execution.{Execution, last_moment, opened_moment};
 ghost use Rattle.uni_any.specs.Linearized.{IsLinearizedInTime, KeepsOrder};
+ghost use Rattle.uni_any.specs.Progress.{KeepsBound, NeverBlocks};
 ghost use Rattle.uni_any.specs.Laws.{Invokes, MakesNoAct, Moves, Responds, TakesEffect};
 ghost use Rattle.uni_any.specs.Plays.{HasAnnounced, HasAsked, HasBrought, HasClosed, HasLaid, HasLaidOpen, HasLooked};
 ghost use Rattle.uni_any.specs.Plays.{HasOpened, HasStarted, IsLaying, IsOpening, IsPending, Mine};
@@ -133,4 +134,16 @@ pub fn every_execution_is_linearizable<O: SeqObject>()
         → (e : Execution {R = O.Resp} (O.sequential o) sizes (opened_moment (O.sequential o) sizes))
         (more : Execution (O.sequential o) sizes (last_moment (O.sequential o) sizes e))
         → KeepsOrder (O.sequential o) sizes e more }
+{}
+
+/// The construction is wait-free in every execution: a process in the midst of a call can always take a step, where its
+/// memory isn't refused; and no call takes more than `8 * n + 6` steps of its own process, whatever the other processes
+/// do. A call that was left for want of memory is counted from the load with which it goes on.
+pub fn every_call_is_wait_free<O: SeqObject>()
+    ensures blocks { (o : O) (sizes : Sizes) → AreFew sizes
+        → (e : Execution {R = O.Resp} (O.sequential o) sizes (opened_moment (O.sequential o) sizes))
+        → NeverBlocks (O.sequential o) sizes e }
+    ensures bound { (o : O) (sizes : Sizes) → AreFew sizes
+        → (e : Execution {R = O.Resp} (O.sequential o) sizes (opened_moment (O.sequential o) sizes))
+        → KeepsBound (O.sequential o) sizes e }
 {}
