@@ -1,5 +1,6 @@
 -- Executions: processes that take word steps in any order, as plain data.
-use Rattle.std.specs.Prelude.{◌≡◌, ◌≢◌, ◌⊎◌, ℕ, ◌+◌, ◌-◌, ◌*◌, ◌/◌, ◌%◌, ◌<◌, ◌≤◌, ◌==◌, List, [], ◌∷◌, ◌++◌, Option, None, Some}
+use Rattle.std.specs.Prelude.{◌≡◌, ◌≢◌, ◌⊎◌, ℕ, ◌+◌, ◌-◌, ◌*◌, ◌/◌, ◌%◌, ◌<◌, ◌≤◌, ◌==◌, List, [], ◌∷◌, ◌++◌}
+use Rattle.std.specs.Prelude.{Option, None, Some, refl}
 use Rattle.std.specs.Prelude.{false, true, if◌then◌else◌, length, map, replicate, slice_index, slice_set, suc, zero}
 use mathlib.Core.Option.{Option as Maybe, some, none}
 use lib.ListN.{get_elem?}
@@ -19,10 +20,14 @@ use Rattle.uni_any.specs.declared.view.Image.{Image}
 use Rattle.uni_any.specs.declared.view.Local.{Local}
 use Rattle.uni_any.specs.declared.view.Stage.TheVariants.{Idle, Posting, Ready, Reading, Writing}
 
--- the shared words; what lies in each slot that is at home, and nothing where it is out; where each process stands
+-- what lies in each slot that is at home; nothing where it is out
+abbrev pub Homes : (I S R : Type 0) → Type 0
+Homes I S R = List (Maybe (Mail I (Block S R)))
+
+-- the shared words, the slots, and where each process stands
 pub record Moment (I S R : Type 0) : Type 0 where
   pub words : List ℕ
-  pub homes : List (Maybe (Mail I (Block S R)))
+  pub homes : Homes I S R
   pub local : ℕ → Local I S R
 
 -- What a step does: what one word becomes, which slots are at home then, where its process stands, and which acts of a
@@ -30,7 +35,7 @@ pub record Moment (I S R : Type 0) : Type 0 where
 pub record Effect (I S R : Type 0) : Type 0 where
   pub word : ℕ
   pub becomes : ℕ
-  pub homes : List (Maybe (Mail I (Block S R)))
+  pub homes : Homes I S R
   pub leaves : Local I S R
   pub acts : List (Act I R)
 
@@ -43,8 +48,8 @@ call_of p k (Some inv) = record { process = p; nth = k; inv = inv } ∷ []
 abbrev pub pending_call : {I S R : Type 0} → (p : ℕ) → Local I S R → List (Invoked I)
 pending_call p l = call_of p (length l.own) (pending_of l.stage)
 
--- The calls by which an image has more than another one, of so many processes from p on: their pending calls, in the order
--- of processes.
+-- The calls by which an image has more than another one, of so many processes from p on: their pending calls, in the
+-- order of processes.
 abbrev pub calls_between : {I S R : Type 0} → (local : ℕ → Local I S R) → (before after : Image S R) → (p count : ℕ)
     → List (Invoked I)
 calls_between local before after p zero = []
@@ -57,7 +62,8 @@ module _ {S I R : Type 0} (object : Sequential S I R) (sizes : Sizes) where
     abbrev pub mine : Local I S R
     mine = m.local p
 
-    -- the word S, how many calls process p has made, and the slots for reader r of its next or pending call and of its block
+    -- the word S, how many calls process p has made, and the slots for reader r of its next or pending call, and of its
+    -- block
     abbrev pub present : ℕ
     present = slice_index m.words 0
 
@@ -81,7 +87,7 @@ module _ {S I R : Type 0} (object : Sequential S I R) (sizes : Sizes) where
         ⊎ ((tries ≡ 0) × ((t : ℕ) × (r : ℕ) × (image : Image S R) × (mine.stage ≡ Reading inv t r image)))
 
     -- the version that S names is the one that the process has; or it takes it out of its slot
-    pub record Reads (base : Image S R) (homes : List (Maybe (Mail I (Block S R)))) : Type 0 where
+    pub record Reads (base : Image S R) (homes : Homes I S R) : Type 0 where
       pub same : present ≡ mine.word → (base ≡ mine.base) × (homes ≡ m.homes)
       pub other : present ≢ mine.word → (c : ℕ) × (mail : Mail I (Block S R)) × (present % span ≡ c + 1)
           × (told mail ≡ Made base) × Lies (slot_of sizes (block_frame sizes c) p) mail
@@ -89,38 +95,42 @@ module _ {S I R : Type 0} (object : Sequential S I R) (sizes : Sizes) where
 
     -- The steps that process p can take next.
     pub data Next : Type 0 where
-      -- the slot for the next reader of an invocation, of which the process has an owner, is taken; it is given back with the
-      -- invocation in it; once each reader has one, the call is announced
+      -- the slot for the next reader of an invocation, of which the process has an owner, is taken; it is given back
+      -- with the invocation in it; once each reader has one, the call is announced
       OpenCall : (inv : I) (own : Mail I (Block S R)) (r : ℕ) (mail : Mail I (Block S R)) → told own ≡ Asked inv
           → ((r ≡ 0) × (mine.stage ≡ Idle)) ⊎ (mine.stage ≡ Posting inv r false)
           → r < sizes.processes → made < sizes.calls → Lies (call_slot r) mail → Next
-      CloseCall : (inv : I) (r : ℕ) (mail : Mail I (Block S R)) → mine.stage ≡ Posting inv r true → told mail ≡ Asked inv → Next
+      CloseCall : (inv : I) (r : ℕ) (mail : Mail I (Block S R)) → mine.stage ≡ Posting inv r true
+          → told mail ≡ Asked inv → Next
       Announce : (inv : I) → mine.stage ≡ Posting inv sizes.processes false → made < sizes.calls → Next
       -- S is loaded: where the call isn't in that version, an attempt begins; where it is, the call returns
-      Start : (inv : I) (tries : ℕ) (base : Image S R) (homes : List (Maybe (Mail I (Block S R)))) → Waits inv tries
-          → Reads base homes → applied_in base p ≢ made + 1 → Next
-      Return : (inv : I) (tries : ℕ) (base : Image S R) (homes : List (Maybe (Mail I (Block S R)))) (reply : R) → Waits inv tries
+      Start : (inv : I) (tries : ℕ) (base : Image S R) (homes : Homes I S R) → Waits inv tries → Reads base homes
+          → applied_in base p ≢ made + 1 → Next
+      Return : (inv : I) (tries : ℕ) (base : Image S R) (homes : Homes I S R) (reply : R) → Waits inv tries
           → Reads base homes → applied_in base p ≡ made + 1 → (row_in base p).reply ≡ Some reply → Next
-      -- an announcement is loaded: all that process has announced is in; or its call is applied, the invocation of which was
-      -- taken before; or it is taken out of its slot now
+      -- an announcement is loaded: all that process has announced is in; or its call is applied, the invocation of
+      -- which was taken before; or it is taken out of its slot now
       Pass : (inv : I) (tries r : ℕ) (image : Image S R) → mine.stage ≡ Reading inv tries r image → r < sizes.processes
           → slice_index m.words (1 + r) ≤ applied_in image r → Next
       Apply : (inv : I) (tries r : ℕ) (image : Image S R) (asked : I) → mine.stage ≡ Reading inv tries r image
           → r < sizes.processes → applied_in image r < slice_index m.words (1 + r)
           → (taken_of mine r).number ≡ slice_index m.words (1 + r) → (taken_of mine r).inv ≡ Some asked → Next
       Take : (inv : I) (tries r : ℕ) (image : Image S R) (asked : I) (mail : Mail I (Block S R))
-          → mine.stage ≡ Reading inv tries r image → r < sizes.processes → applied_in image r < slice_index m.words (1 + r)
-          → (taken_of mine r).number ≢ slice_index m.words (1 + r) → told mail ≡ Asked asked
+          → mine.stage ≡ Reading inv tries r image → r < sizes.processes
+          → applied_in image r < slice_index m.words (1 + r) → (taken_of mine r).number ≢ slice_index m.words (1 + r)
+          → told mail ≡ Asked asked
           → Lies (slot_of sizes (call_frame sizes r (slice_index m.words (1 + r) - 1)) p) mail → Next
       -- the slot for the next reader of the block is taken, and given back with the block in it
       OpenBlock : (inv : I) (tries r : ℕ) (image : Image S R) (mail : Mail I (Block S R))
-          → ((r ≡ 0) × (mine.stage ≡ Reading inv tries sizes.processes image)) ⊎ (mine.stage ≡ Writing inv tries image r false)
+          → ((r ≡ 0) × (mine.stage ≡ Reading inv tries sizes.processes image))
+          ⊎ (mine.stage ≡ Writing inv tries image r false)
           → r < sizes.processes → Lies (block_slot r) mail → Next
       CloseBlock : (inv : I) (tries r : ℕ) (image : Image S R) (mail : Mail I (Block S R))
           → mine.stage ≡ Writing inv tries image r true → told mail ≡ Made image → Next
       -- once each reader has one, S is exchanged, if it is what the attempt began with; else the attempt has failed
-      Bring : (inv : I) (tries : ℕ) (image : Image S R) (reply : R) → mine.stage ≡ Writing inv tries image sizes.processes false
-          → present ≡ mine.word → (row_in image p).reply ≡ Some reply → Next
+      Bring : (inv : I) (tries : ℕ) (image : Image S R) (reply : R)
+          → mine.stage ≡ Writing inv tries image sizes.processes false → present ≡ mine.word
+          → (row_in image p).reply ≡ Some reply → Next
       Fail : (inv : I) (tries : ℕ) (image : Image S R) → mine.stage ≡ Writing inv tries image sizes.processes false
           → present ≢ mine.word → Next
       -- between calls it is asked which version has come
@@ -130,16 +140,16 @@ module _ {S I R : Type 0} (object : Sequential S I R) (sizes : Sizes) where
     abbrev pub load_of : (word : ℕ) → Local I S R → Effect I S R
     load_of word l = record { word = word; becomes = slice_index m.words word; homes = m.homes; leaves = l; acts = [] }
 
-    -- What such a step does. An announcement invokes a call. An exchange that finds what its attempt began with makes the
-    -- calls that its block has more than the version before take effect, in the order of their processes; the own call,
-    -- which is one of them, responds. So does the load of S that finds the call in. No other step makes an act.
+    -- What such a step does. An announcement invokes a call. An exchange that finds what its attempt began with makes
+    -- the calls that its block has more than the version before take effect, in the order of their processes; the own
+    -- call, which is one of them, responds. So does a load of S that finds the call in. No other step makes an act.
     abbrev pub effect_of : Next → Effect I S R
-    effect_of (OpenCall inv own r mail asks opens inside few lies) = record (load_of (1 + p) (goes mine (Posting inv r true))) {
-      homes = slice_set m.homes (call_slot r) none;
-    }
-    effect_of (CloseCall inv r mail at holds) = record (load_of (1 + p) (goes mine (Posting inv (r + 1) false))) {
-      homes = slice_set m.homes (call_slot r) (some mail);
-    }
+    effect_of (OpenCall inv own r mail asks opens inside few lies) =
+        record (load_of (1 + p) (goes mine (Posting inv r true))) { homes = slice_set m.homes (call_slot r) none }
+    effect_of (CloseCall inv r mail at holds) =
+        record (load_of (1 + p) (goes mine (Posting inv (r + 1) false))) {
+          homes = slice_set m.homes (call_slot r) (some mail);
+        }
     effect_of (Announce inv at few) = record {
       word = 1 + p;
       becomes = made + 1;
@@ -154,7 +164,8 @@ module _ {S I R : Type 0} (object : Sequential S I R) (sizes : Sizes) where
           homes = homes;
           acts = Respond p made reply ∷ [];
         }
-    effect_of (Pass inv tries r image at inside none_more) = load_of (1 + r) (goes mine (Reading inv tries (r + 1) image))
+    effect_of (Pass inv tries r image at inside none_more) =
+        load_of (1 + r) (goes mine (Reading inv tries (r + 1) image))
     effect_of (Apply inv tries r image asked at inside more known has) =
         load_of (1 + r) (goes mine (Reading inv tries (r + 1) (taken_in object image r asked)))
     effect_of (Take inv tries r image asked mail at inside more unknown holds lies) =
@@ -163,7 +174,9 @@ module _ {S I R : Type 0} (object : Sequential S I R) (sizes : Sizes) where
           homes = slice_set m.homes (slot_of sizes (call_frame sizes r (slice_index m.words (1 + r) - 1)) p) none;
         }
     effect_of (OpenBlock inv tries r image mail lays inside lies) =
-        record (load_of (1 + p) (goes mine (Writing inv tries image r true))) { homes = slice_set m.homes (block_slot r) none }
+        record (load_of (1 + p) (goes mine (Writing inv tries image r true))) {
+          homes = slice_set m.homes (block_slot r) none;
+        }
     effect_of (CloseBlock inv tries r image mail at holds) =
         record (load_of (1 + p) (goes mine (Writing inv tries image (r + 1) false))) {
           homes = slice_set m.homes (block_slot r) (some mail);
@@ -175,7 +188,8 @@ module _ {S I R : Type 0} (object : Sequential S I R) (sizes : Sizes) where
           becomes = new;
           homes = m.homes;
           leaves = returns (has_block mine new image) inv reply;
-          acts = map (λ c. Linearize c) (calls_between m.local mine.base image 0 sizes.processes) ++ Respond p made reply ∷ [];
+          acts = map (λ c. Linearize c) (calls_between m.local mine.base image 0 sizes.processes)
+              ++ Respond p made reply ∷ [];
         }
     effect_of (Fail inv tries image at other) = load_of 0 (goes mine (Ready inv (tries + 1)))
     effect_of (Follow at) = load_of 0 (knows mine (version_in present))
@@ -191,7 +205,8 @@ module _ {S I R : Type 0} (object : Sequential S I R) (sizes : Sizes) where
   -- An execution from a moment on: again and again some process takes a step that it can take.
   pub data Execution : Moment I S R → Type 0 where
     Ends : {m : Moment I S R} → Execution m
-    Step : {m : Moment I S R} (p : ℕ) → p < sizes.processes → (next : Next m p) → Execution (after m p next) → Execution m
+    Step : {m : Moment I S R} (p : ℕ) → p < sizes.processes → (next : Next m p) → Execution (after m p next)
+        → Execution m
 
   -- the acts that its steps make, in the order of the steps
   abbrev pub history : {m : Moment I S R} → Execution m → List (Act I R)
@@ -221,3 +236,25 @@ abbrev pub points : {I R : Type 0} → List (Act I R) → List (Invoked I)
 points [] = []
 points (Linearize c ∷ acts) = c ∷ points acts
 points (act ∷ acts) = points acts
+
+-- two processes, each with a pending call; the second of them is in
+abbrev sample_local : ℕ → Local ℕ ℕ ℕ
+sample_local p = record {
+  stage = Ready (5 + p) 0;
+  after = 0;
+  own = [];
+  word = 0;
+  base = record { state = 0; rows = [] };
+  taken = [];
+  steps = 0;
+}
+
+abbrev sample_image : (second : ℕ) → Image ℕ ℕ
+sample_image second = record {
+  state = 0;
+  rows = record { applied = 0; reply = None } ∷ record { applied = second; reply = Some 7 } ∷ [];
+}
+
+sample_between : calls_between sample_local (sample_image 0) (sample_image 1) 0 2
+    ≡ record { process = 1; nth = 0; inv = 6 } ∷ []
+sample_between = refl

@@ -8,10 +8,10 @@ use Rattle.uni_any.specs.Execution.{Execution, Moment, last_moment, goes_on, his
 use Rattle.uni_any.specs.declared.sizes.Sizes.{Sizes}
 
 module _ {S I R : Type 0} (object : Sequential S I R) (sizes : Sizes) where
-  -- The atomic object takes the acts of an execution from the opening as they stand: so no call takes effect twice, each
-  -- that has returned has taken effect at a step from the one that announces it to its last one, and its reply is the
-  -- object's at its place. And what is observed, the invocations and the replies alone, is linearizable in that order in
-  -- the words of Herlihy and Wing: with the order of real time.
+  -- The atomic object takes the acts of an execution from the opening as they stand: so no call takes effect twice,
+  -- each that has returned has taken effect at a step from the one that announces it to its last one, and its reply is
+  -- the object's at its place. And what is observed, the invocations and the replies alone, is linearizable in that
+  -- order in the words of Herlihy and Wing: with the order of real time.
   pub record IsLinearizedInTime (e : Execution object sizes (opened_moment object sizes)) : Type 0 where
     pub atomic : Atomic S I
     pub accepted : AcceptsAll object (at_start object.initial) (history object sizes e) atomic
@@ -21,7 +21,7 @@ module _ {S I R : Type 0} (object : Sequential S I R) (sizes : Sizes) where
         (points (history object sizes e))
 
   -- What goes on only has further calls behind those that took effect.
-  abbrev pub KeepsOrder : {m : Moment I S R} (e : Execution object sizes m) → Execution object sizes (last_moment object sizes e)
-      → Type 0
+  abbrev pub KeepsOrder : {m : Moment I S R} (e : Execution object sizes m)
+      → Execution object sizes (last_moment object sizes e) → Type 0
   KeepsOrder e more = points (history object sizes (goes_on object sizes e more))
       ≡ points (history object sizes e) ++ points (history object sizes more)

@@ -87,7 +87,8 @@ pub fn load_responds<O: SeqObject>()
     ensures { (o : O) (sizes : Sizes) (id p tries : ℕ) (inv : O.Inv)
         (st : Step (Mail O.Inv (Block O.State O.Resp))) (me : Mine O O.Inv O.State O.Resp) →
         IsOf o sizes p me → IsPending inv tries me
-        → Moves O.sequential o sizes id me 0 (λ x. x) (λ g found. Responds p) (λ found me'. HasStarted st me found me') }
+        → Moves O.sequential o sizes id me 0 (λ x. x) (λ g found. Responds p)
+        (λ found me'. HasStarted st me found me') }
 {}
 
 /// The other steps append nothing: a slot of an invocation or of a block is taken, and given back; an announcement is
@@ -102,7 +103,8 @@ pub fn other_steps_append_nothing<O: SeqObject>()
     ensures close_call { (o : O) (sizes : Sizes) (id p r : ℕ) (inv : O.Inv)
         (st : Step (Mail O.Inv (Block O.State O.Resp))) (me : Mine O O.Inv O.State O.Resp) →
         IsOf o sizes p me → stage_of me ≡ Posting inv r true → HoldsCall sizes p r inv me
-        → Moves O.sequential o sizes id me (1 + p) (λ x. x) (λ g found. MakesNoAct) (λ found me'. HasClosed st me found me') }
+        → Moves O.sequential o sizes id me (1 + p) (λ x. x) (λ g found. MakesNoAct)
+        (λ found me'. HasClosed st me found me') }
     ensures look { (o : O) (sizes : Sizes) (id p tries r : ℕ) (inv : O.Inv) (image : Image O.State O.Resp)
         (st : Step (Mail O.Inv (Block O.State O.Resp))) (me : Mine O O.Inv O.State O.Resp) →
         IsOf o sizes p me → stage_of me ≡ Reading inv tries r image → r < sizes.processes
@@ -116,7 +118,8 @@ pub fn other_steps_append_nothing<O: SeqObject>()
     ensures close_block { (o : O) (sizes : Sizes) (id p tries r : ℕ) (inv : O.Inv) (image : Image O.State O.Resp)
         (st : Step (Mail O.Inv (Block O.State O.Resp))) (me : Mine O O.Inv O.State O.Resp) →
         IsOf o sizes p me → stage_of me ≡ Writing inv tries image r true → HoldsBlock sizes p r image me
-        → Moves O.sequential o sizes id me (1 + p) (λ x. x) (λ g found. MakesNoAct) (λ found me'. HasLaid st me found me') }
+        → Moves O.sequential o sizes id me (1 + p) (λ x. x) (λ g found. MakesNoAct)
+        (λ found me'. HasLaid st me found me') }
     ensures follow { (o : O) (sizes : Sizes) (id p : ℕ)
         (st : Step (Mail O.Inv (Block O.State O.Resp))) (me : Mine O O.Inv O.State O.Resp) →
         IsOf o sizes p me → stage_of me ≡ Idle
