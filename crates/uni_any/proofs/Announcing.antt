@@ -1,5 +1,6 @@
 -- The step that announces a call.
 use Rattle.uni_any.proofs.Vocabulary.{AcceptsAll-append, AreWords, Block, Board, HasAnnounced, HasSeen, Image, Invoke, IsAt, IsBoard, IsHistory, IsTold, None, Option, Returned, Sequential, Some, [], ap, at_start, pending_of, ◌++◌, ◌∷◌, IsOf, IsReader, IsStageAt, List, Local, Mail, Mine, Posting, Ready, Sizes, Stage, Step, arith, call_frame, false, get_or-set_other, get_or-set_same, goes, in_of, inl, inr, keeps, length-set, local_of, made_of, number_cases, refl, set_at, set_at-cases, set_at_elsewhere, set_at_same, slice_index, slice_set, stage_of, subst, sym, with_local, ℕ, ◌+◌, ◌<◌, ◌∙◌, ◌≡◌, ◌≢◌, ◌≤◌}
+use Rattle.uni_any.specs.Execution.Next.{Announce}
 use Rattle.uni_any.specs.Laws.{Invokes, Moves}
 use Rattle.uni_any.proofs.Frame.{Found, Given, sound_with, step_law}
 use Rattle.uni_any.proofs.Ordering.{order_kept}
@@ -205,7 +206,7 @@ module _ {O I S R : Type 0} (meaning : O → Sequential S I R) (o : O) (sizes : 
           ];
         }
 
-    given : (x : ℕ) → Given (meaning o) sizes me g local (slice_set words (1 + q0) number) homes (Invokes q0 inv) (λ me'. HasAnnounced st me number me')
+    given : (x : ℕ) → Given (meaning o) sizes me g local words (1 + q0) number homes (Invokes q0 inv) (λ me'. HasAnnounced st me number me')
     given x = record {
       board = g';
       local' = goes l (Ready inv 0);
@@ -219,6 +220,7 @@ module _ {O I S R : Type 0} (meaning : O → Sequential S I R) (o : O) (sizes : 
           (order_kept (meaning o) sizes.processes g.atomic.agreed g.calls_in_version g.version local f.sound.order q0 l (goes l (Ready inv 0)) f.inside f.local_is refl refl);
       words_are = words';
       slots_are = slots_kept sizes g g' homes f.slots_are (λ e r. ((λ n. n), (λ full. (full, refl))));
+      can = (Announce inv stage (omega arith), (λ k. record { word = 1 + q0; becomes = sym number_is k; homes = homes; leaves = goes l (Ready inv 0); acts = Invoke q0 m inv ∷ [] }));
       said = λ inv' r stage'.
           let e : Posting inv sizes.processes false ≡ Posting inv' r false = sym stage ∙ stage' in
           let a : inv ≡ inv' = cc in

@@ -1,5 +1,6 @@
 -- The load of S between calls.
-use Rattle.uni_any.proofs.Vocabulary.{[], Block, Board, HasAsked, Idle, IsBoard, IsOf, IsOrdered, IsStageAt, List, append-nil, Local, Mail, Mine, Sequential, Sizes, Step, ap, arith, in_of, keeps, knows, local_of, mul-le-mul_right, refl, slice_index, slice_set, stage_of, subst, sym, version_in, ℕ, ◌*◌, ◌≡◌, ◌≤◌}
+use Rattle.uni_any.proofs.Vocabulary.{[], Block, Board, HasAsked, Idle, IsBoard, IsOf, IsOrdered, IsStageAt, List, append-nil, Local, Mail, Mine, Sequential, Sizes, Step, ap, arith, in_of, keeps, knows, local_of, mul-le-mul_right, refl, slice_index, stage_of, subst, sym, version_in, ℕ, ◌*◌, ◌≡◌, ◌≤◌}
+use Rattle.uni_any.specs.Execution.Next.{Follow}
 use Rattle.uni_any.specs.Laws.{Moves, MakesNoAct}
 use Rattle.uni_any.proofs.Frame.{Found, Given, sound_with, step_law}
 use Rattle.uni_any.proofs.Ordering.{order_with, ordered_asked}
@@ -41,7 +42,7 @@ module _ {O I S R : Type 0} (meaning : O → Sequential S I R) (o : O) (sizes : 
         (ordered_asked object sizes.processes g.atomic.agreed g.calls_in_version g.version local f.sound.order q0 l.after l.own ordered
         (λ c has mine. let b = (f.sound.history.agreed c has).1 in let e : in_of g c.process ≡ in_of g q0 = ap (in_of g) mine in let d = at.0.1 in omega arith))
 
-    given : Given object sizes me g local (slice_set words 0 s) homes MakesNoAct (HasAsked st me s)
+    given : Given object sizes me g local words 0 s homes MakesNoAct (HasAsked st me s)
     given = record {
       board = g;
       local' = l';
@@ -59,6 +60,7 @@ module _ {O I S R : Type 0} (meaning : O → Sequential S I R) (o : O) (sizes : 
           (order_with object sizes.processes g.atomic.agreed g.calls_in_version g.version local f.sound.order q0 l' asked);
       words_are = words_same sizes g g words 0 refl refl refl f.words_are;
       slots_are = f.slots_are;
+      can = (Follow idle, refl);
       said = λ is. ((let r = ordered.reached in let e = present in omega arith), refl);
     }
 

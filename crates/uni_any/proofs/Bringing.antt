@@ -2,7 +2,9 @@
 use Rattle.uni_any.proofs.Vocabulary.{AcceptsAll-append, Act, AreOrdered, AreWords, Asked, Atomic, Block, Board, Contains, Contains-append_cases, HasBrought, HasSeen, Idle, Image, Invoke, Invoked, IsAt, IsBoard, IsHistory, IsOf, IsOpen, IsOrdered, IsStageAt, IsTold, IsTrying, Linearize, List, Local, Mail, Mine, None, Option, Posting, Reading, Ready, Respond, Returned, Sequential, Sizes, Some, Stage, Step, Writing, [], acts_by, ap, append-nil, append_assoc, applied_in, arith, at_start, block_frame, call_frame, either, ending, eqb, exchanged, false, first_image, get_or-set_other, get_or-set_same, goes, has_block, image_from, in_of, inl, inr, inv_of, keeps, length, length-append, length-map, length-set, local_of, lt_cases, made_of, map, map-append, mul-le-mul_right, number_cases, pending_of, plain, refl, response_at, response_at-append, returns, row_in, sequential_acts, set_at, set_at-cases, set_at_elsewhere, set_at_same, slice_get, slice_get-append_left, slice_get-append_right, slice_index, slice_set, span, stage_of, subst, sym, true, version_in, with_local, word_of, ℕ, ◌*◌, ◌++◌, ◌+◌, ◌/◌, ◌<◌, ◌∙◌, ◌∷◌, ◌≡◌, ◌≢◌, ◌≤◌, ◌⊎◌}
 use Rattle.uni_any.proofs.Acts.{one_returned, acts_by-append, acts_by-linearized, responded_other, responded_own, sequential_acts-snoc}
 use Rattle.uni_any.proofs.Batches.{applied_from, image_from-append, linearized, row_from, state_from, taken_from}
+use Rattle.uni_any.specs.Execution.Next.{Bring, Fail}
 use Rattle.uni_any.specs.Laws.{Moves, TakesEffect}
+use Rattle.uni_any.proofs.Effects.{effects_are}
 use Rattle.uni_any.proofs.Frame.{Found, Given, sound_with, step_law}
 use Rattle.uni_any.proofs.Announcing.{reader_goes}
 use Rattle.uni_any.proofs.Ordering.{in_next, order_grown, order_kept, order_with, ordered_returned, response_stays, version_rises}
@@ -66,7 +68,7 @@ module _ {O I S R : Type 0} (meaning : O → Sequential S I R) (o : O) (sizes : 
     small : g.current < 4294967296
     small = (let a = board.current in let b : sizes.processes * sizes.calls ≤ 64 * sizes.calls = mul-le-mul_right sizes.calls f.few.1 in let c = f.few.2 in omega arith)
 
-    miss : w ≢ l.word → Given object sizes me g local (slice_set words 0 w) homes (TakesEffect object sizes g q0 w image) (HasBrought st me w)
+    miss : w ≢ l.word → Given object sizes me g local words 0 w homes (TakesEffect object sizes g q0 w image) (HasBrought st me w)
     miss apart = record {
       board = g;
       local' = goes l (Ready inv (tries + 1));
@@ -102,6 +104,7 @@ module _ {O I S R : Type 0} (meaning : O → Sequential S I R) (o : O) (sizes : 
           let e : Writing inv tries image sizes.processes false ≡ Writing inv' tries' image' r' false = sym stage ∙ stage' in
           let e0 : inv ≡ inv' = cc in let e1 : tries ≡ tries' = cc in
           ((λ same. absurd (apart same)), (λ n. (λ k. (with_local me.0 (goes l (Ready (e0 k) (e1 k + 1))), me.1))));
+      can = (Fail inv tries image stage apart, refl);
     }
 
     module _ (same : w ≡ l.word) where
@@ -333,7 +336,7 @@ module _ {O I S R : Type 0} (meaning : O → Sequential S I R) (o : O) (sizes : 
             announced = λ z z_in. get_or-set_other words 0 (1 + z) st.second 0 (λ (e : 1 + z ≡ 0). omega arith) ∙ are.announced z z_in;
           }
 
-      hit : Given object sizes me g local (slice_set words 0 st.second) homes (TakesEffect object sizes g q0 w image) (HasBrought st me w)
+      hit : Given object sizes me g local words 0 st.second homes (TakesEffect object sizes g q0 w image) (HasBrought st me w)
       hit = record {
         board = g';
         local' = l';
@@ -358,10 +361,20 @@ module _ {O I S R : Type 0} (meaning : O → Sequential S I R) (o : O) (sizes : 
               )),
               (λ n. absurd (n same)),
             );
+        can = (
+          Bring inv tries image x stage same reply.1,
+          (λ k. record {
+            word = 0;
+            becomes = sym new_is k;
+            homes = homes;
+            leaves = returns (has_block l (sym new_is k) image) inv x;
+            acts = map (λ c. Linearize c) (effects_are object sizes local l.base image g (f.mine.reader.same is) f.sound seen.batch k) ++ Respond q0 m x ∷ [];
+          }),
+        );
       }
 
   pub brings_in : (s : ℕ) → l.word ≡ s → Moves meaning o sizes id me 0 (λ found. either (eqb found s) st.second found) (λ g found. TakesEffect object sizes g p found image) (λ found me'. HasBrought st me found me')
   brings_in s word_is = subst (λ k. Moves meaning o sizes id me 0 (λ found. either (eqb found s) st.second found) (λ g found. TakesEffect object sizes g k found image) (λ found me'. HasBrought st me found me')) of.first
       (step_law meaning o sizes id me 0 (λ found. either (eqb found s) st.second found) (λ g found. TakesEffect object sizes g q0 found image) (λ found me'. HasBrought st me found me') of.alone (λ g local words homes f.
-      exchanged (slice_index words 0) s st.second (λ y. Given object sizes me g local (slice_set words 0 y) homes (TakesEffect object sizes g q0 (slice_index words 0) image) (HasBrought st me (slice_index words 0)))
+      exchanged (slice_index words 0) s st.second (λ y. Given object sizes me g local words 0 y homes (TakesEffect object sizes g q0 (slice_index words 0) image) (HasBrought st me (slice_index words 0)))
       (λ e. hit g local words homes f (e ∙ sym word_is)) (λ n. miss g local words homes f (λ e. n (e ∙ word_is)))))

@@ -1,16 +1,16 @@
 -- Each step of an execution is one of the table's steps, and so keeps a board whose history is that of the execution.
-use Rattle.uni_any.proofs.Vocabulary.{Act, AreFew, AreSlots, AreWords, Asked, Block, Board, Contains, HasAnnounced, HasAsked, HasBrought, HasClosed, HasLaid, HasLaidOpen, HasBatch, HasLooked, HasOpened, HasStarted, HasStartedAs, IsOpen, Gives, Image, IsLeft, Takes, Invoked, IsOf, IsRising, IsShown, IsSound, IsStageAt, Linearize, List, Local, Made, Mail, Mine, Posting, Reading, Ready, Sequential, Sizes, Some, Stage, State, Tells, Valid, View, Writing, Idle, [], ap, append-nil, append_assoc, applied_in, arith, block_frame, call_frame, carried_after, either, eqb, exchanged, false, get_elem?, gives, goes, has_block, homes_after, in_of, inl, inr, keeps, knows, length, map, none, number_cases, pending_of, refl, rest, returns, row_in, set_at, slice_index, slice_set, slot_of, some, some-injective, some-ne-none, span, step, subst, suc, sym, taken_in, takes, told, took, true, version_in, word_of, zero, ℕ, ◌*◌, ◌++◌, ◌+◌, ◌-◌, ◌/◌, ◌<◌, ◌∙◌, ◌∷◌, ◌≡◌, ◌≢◌, ◌≤◌, ◌⊎◌}
+use Rattle.uni_any.proofs.Vocabulary.{Act, AreFew, AreSlots, AreWords, Asked, Block, Board, HasAnnounced, HasAsked, HasBrought, HasClosed, HasLaid, HasLaidOpen, HasLooked, HasOpened, HasStarted, HasStartedAs, Gives, Image, IsLeft, Takes, IsOf, IsShown, IsSound, Linearize, List, Local, Made, Mail, Mine, Posting, Reading, Ready, Sequential, Sizes, Some, State, Tells, Valid, View, Writing, [], ap, append-nil, append_assoc, applied_in, arith, block_frame, call_frame, carried_after, either, eqb, exchanged, false, get_elem?, gives, goes, has_block, homes_after, inl, inr, keeps, knows, length, map, none, number_cases, refl, rest, returns, row_in, set_at, slice_index, slice_set, slot_of, some, some-injective, some-ne-none, span, step, subst, suc, sym, taken_in, takes, told, took, true, version_in, word_of, zero, ℕ, ◌*◌, ◌++◌, ◌+◌, ◌-◌, ◌/◌, ◌<◌, ◌∙◌, ◌∷◌, ◌≡◌}
 use Rattle.atomic_table.specs.Table.{chain}
 use Rattle.atomic_table.specs.Table.{Act as Handling}
 use mathlib.Core.Option.{Option as Maybe}
-use Rattle.uni_any.specs.Execution.{Execution, Moment, Next, Reads, after, call_of, calls_between, effect_of, history, last_moment, pending_call}
+use Rattle.uni_any.specs.Execution.{Execution, Moment, Next, Reads, after, effect_of, history, last_moment}
 use Rattle.uni_any.specs.Execution.Next.{OpenCall, CloseCall, Announce, Start, Return, Pass, Apply, Take, OpenBlock, CloseBlock, Bring, Fail, Follow}
 use Rattle.uni_any.specs.Execution.Execution.{Ends, Step as Steps}
 use Rattle.uni_any.specs.Laws.{Invokes, IsSingle, MakesNoAct, Moves, Responds, TakesEffect}
 use Rattle.uni_any.proofs.Acts.{none_returned, one_returned}
 use Rattle.uni_any.proofs.Announcing.{announces}
 use Rattle.uni_any.proofs.Asking.{asks}
-use Rattle.uni_any.proofs.Batches.{applied_from, contains_cons, contains_first, contains_later, not_empty, rising_from, row_from}
+use Rattle.uni_any.proofs.Effects.{effects_are}
 use Rattle.uni_any.proofs.Bringing.{brings_in}
 use Rattle.uni_any.proofs.Laying.{lays, lays_open}
 use Rattle.uni_any.proofs.Looking.{looks}
@@ -63,58 +63,6 @@ module _ {X : Type 0} (homes : List (Maybe X)) where
   given_homes (takes j z) k y one e = absurd (let x = ap length e in omega arith)
   given_homes (chain a b) k y one e = absurd one
 
--- the calls by which an image has more than another one
-module _ {I S R : Type 0} (local : ℕ → Local I S R) (before after' : Image S R) where
-  pub calls_are : (count q : ℕ) (calls : List (Invoked I)) → IsRising q calls
-      → ((c : Invoked I) → Contains calls c → (c.process < q + count) × (pending_call c.process (local c.process) ≡ c ∷ []) × (applied_in after' c.process ≢ applied_in before c.process))
-      → ((z : ℕ) → q ≤ z → z < q + count → ((c : Invoked I) × Contains calls c × (c.process ≡ z)) ⊎ (applied_in after' z ≡ applied_in before z))
-      → calls_between local before after' q count ≡ calls
-  calls_are zero q [] rising each all = refl
-  calls_are zero q (c ∷ cs) rising each all = absurd (let a = (each c (contains_first c cs)).0 in let b = rising.0 in omega arith)
-  calls_are (suc k) q calls rising each all = elim (number_cases (applied_in after' q) (applied_in before q)) [
-    | inl same ↦ rw same.1 (calls_are k (q + 1) calls (none_first calls rising each same.0) (λ c has. (let e = each c has in let b = e.0 in ((omega arith), e.1, e.2)))
-        (λ z from below. all z (omega arith) (omega arith)))
-    | inr more ↦ rw more.1 (one_first (λ ds. calls_are k (q + 1) ds) calls rising each all more.0)
-  ] where
-    none_first : (cs : List (Invoked I)) → IsRising q cs
-        → ((c : Invoked I) → Contains cs c → (c.process < q + suc k) × (pending_call c.process (local c.process) ≡ c ∷ []) × (applied_in after' c.process ≢ applied_in before c.process))
-        → applied_in after' q ≡ applied_in before q → IsRising (q + 1) cs
-    none_first [] up each same = tt
-    none_first (d ∷ ds) up each same =
-        let apart : d.process ≢ q = (λ e. (each d (contains_first d ds)).2 (ap (applied_in after') e ∙ same ∙ sym (ap (applied_in before) e))) in
-        ((let u = up.0 in omega (arith, apart)), up.1)
-
-    one_first : ((ds : List (Invoked I)) → IsRising (q + 1) ds
-        → ((c : Invoked I) → Contains ds c → (c.process < q + 1 + k) × (pending_call c.process (local c.process) ≡ c ∷ []) × (applied_in after' c.process ≢ applied_in before c.process))
-        → ((z : ℕ) → q + 1 ≤ z → z < q + 1 + k → ((c : Invoked I) × Contains ds c × (c.process ≡ z)) ⊎ (applied_in after' z ≡ applied_in before z))
-        → calls_between local before after' (q + 1) k ≡ ds) → (cs : List (Invoked I)) → IsRising q cs
-        → ((c : Invoked I) → Contains cs c → (c.process < q + suc k) × (pending_call c.process (local c.process) ≡ c ∷ []) × (applied_in after' c.process ≢ applied_in before c.process))
-        → ((z : ℕ) → q ≤ z → z < q + suc k → ((c : Invoked I) × Contains cs c × (c.process ≡ z)) ⊎ (applied_in after' z ≡ applied_in before z))
-        → applied_in after' q ≢ applied_in before q → pending_call q (local q) ++ calls_between local before after' (q + 1) k ≡ cs
-    one_first later_are [] up each all apart = elim (all q (omega arith) (omega arith)) [
-      | inl there ↦ absurd (not_empty there.0 there.1)
-      | inr same ↦ absurd (apart same)
-    ]
-    one_first later_are (d ∷ ds) up each all apart =
-        let here : d.process ≡ q = elim (all q (omega arith) (omega arith)) [
-          | inl there ↦ elim (contains_cons d ds there.0 there.1) [
-            | inl same ↦ ap (λ (z : Invoked I). z.process) same ∙ there.2
-            | inr later ↦ absurd (let r = rising_from (d.process + 1) ds there.0 up.1 later in let e = there.2 in let u = up.0 in omega arith)
-          ]
-          | inr same ↦ absurd (apart same)
-        ] in
-        let first : pending_call q (local q) ≡ d ∷ [] = subst (λ z. pending_call z (local z) ≡ d ∷ []) here (each d (contains_first d ds)).1 in
-        let others : calls_between local before after' (q + 1) k ≡ ds = later_are ds (subst (λ z. IsRising (z + 1) ds) here up.1)
-        (λ c has. let e = each c (contains_later d ds c has) in let b = e.0 in ((omega arith), e.1, e.2))
-        (λ z from below. elim (all z (omega arith) (omega arith)) [
-          | inl there ↦ elim (contains_cons d ds there.0 there.1) [
-            | inl same ↦ absurd (let e : d.process ≡ there.0.process = ap (λ (y : Invoked I). y.process) same in let f = there.2 in omega arith)
-            | inr later ↦ inl (there.0, later, there.2)
-          ]
-          | inr same ↦ inr same
-        ]) in
-        λ i. first i ++ others i
-
 module _ {O I S R : Type 0} (meaning : O → Sequential S I R) (o : O) (sizes : Sizes) where
   abbrev object : Sequential S I R
   object = meaning o
@@ -159,16 +107,16 @@ module _ {O I S R : Type 0} (meaning : O → Sequential S I R) (o : O) (sizes : 
     seat_at m p inside = at_each (view_at m.local) sizes.processes p inside
 
     -- one step of a process that moves the board, with the slots that it has
-    moved : (m : Moment I S R) (acts : List (Act I R)) → Holds m acts → (p : ℕ) → p < sizes.processes → (next : Next object sizes m p)
+    moved : (m : Moment I S R) (acts : List (Act I R)) → Holds m acts → (p : ℕ) → p < sizes.processes → (next : Next object sizes m p (m.local p))
         → (carried : List (ℕ × Mail I (Block S R))) (f : ℕ → ℕ) (makes : Board I S R → ℕ → Local I S R → Local I S R → List (Act I R) → Type 0) (says : ℕ → Mine O I S R → Type 0)
-        → let e = effect_of object sizes m p next in Moves meaning o sizes p (view_at m.local p, carried) e.word f makes says
+        → let e = effect_of object sizes m p (m.local p) next in Moves meaning o sizes p (view_at m.local p, carried) e.word f makes says
         → f (slice_index m.words e.word) ≡ e.becomes
         → ((v : View O I S R) (a : Handling (Mail I (Block S R))) → IsSingle a → Valid m.homes carried a → says (slice_index m.words e.word) (v, carried_after carried a)
         → (v.known.local ≡ e.leaves) × (homes_after m.homes carried a ≡ e.homes))
         → ((g : Board I S R) → AreWords sizes g m.words → IsSound object sizes g m.local → (made : List (Act I R)) → makes g (slice_index m.words e.word) (m.local p) e.leaves made → made ≡ e.acts)
         → Holds (after object sizes m p next) (acts ++ e.acts)
     moved m acts h p inside next carried f makes says moves same left made =
-        let e = effect_of object sizes m p next in
+        let e = effect_of object sizes m p (m.local p) next in
         let found : ℕ = slice_index m.words e.word in
         let to = moves (state_at m) h.board m.local (λ q. q) (shown m acts h) (seat_at m p inside) in
         let is = to.6 in
@@ -198,7 +146,7 @@ module _ {O I S R : Type 0} (meaning : O → Sequential S I R) (o : O) (sizes : 
     same_mail homes k y z one two = some-injective y z (some-injective (some y) (some z) (sym one ∙ two))
 
     -- what a load of S finds is what the process reads
-    pub read_as : (m : Moment I S R) (p : ℕ) (inv : I) (tries : ℕ) (base : Image S R) (homes : List (Maybe (Mail I (Block S R)))) → Reads object sizes m p base homes
+    pub read_as : (m : Moment I S R) (p : ℕ) (inv : I) (tries : ℕ) (base : Image S R) (homes : List (Maybe (Mail I (Block S R)))) → Reads object sizes m p (m.local p) base homes
         → (v : View O I S R) (a : Handling (Mail I (Block S R))) → IsSingle a → Valid m.homes [] a
         → (said : HasStartedAs sizes inv tries (view_at m.local p, []) (slice_index m.words 0) (v, carried_after [] a))
         → (said.0 ≡ base) × (v.known.local ≡ said.1) × (homes_after m.homes [] a ≡ homes)
@@ -216,49 +164,8 @@ module _ {O I S R : Type 0} (meaning : O → Sequential S I R) (o : O) (sizes : 
           (same, b.0, b.1 ∙ ap (λ c. slice_set m.homes (slot c) none) c_is ∙ sym y.5)
     ]
 
-    -- a call that an exchange brings in is the pending one of its process
-    pending_is : (g : Board I S R) (q : ℕ) (l : Local I S R) (stage : Stage I S R) (c : Invoked I) → IsStageAt object sizes g q l stage → c.process ≡ q → c.nth ≡ in_of g q → g.announced q ≡ c.nth + 1
-        → g.content (call_frame sizes q c.nth) ≡ Asked c.inv → call_of q (length l.own) (pending_of stage) ≡ c ∷ []
-    pending_is g q l stage c = by_stage stage where
-      opened_is : (inv : I) → IsOpen sizes g q (length l.own) inv → c.process ≡ q → c.nth ≡ in_of g q → g.announced q ≡ c.nth + 1 → g.content (call_frame sizes q c.nth) ≡ Asked c.inv
-          → call_of q (length l.own) (Some inv) ≡ c ∷ []
-      opened_is inv h at nth due asks_it =
-          let same : length l.own ≡ c.nth = (let a = h.1 in omega arith) in
-          let e : Asked inv ≡ Asked c.inv = sym h.3 ∙ ap (λ k. g.content (call_frame sizes q k)) same ∙ asks_it in
-          let i : inv ≡ c.inv = cc in
-          λ k. record { process = sym at k; nth = same k; inv = i k } ∷ []
-
-      by_stage : (stage : Stage I S R) → IsStageAt object sizes g q l stage → c.process ≡ q → c.nth ≡ in_of g q → g.announced q ≡ c.nth + 1 → g.content (call_frame sizes q c.nth) ≡ Asked c.inv
-          → call_of q (length l.own) (pending_of stage) ≡ c ∷ []
-      by_stage Idle h at nth due asks_it = absurd (let a = h.0.0 in let b = h.0.1 in omega arith)
-      by_stage (Posting inv count out) h at nth due asks_it = absurd (let a = h.0.0 in let b = h.0.1 in omega arith)
-      by_stage (Ready inv tries) h at nth due asks_it = opened_is inv h.0 at nth due asks_it
-      by_stage (Reading inv tries r image) h at nth due asks_it = opened_is inv h.0 at nth due asks_it
-      by_stage (Writing inv tries image count out) h at nth due asks_it = opened_is inv h.0 at nth due asks_it
-
-    effects_are : (m : Moment I S R) (p : ℕ) → p < sizes.processes → slice_index m.words 0 ≡ (m.local p).word → (image : Image S R)
-        → (g : Board I S R) → AreWords sizes g m.words → IsSound object sizes g m.local → (batch : HasBatch object sizes g sizes.processes image)
-        → calls_between m.local (m.local p).base image 0 sizes.processes ≡ batch.calls
-    effects_are m p inside same image g words sound batch =
-        let base_is : (m.local p).base ≡ g.image = (sound.each p inside).reader.same (sym same ∙ words.current) in
-        calls_are m.local (m.local p).base image sizes.processes 0 batch.calls batch.rising
-        (λ c has.
-        let c_in : c.process < sizes.processes = (batch.below c has).1 in
-        let a = batch.asked c has in
-        let more : applied_in image c.process ≡ in_of g c.process + 1 = ap (λ (z : Image S R). applied_in z c.process) batch.image_is
-        ∙ applied_from object g.image 0 batch.calls c batch.rising has (λ d has'. let z = (batch.below d has').1 in let v = sound.board.image.long in omega arith) in
-        let was : applied_in (m.local p).base c.process ≡ in_of g c.process = ap (λ (z : Image S R). applied_in z c.process) base_is in (
-          (omega arith),
-          pending_is g c.process (m.local c.process) (m.local c.process).stage c (sound.each c.process c_in).stage refl a.0 a.1 a.2,
-          (λ e. omega (arith, more, was, e)),
-        ))
-        (λ z from below. elim (row_from object g.image batch.calls z) [
-          | inl there ↦ inl there
-          | inr row ↦ inr (ap (λ (i : Image S R). applied_in i z) batch.image_is ∙ ap (λ r. r.applied) row ∙ sym (ap (λ (i : Image S R). applied_in i z) base_is))
-        ])
-
-    pub step_holds : (m : Moment I S R) (acts : List (Act I R)) → Holds m acts → (p : ℕ) → p < sizes.processes → (next : Next object sizes m p)
-        → Holds (after object sizes m p next) (acts ++ (effect_of object sizes m p next).acts)
+    pub step_holds : (m : Moment I S R) (acts : List (Act I R)) → Holds m acts → (p : ℕ) → p < sizes.processes → (next : Next object sizes m p (m.local p))
+        → Holds (after object sizes m p next) (acts ++ (effect_of object sizes m p (m.local p) next).acts)
     step_holds m acts h p inside (OpenCall inv own r mail holds_it opens_it r_in room lies) =
         let n = length (m.local p).own in
         let st = step 0 (1 + p) n n (some own) in
@@ -405,12 +312,12 @@ module _ {O I S R : Type 0} (meaning : O → Sequential S I R) (o : O) (sizes : 
         (b.0 ∙ ap (λ y. returns (has_block l new image) inv y) its, b.1))
         (λ g words sound made e.
         let t = e.0 same in
-        t.1 ∙ (λ k. map (λ c. Linearize c) (sym (effects_are m p inside same image g words sound t.0) k) ++ one_returned p l (returns (has_block l new image) inv reply) _ refl k))
+        t.1 ∙ (λ k. map (λ c. Linearize c) (sym (effects_are object sizes m.local l.base image g ((sound.each p inside).reader.same (sym same ∙ words.current)) sound t.0) k) ++ one_returned p l (returns (has_block l new image) inv reply) _ refl k))
 
     -- and so does an execution
     pub history_holds : {m : Moment I S R} (acts : List (Act I R)) → Holds m acts → (e : Execution object sizes m) → Holds (last_moment object sizes e) (acts ++ history object sizes e)
     history_holds {m = m} acts h Ends = subst (λ a. Holds m a) (sym (append-nil acts)) h
     history_holds acts h (Steps {m = m} p inside next rest) =
-        let made = (effect_of object sizes m p next).acts in
+        let made = (effect_of object sizes m p (m.local p) next).acts in
         subst (λ a. Holds (last_moment object sizes rest) a) (append_assoc acts made (history object sizes rest))
         (history_holds (acts ++ made) (step_holds m acts h p inside next) rest)

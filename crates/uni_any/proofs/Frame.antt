@@ -1,7 +1,10 @@
 -- A word step of a seat of one process keeps the rule: what has to be shown of the board.
-use Rattle.uni_any.proofs.Vocabulary.{Act, Sequential, Setup, Allows, AreFew, AreOrdered, AreSlots, AreWords, Block, Board, IsAt, IsBoard, IsHistory, IsShown, IsSound, List, Local, Mail, Mine, ShowsBoard, Sizes, State, Tells, Valid, View, ap, arith, at_set, carried_after, get_elem?, homes_after, inl, inr, set, set_at, set_at-cases, set_at_elsewhere, set_at_same, slice_index, slice_set, some, subst, sym, with_local, ℕ, ⊎_elim, ◌++◌, ◌<◌, ◌∙◌, ◌≡◌, ◌≢◌}
+use Rattle.uni_any.proofs.Vocabulary.{Act, Sequential, Setup, Allows, AreFew, AreOrdered, AreSlots, AreWords, Block, Board, IsAt, IsBoard, IsHistory, IsShown, IsSound, List, Local, refl, Mail, Mine, ShowsBoard, Sizes, State, Tells, Valid, View, ap, arith, at_set, carried_after, get_elem?, homes_after, inl, inr, set, set_at, set_at-cases, set_at_elsewhere, set_at_same, slice_index, slice_set, some, subst, sym, with_local, ℕ, ⊎_elim, ◌++◌, ◌<◌, ◌∙◌, ◌≡◌, ◌≢◌}
 use Rattle.atomic_table.specs.Table.{Act as Handling}
+use Rattle.uni_any.specs.Execution.{Effect, changed, moment_of}
 use Rattle.uni_any.specs.Laws.{IsSingle, Moves}
+use Rattle.uni_any.specs.Ran.{CanTake, HasRun}
+use Rattle.uni_any.proofs.Running.{runs_on}
 use mathlib.Core.Option.{Option}
 
 -- one process gets another local, and the others stay where they are
@@ -31,7 +34,7 @@ pub record Found {O I S R : Type 0} (meaning : O → Sequential S I R) (o : O) (
   pub mine : IsAt (meaning o) sizes g me.0.known.first me.0.known.local
 
 -- what has to be given: the board afterwards, and what the process knows then
-pub record Given {O I S R : Type 0} (object : Sequential S I R) (sizes : Sizes) (me : Mine O I S R) (g : Board I S R) (local : ℕ → Local I S R) (words' : List ℕ) (homes : List (Option (Mail I (Block S R))))
+pub record Given {O I S R : Type 0} (object : Sequential S I R) (sizes : Sizes) (me : Mine O I S R) (g : Board I S R) (local : ℕ → Local I S R) (words : List ℕ) (i x : ℕ) (homes : List (Option (Mail I (Block S R))))
     (makes : (before after : Local I S R) → List (Act I R) → Type 0) (says : Mine O I S R → Type 0) : Type 0 where
   pub board : Board I S R
   pub local' : Local I S R
@@ -42,9 +45,11 @@ pub record Given {O I S R : Type 0} (object : Sequential S I R) (sizes : Sizes) 
   pub single : IsSingle act
   pub valid : Valid homes me.1 act
   pub sound : IsSound object sizes board (set_at local me.0.known.first local')
-  pub words_are : AreWords sizes board words'
+  pub words_are : AreWords sizes board (slice_set words i x)
   pub slots_are : AreSlots sizes board (homes_after homes me.1 act)
   pub said : says (with_local me.0 local', carried_after me.1 act)
+  pub can : CanTake object sizes (moment_of words homes local) me.0.known.first me.0.known.local
+      (record { word = i; becomes = x; homes = homes_after homes me.1 act; leaves = local'; acts = acts })
 
 module _ {O I S R : Type 0} (meaning : O → Sequential S I R) (o : O) (sizes : Sizes) (id : ℕ) (me : Mine O I S R) (i : ℕ) (f : ℕ → ℕ)
     (makes : Board I S R → (found : ℕ) → (before after : Local I S R) → List (Act I R) → Type 0) (says : ℕ → Mine O I S R → Type 0) (single : me.0.known.count ≡ 1) where
@@ -71,7 +76,7 @@ module _ {O I S R : Type 0} (meaning : O → Sequential S I R) (o : O) (sizes : 
       mine = subst (λ l. IsAt (meaning o) sizes g p l) own.2 (is.sound.each p own.0);
     }
 
-    module _ (given : Given (meaning o) sizes me g local (slice_set s.words i (f (slice_index s.words i))) s.homes (makes g (slice_index s.words i)) (says (slice_index s.words i))) where
+    module _ (given : Given (meaning o) sizes me g local s.words i (f (slice_index s.words i)) s.homes (makes g (slice_index s.words i)) (says (slice_index s.words i))) where
       seats_later : (j : ℕ) (u : View O I S R) → get_elem? (set s.views id (with_local me.0 given.local')) j ≡ some u → Tells sizes o (set_at local p given.local') seat_of j u
       seats_later j u e = ⊎_elim
           (λ (h : (j ≡ id) × (with_local me.0 given.local' ≡ u)).
@@ -101,7 +106,7 @@ module _ {O I S R : Type 0} (meaning : O → Sequential S I R) (o : O) (sizes : 
           (at_set s.views id j (with_local me.0 given.local') u e)
 
   pub step_law : ((g : Board I S R) (local : ℕ → Local I S R) (words : List ℕ) (homes : List (Option (Mail I (Block S R)))) → Found meaning o sizes me g local words homes
-      → Given (meaning o) sizes me g local (slice_set words i (f (slice_index words i))) homes (makes g (slice_index words i)) (says (slice_index words i)))
+      → Given (meaning o) sizes me g local words i (f (slice_index words i)) homes (makes g (slice_index words i)) (says (slice_index words i)))
       → Moves meaning o sizes id me i f makes says
   step_law give s g local seat_of is at =
       let given = give g local s.words s.homes (found s g local seat_of is at) in (
@@ -115,13 +120,28 @@ module _ {O I S R : Type 0} (meaning : O → Sequential S I R) (o : O) (sizes : 
         given.said,
         given.appended,
         given.made,
+        given.can,
       )
+
+  -- the execution that led to the table goes on by the step
+  ran : (s : State (Mail I (Block S R)) (View O I S R)) (g : Board I S R) (local : ℕ → Local I S R) (seat_of : ℕ → ℕ) → IsShown sizes meaning o g local seat_of s → get_elem? s.views id ≡ some me.0
+      → HasRun (meaning o) sizes (moment_of s.words s.homes local) g.acts → (g' : Board I S R) (effect : Effect I S R) (acts : List (Act I R)) → g'.acts ≡ g.acts ++ acts
+      → CanTake (meaning o) sizes (moment_of s.words s.homes local) p me.0.known.local effect → effect.acts ≡ acts
+      → HasRun (meaning o) sizes (changed (meaning o) sizes (moment_of s.words s.homes local) p effect) g'.acts
+  ran s g local seat_of is at run g' effect acts appended takes made =
+      let its = own s g local seat_of is at in
+      let there : CanTake (meaning o) sizes (moment_of s.words s.homes local) p (local p) effect = subst (λ l. CanTake (meaning o) sizes (moment_of s.words s.homes local) p l effect) (sym its.2) takes in
+      let last = runs_on (meaning o) sizes p its.0 run.0 (moment_of s.words s.homes local) run.1 effect there in
+      (last.0, last.1, last.2 ∙ (λ k. run.2 k ++ made k) ∙ sym appended)
 
   -- so the step is allowed
   pub allowed : (slots : ℕ) → Moves meaning o sizes id me i f makes says → Allows (ShowsBoard meaning o sizes) slots id me i f says
   allowed slots moves s holds many at fits =
-      let to = moves s holds.0 holds.1.0 holds.1.1.0 holds.1.1.1 at in
-      (to.0, to.1, to.5, (to.2, (set_at holds.1.0 me.0.known.first to.0.known.local, (holds.1.1.0, to.6))), to.7)
+      let g = holds.0 in
+      let local = holds.1.0 in
+      let seat_of = holds.1.1.0 in
+      let to = moves s g local seat_of holds.1.1.1 at in
+      (to.0, to.1, to.5, (to.2, (set_at local p to.0.known.local, (seat_of, to.6, ran s g local seat_of holds.1.1.1 at holds.1.1.2 to.2 _ to.3 to.8 to.10 refl))), to.7)
 
 -- what the table was told is what the object has
 pub by_key : {O I S R A B C : Type 0} (meaning : O → Sequential S I R) (told setup : Setup O A B C) → told ≡ setup → (slots id : ℕ) (me : Mine O I S R) (i : ℕ) (f : ℕ → ℕ) (says : ℕ → Mine O I S R → Type 0)

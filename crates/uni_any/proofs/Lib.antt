@@ -1,6 +1,7 @@
 pub mod Vocabulary
 pub mod Acts
 pub mod Ordering
+pub mod Running
 pub mod Frame
 pub mod Slots
 pub mod Stays
@@ -12,6 +13,7 @@ pub mod Sums
 pub mod Takings
 pub mod Starting
 pub mod Batches
+pub mod Effects
 pub mod Looking
 pub mod Asking
 pub mod Bringing

@@ -1,13 +1,12 @@
 -- Every execution from the opening is linearizable, in one order that only grows.
-use Rattle.uni_any.specs.declared.mail.Mail.TheVariants.{Empty}
-use Rattle.uni_any.proofs.Vocabulary.{AcceptsAll, Act, AreFew, Atomic, Block, Invoke, Linearize, List, Mail, Respond, Sequential, Sizes, [], ap, append-nil, append_assoc, at_start, frames_of, length, length-replicate, opened, refl, replicate, subst, sym, ◌*◌, ◌++◌, ◌∙◌, ◌∷◌, ◌≡◌}
+use Rattle.uni_any.proofs.Vocabulary.{AcceptsAll, Act, AreFew, Atomic, Invoke, Linearize, List, Respond, Sequential, Sizes, [], ap, append-nil, append_assoc, at_start, opened, refl, subst, sym, ◌++◌, ◌∙◌, ◌∷◌, ◌≡◌}
 use Rattle.uni_model.proofs.Placed.{AgreesInOrder-holds}
 use Rattle.uni_model.specs.Linearizable.{observed}
-use Rattle.uni_any.specs.Execution.{Execution, Moment, effect_of, goes_on, history, last_moment, opened_moment, points}
-use Rattle.uni_any.specs.Execution.Execution.{Ends, Step}
+use Rattle.uni_any.specs.Execution.{Execution, Moment, history, last_moment, opened_moment, points}
 use Rattle.uni_any.specs.Linearized.{IsLinearizedInTime, KeepsOrder}
 use Rattle.uni_any.proofs.Executing.{Holds, history_holds}
 use Rattle.uni_any.proofs.Opening as Opening
+use Rattle.uni_any.proofs.Running.{history-goes_on}
 
 points-append : {I R : Type 0} (xs ys : List (Act I R)) → points (xs ++ ys) ≡ points xs ++ points ys
 points-append [] ys = refl
@@ -27,15 +26,8 @@ agreed_points {S} {I} {R} object a (Respond p k r ∷ acts) b h =
     agreed_points object h.0 acts b h.2 ∙ ap (λ (x : Atomic S I). x.agreed ++ points acts) h.1.1
 
 module _ {S I R : Type 0} (object : Sequential S I R) (sizes : Sizes) where
-  history-goes_on : {m : Moment I S R} (e : Execution object sizes m) (more : Execution object sizes (last_moment object sizes e))
-      → history object sizes (goes_on object sizes e more) ≡ history object sizes e ++ history object sizes more
-  history-goes_on Ends more = refl
-  history-goes_on (Step {m = m} p inside next rest) more =
-      let made = (effect_of object sizes m p next).acts in
-      ap (λ l. made ++ l) (history-goes_on rest more) ∙ sym (append_assoc made (history object sizes rest) (history object sizes more))
-
   pub keeps_order : {m : Moment I S R} (e : Execution object sizes m) (more : Execution object sizes (last_moment object sizes e)) → KeepsOrder object sizes e more
-  keeps_order e more = ap points (history-goes_on e more) ∙ points-append (history object sizes e) (history object sizes more)
+  keeps_order e more = ap points (history-goes_on object sizes e more) ∙ points-append (history object sizes e) (history object sizes more)
 
   -- an execution whose acts the atomic object takes
   linearized_by : (e : Execution object sizes (opened_moment object sizes)) (atomic : Atomic S I) → AcceptsAll object (at_start object.initial) (history object sizes e) atomic
@@ -50,17 +42,13 @@ module _ {O I S R : Type 0} (meaning : O → Sequential S I R) (o : O) (sizes : 
   abbrev object : Sequential S I R
   object = meaning o
 
-  abbrev slots : List (Mail I (Block S R))
-  slots = replicate (frames_of sizes * sizes.processes) Empty
-
   pub opening_holds : Holds meaning o sizes (opened_moment object sizes) []
   opening_holds =
-      let many : length slots ≡ frames_of sizes * sizes.processes = length-replicate (frames_of sizes * sizes.processes) Empty in
       record {
         board = opened object sizes;
-        words_are = Opening.words' meaning o sizes few slots many;
-        slots_are = Opening.slots' meaning o sizes few slots many;
-        sound = Opening.sound' meaning o sizes few slots many;
+        words_are = Opening.words' meaning o sizes few;
+        slots_are = Opening.slots' meaning o sizes few;
+        sound = Opening.sound' meaning o sizes few;
         appended = refl;
       }
 

@@ -1,8 +1,11 @@
 -- The load of an announcement.
-use Rattle.uni_any.proofs.Vocabulary.{append-nil, AreSlots, Asked, Block, Board, Contains-append_cases, HasLooked, Image, Invoked, IsBoard, IsOf, IsReader, IsStageAt, IsTrying, List, Local, Mail, Mine, Reading, Row, Sequential, Sizes, Some, Stage, Step, Valid, [], ap, applied_in, arith, block_frame, call_frame, carried_after, get_or-set_other, get_or-set_same, goes, homes_after, in_of, inl, inr, keeps, length, length-set, local_of, lt_cases, made_of, nothing_taken, number_cases, pending_of, refl, row_in, set_at, set_at_elsewhere, set_at_same, slice_index, slice_set, slot_of, stage_of, subst, sym, taken_in, taken_of, takes, took, with_local, ℕ, ◌*◌, ◌++◌, ◌+◌, ◌-◌, ◌<◌, ◌∙◌, ◌∷◌, ◌≡◌, ◌≢◌, ◌≤◌}
+use Rattle.uni_any.proofs.Vocabulary.{append-nil, AreSlots, Asked, Block, Board, Contains-append_cases, HasLooked, Image, Invoked, IsBoard, IsOf, IsReader, IsStageAt, IsTrying, List, Local, Mail, Mine, Reading, Row, Sequential, Sizes, Some, Stage, Step, Valid, [], ap, applied_in, arith, block_frame, call_frame, carried_after, get_or-set_other, get_or-set_same, goes, homes_after, in_of, inl, inr, keeps, length, length-set, local_of, lt_cases, made_of, nothing_taken, number_cases, pending_of, refl, row_in, set_at, set_at_elsewhere, set_at_same, slice_index, slot_of, stage_of, subst, sym, taken_in, taken_of, takes, took, with_local, ℕ, ◌*◌, ◌++◌, ◌+◌, ◌-◌, ◌<◌, ◌∙◌, ◌∷◌, ◌≡◌, ◌≢◌, ◌≤◌}
 use Rattle.uni_any.specs.declared.view.Taken.{Taken}
 use Rattle.uni_any.specs.declared.view.Stage.TheVariants.{Idle, Posting, Ready, Writing}
 use Rattle.uni_any.proofs.Batches.{contains_cons, image_from-append, not_empty, rising_snoc, row_else, row_here}
+use Rattle.uni_any.specs.Execution.{moment_of}
+use Rattle.uni_any.specs.Execution.Next.{Pass, Apply, Take}
+use Rattle.uni_any.specs.Ran.{CanTake}
 use Rattle.uni_any.specs.Laws.{IsSingle, MakesNoAct, Moves}
 use Rattle.uni_any.proofs.Frame.{Found, Given, sound_with, step_law}
 use Rattle.uni_any.proofs.Ordering.{order_kept}
@@ -149,8 +152,9 @@ module _ {O I S R : Type 0} (meaning : O → Sequential S I R) (o : O) (sizes : 
         (calls : (q k r : ℕ) → q < sizes.processes → k < sizes.calls → g.announced q ≤ k → slot' (call_frame sizes q k) r ≡ g.slot (call_frame sizes q k) r)
         (act : Rattle.atomic_table.specs.Table.Act (Mail I (Block S R))) (single : IsSingle act) (valid : Valid homes me.1 act) (are : AreSlots sizes (record g { slot = slot' }) (homes_after homes me.1 act))
         (t2 : List (Taken I)) (reader2 : IsReader sizes (record g { slot = slot' }) q0 (record l { taken = t2 })) (image' : Image S R) (trying' : IsTrying object sizes g q0 l tries (r + 1) image')
-        (said : HasLooked meaning st me a (with_local me.0 (goes (record l { taken = t2 }) (Reading inv tries (r + 1) image')), carried_after me.1 act)) where
-      given_next : Given object sizes me g local (slice_set words (1 + r) (slice_index words (1 + r))) homes MakesNoAct (HasLooked meaning st me a)
+        (said : HasLooked meaning st me a (with_local me.0 (goes (record l { taken = t2 }) (Reading inv tries (r + 1) image')), carried_after me.1 act))
+        (can : CanTake object sizes (moment_of words homes local) q0 l (record { word = 1 + r; becomes = slice_index words (1 + r); homes = homes_after homes me.1 act; leaves = goes (record l { taken = t2 }) (Reading inv tries (r + 1) image'); acts = [] })) where
+      given_next : Given object sizes me g local words (1 + r) (slice_index words (1 + r)) homes MakesNoAct (HasLooked meaning st me a)
       given_next =
           let l' = goes (record l { taken = t2 }) (Reading inv tries (r + 1) image') in
           let g1 : Board I S R = taken_board object sizes g local q0 slot' g.atomic g.acts else blocks calls in
@@ -189,16 +193,18 @@ module _ {O I S R : Type 0} (meaning : O → Sequential S I R) (o : O) (sizes : 
             words_are = words_same sizes g g1 words (1 + r) refl refl refl f.words_are;
             slots_are = record { many = are.many; home = are.home };
             said = said;
+            can = can;
           }
 
     -- nothing is taken
     quiet : (image' : Image S R) → IsTrying object sizes g q0 l tries (r + 1) image' → HasLooked meaning st me a (with_local me.0 (goes l (Reading inv tries (r + 1) image')), me.1)
-        → Given object sizes me g local (slice_set words (1 + r) (slice_index words (1 + r))) homes MakesNoAct (HasLooked meaning st me a)
-    quiet image' trying' said = given_next g.slot (λ e c n. refl) (λ q k c x y z. refl) (λ q k c x y z. refl) keeps tt tt
+        → CanTake object sizes (moment_of words homes local) q0 l (record { word = 1 + r; becomes = slice_index words (1 + r); homes = homes; leaves = goes l (Reading inv tries (r + 1) image'); acts = [] })
+        → Given object sizes me g local words (1 + r) (slice_index words (1 + r)) homes MakesNoAct (HasLooked meaning st me a)
+    quiet image' trying' said can = given_next g.slot (λ e c n. refl) (λ q k c x y z. refl) (λ q k c x y z. refl) keeps tt tt
         (slots_kept sizes g (record g { slot = g.slot }) homes f.slots_are (λ e c. ((λ n. n), (λ full. (full, refl))))) l.taken
-        (let w = f.mine.reader in record { old = w.old; base = w.base; same = w.same; new = w.new; long = w.long; call = w.call; taken_most = w.taken_most }) image' trying' said
+        (let w = f.mine.reader in record { old = w.old; base = w.base; same = w.same; new = w.new; long = w.long; call = w.call; taken_most = w.taken_most }) image' trying' said can
 
-    looks_now : Given object sizes me g local (slice_set words (1 + r) (slice_index words (1 + r))) homes MakesNoAct (HasLooked meaning st me a)
+    looks_now : Given object sizes me g local words (1 + r) (slice_index words (1 + r)) homes MakesNoAct (HasLooked meaning st me a)
     looks_now = elim (lt_cases (applied_in image r) a) [
       | inr enough ↦ quiet image (trying_none enough.0) (λ inv' tries' r' image' stage' r_in'.
           let e : Reading inv tries r image ≡ Reading inv' tries' r' image' = sym stage ∙ stage' in
@@ -207,7 +213,7 @@ module _ {O I S R : Type 0} (meaning : O → Sequential S I R) (o : O) (sizes : 
             (λ own. let x = own_more (e2 ∙ own) in omega arith),
             (λ less. (λ k. (with_local me.0 (goes l (Reading (e0 k) (e1 k) (e2 k + 1) (e3 k))), me.1))),
             (λ more. absurd (let x = enough.0 in omega arith)),
-          ))
+          )) (Pass inv tries r image stage r_in enough.0, refl)
       | inl more ↦
           let k : ℕ = a - 1 in
           let k_is : g.announced r ≡ k + 1 = (let x = more.0 in let y = is in omega arith) in
@@ -232,7 +238,7 @@ module _ {O I S R : Type 0} (meaning : O → Sequential S I R) (o : O) (sizes : 
                       (λ n. absurd (n number)),
                     ),
                   )),
-                ))
+                )) (Apply inv tries r image c.0 stage r_in more.0 (same.0 ∙ sym found) (c.2 same.0), refl)
             | inr other ↦
                 let fc = call_frame sizes r k in
                 let slot' : ℕ → ℕ → ℕ = set_at g.slot fc (set_at (g.slot fc) q0 1) in
@@ -315,6 +321,7 @@ module _ {O I S R : Type 0} (meaning : O → Sequential S I R) (o : O) (sizes : 
                     ),
                   )),
                 ))
+                (Take inv tries r image c.0 t.0 stage r_in more.0 (λ e. other.0 (e ∙ found)) (t.2 full ∙ c.1) t.1, refl)
           ]
     ]
 

@@ -57,3 +57,7 @@ module _ {O I S R : Type 0} (meaning : O → Sequential S I R) (o : O) (sizes : 
       let named : word_of g.version g.current / 4294967296 ≡ g.version = (let b = few.2 in omega arith) in
       let here : version_in (slice_index s.words 0) ≡ g.version = ap (λ w. w / 4294967296) word ∙ named in
       omega (arith, known, here)
+
+  pub acts_at : (known : List (ProcessCalls I R)) (by : (its : ProcessCalls I R) → Contains known its → IsToldBy s.views its) → (linearized_at known by).acts ≡ g.acts
+  unfolding linearized_at
+  acts_at known by = refl

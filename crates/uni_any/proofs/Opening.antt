@@ -1,5 +1,7 @@
 -- The table that is made shows the board that is opened.
 use Rattle.uni_any.proofs.Vocabulary.{AreFew, AreOrdered, AreSlots, AreWords, Block, IsAt, IsBoard, IsHistory, IsSound, List, Mail, Row, Sequential, ShowsBoard, Sizes, Some, Tells, View, [], ap, arith, at_rest, blank, first_view, frames_of, get_elem?, in_of, inl, length, length-replicate, map, nothing_taken, opened, refl, replicate, slice_get, slice_index_or, slot_of, some, some-injective, some-ne-none, subst, suc, sym, taken_of, word_of, zero, ℕ, ◌*◌, ◌+◌, ◌∙◌, ◌∷◌, ◌≡◌, ◌≤◌}
+use Rattle.uni_any.specs.Execution.Execution.{Ends}
+use Rattle.uni_any.specs.declared.mail.Mail.TheVariants.{Empty}
 use Rattle.atomic_table.specs.Table.{opening}
 use Rattle.atomic_table.proofs.Lists.{some_there}
 use Rattle.uni_any.proofs.Slots.{place_inside}
@@ -13,9 +15,15 @@ length_somes : {A : Type 0} (xs : List A) → length (map some xs) ≡ length xs
 length_somes [] = refl
 length_somes (x ∷ xs) = ap suc (length_somes xs)
 
-module _ {O I S R : Type 0} (meaning : O → Sequential S I R) (o : O) (sizes : Sizes) (few : AreFew sizes) (slots : List (Mail I (Block S R))) (many : length slots ≡ frames_of sizes * sizes.processes) where
+module _ {O I S R : Type 0} (meaning : O → Sequential S I R) (o : O) (sizes : Sizes) (few : AreFew sizes) where
   abbrev object : Sequential S I R
   object = meaning o
+
+  abbrev slots : List (Mail I (Block S R))
+  slots = replicate (frames_of sizes * sizes.processes) Empty
+
+  many : length slots ≡ frames_of sizes * sizes.processes
+  many = length-replicate (frames_of sizes * sizes.processes) Empty
 
   none_in : (q : ℕ) → in_of (opened object sizes) q ≡ 0
   none_in q = ap (λ (z : Row R). z.applied) (copies sizes.processes q blank)
@@ -81,7 +89,7 @@ module _ {O I S R : Type 0} (meaning : O → Sequential S I R) (o : O) (sizes : 
   slots' = record {
     many = length_somes slots ∙ many;
     home = λ f r f_in r_in there.
-        let y = some_there slots (slot_of sizes f r) (let a = place_inside sizes.processes (frames_of sizes) f r f_in r_in in omega arith) in
+        let y = some_there slots (slot_of sizes f r) (let a = place_inside sizes.processes (frames_of sizes) f r f_in r_in in let b = many in omega arith) in
         (y.0, y.1, (λ full. absurd (let x : 0 ≡ 2 = full in omega arith)));
   }
 
@@ -110,6 +118,7 @@ module _ {O I S R : Type 0} (meaning : O → Sequential S I R) (o : O) (sizes : 
           seats = seats';
           sound = sound';
         },
+        (Ends, refl, refl),
       ),
     ),
   )

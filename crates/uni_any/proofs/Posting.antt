@@ -1,5 +1,8 @@
 -- The steps that lay out an invocation.
-use Rattle.uni_any.proofs.Vocabulary.{[], append-nil, AreHome, AreWords, Asked, Block, Board, HasClosed, HasOpened, HoldsCall, Idle, some-injective, carried_after, IsAt, IsClosed, IsHome, IsLaid, IsOf, IsOpening, IsStageAt, List, Local, Mail, Mine, None, Posting, Sequential, Sizes, Step, ap, arith, block_frame, call_frame, either, eqb, exchanged, false, frames_of, gives, goes, homes_after, inl, inr, local_of, made_of, number_cases, pending_of, refl, rest, set-get_or, set_at, set_at_elsewhere, set_at_same, slice_index, slice_set, slot_of, some, stage_of, subst, sym, takes, told, true, with_local, ℕ, ◌*◌, ◌+◌, ◌<◌, ◌∙◌, ◌∷◌, ◌≡◌, ◌≢◌}
+use Rattle.uni_any.proofs.Vocabulary.{[], append-nil, AreHome, AreWords, Asked, Block, Board, HasClosed, HasOpened, HoldsCall, Idle, some-injective, carried_after, IsAt, IsClosed, IsHome, IsLaid, IsOf, IsOpening, IsStageAt, List, Local, Mail, Mine, None, Posting, Sequential, Sizes, Step, ap, arith, block_frame, call_frame, either, eqb, exchanged, false, frames_of, gives, goes, homes_after, inl, inr, local_of, made_of, number_cases, pending_of, put_back, refl, rest, set-get_or, set_at, set_at_elsewhere, set_at_same, slice_index, slice_set, slot_of, some, stage_of, subst, sym, takes, told, true, with_local, ℕ, ◌*◌, ◌+◌, ◌<◌, ◌∙◌, ◌∷◌, ◌≡◌, ◌≢◌}
+use Rattle.uni_any.specs.Execution.{moment_of}
+use Rattle.uni_any.specs.Execution.Next.{OpenCall, CloseCall}
+use Rattle.uni_any.specs.Ran.{CanTake}
 use Rattle.uni_any.specs.Laws.{IsSingle, MakesNoAct, Moves}
 use Rattle.uni_any.proofs.Frame.{Found, Given, sound_with, step_law}
 use Rattle.uni_any.proofs.Ordering.{order_kept}
@@ -85,11 +88,12 @@ module _ {O I S R : Type 0} (meaning : O → Sequential S I R) (o : O) (sizes : 
         reader = reader_goes sizes g' q0 l (Posting inv count out) (reader_framed object sizes g f0 q0 row (Asked inv) theirs asked current q0 l f.mine.reader);
       }
 
-      pub given_posting : (i : ℕ) (count : ℕ) (out : _) (act : Rattle.atomic_table.specs.Table.Act (Mail I (Block S R))) → IsSingle act → (says : Mine O I S R → Type 0) → pending_of l.stage ≡ None
+      pub given_posting : (count : ℕ) (out : _) (act : Rattle.atomic_table.specs.Table.Act (Mail I (Block S R))) → IsSingle act → (says : Mine O I S R → Type 0) → pending_of l.stage ≡ None
           → IsLaid sizes g' f0 count out (Asked inv) → Rattle.atomic_table.specs.Table.Valid homes me.1 act → Rattle.uni_any.specs.Shown.AreSlots sizes g' (homes_after homes me.1 act)
           → says (with_local me.0 (goes l (Posting inv count out)), Rattle.atomic_table.specs.Table.carried_after me.1 act)
-          → Given object sizes me g local (slice_set words i (slice_index words i)) homes MakesNoAct says
-      given_posting i count out act single says none laid valid are said = record {
+          → CanTake object sizes (moment_of words homes local) q0 l (record { word = 1 + q0; becomes = slice_index words (1 + q0); homes = homes_after homes me.1 act; leaves = goes l (Posting inv count out); acts = [] })
+          → Given object sizes me g local words (1 + q0) (slice_index words (1 + q0)) homes MakesNoAct says
+      given_posting count out act single says none laid valid are said can = record {
         board = g';
         local' = goes l (Posting inv count out);
         acts = [];
@@ -104,9 +108,10 @@ module _ {O I S R : Type 0} (meaning : O → Sequential S I R) (o : O) (sizes : 
             (mine_posting count out laid)
             (history_framed object sizes g f0 q0 row (Asked inv) theirs asked current local l (goes l (Posting inv count out)) f.local_is refl (sym none) f.sound.history)
             (order_kept object sizes.processes g.atomic.agreed g.calls_in_version g.version local f.sound.order q0 l (goes l (Posting inv count out)) f.inside f.local_is refl refl);
-        words_are = words_same sizes g g' words i refl refl refl f.words_are;
+        words_are = words_same sizes g g' words (1 + q0) refl refl refl f.words_are;
         slots_are = are;
         said = said;
+        can = can;
       }
 
   -- a slot of the invocation is taken
@@ -126,9 +131,12 @@ module _ {O I S R : Type 0} (meaning : O → Sequential S I R) (o : O) (sizes : 
           same_turn (inr x) (inl y) = absurd (let e : Posting inv r false ≡ Idle = sym x ∙ y.1 in cc)
           same_turn (inr x) (inr y) = (let e : Posting inv r false ≡ Posting inv' r' false = sym x ∙ y in cc)
 
-    module _ (g : Board I S R) (local : ℕ → Local I S R) (words : List ℕ) (homes : List (Maybe (Mail I (Block S R)))) (f : Found meaning o sizes me g local words homes) (i : ℕ) where
+    module _ (g : Board I S R) (local : ℕ → Local I S R) (words : List ℕ) (homes : List (Maybe (Mail I (Block S R)))) (f : Found meaning o sizes me g local words homes) where
+      abbrev i : ℕ
+      i = 1 + q0
+
       abbrev Wanted : Type 0
-      Wanted = Given object sizes me g local (slice_set words i (slice_index words i)) homes MakesNoAct (HasOpened st me (slice_index words i))
+      Wanted = Given object sizes me g local words i (slice_index words i) homes MakesNoAct (HasOpened st me (slice_index words i))
 
       open_from : (none : pending_of l.stage ≡ None) → IsOpening inv r me → (closed : IsClosed sizes g q0 m) (later : AreHome sizes g q0 (m + 1)) (spare : IsHome sizes g (block_frame sizes (q0 * sizes.calls + m)))
           (row : ℕ → ℕ) → g.slot (call_frame sizes q0 m) r ≢ 1 → row r ≡ 1 → ((c : ℕ) → c ≢ r → (row c ≢ 1 → g.slot (call_frame sizes q0 m) c ≢ 1) × (row c ≡ 2 → (g.slot (call_frame sizes q0 m) c ≡ 2) × (Asked inv ≡ g.content (call_frame sizes q0 m))))
@@ -139,8 +147,9 @@ module _ {O I S R : Type 0} (meaning : O → Sequential S I R) (o : O) (sizes : 
           let cu = current g local words homes f closed m_in later spare in
           let fi = f_in g local words homes f closed m_in later spare in
           let t = taken_framed object sizes g (call_frame sizes q0 m) q0 row (Asked inv) th ask cu fi r r_in homes me.1 f.slots_are here out rows in
-          given_posting g local words homes f closed m_in later spare inv row i r true (takes (slot_of sizes (call_frame sizes q0 m) r) t.0) tt (HasOpened st me (slice_index words i)) none
+          given_posting g local words homes f closed m_in later spare inv row r true (takes (slot_of sizes (call_frame sizes q0 m) r) t.0) tt (HasOpened st me (slice_index words i)) none
           (laid_open object sizes g (call_frame sizes q0 m) q0 row (Asked inv) th ask cu fi r r_in out before after) t.1 t.2 (opened_told f.sizes_are opening t.0 (slice_index words i))
+          (OpenCall inv mail r t.0 asks opening r_in m_in t.1, refl)
 
       from_idle : r ≡ 0 → stage_of me ≡ Idle → Wanted
       from_idle first stage =
@@ -162,22 +171,23 @@ module _ {O I S R : Type 0} (meaning : O → Sequential S I R) (o : O) (sizes : 
           (λ z below. else z (λ y. omega arith) ∙ at.3.written z below) (λ z above e. at.3.others z above (sym (else z (λ y. omega arith)) ∙ e))
 
     pub opens : IsOpening inv r me → Moves meaning o sizes id me (1 + p) (λ n. either (eqb n m) m n) (λ g found. MakesNoAct) (λ found me'. HasOpened st me found me')
-    opens opening = step_law meaning o sizes id me (1 + p) (λ n. either (eqb n m) m n) (λ g found. MakesNoAct) (λ found me'. HasOpened st me found me') of.alone (λ g local words homes f.
-        let x = slice_index words (1 + p) in
-        let given : Given object sizes me g local (slice_set words (1 + p) x) homes MakesNoAct (HasOpened st me x) = elim opening [
-          | inl first ↦ from_idle g local words homes f (1 + p) first.0 first.1
-          | inr next ↦ from_posting g local words homes f (1 + p) next
+    opens opening = subst (λ z. Moves meaning o sizes id me (1 + z) (λ n. either (eqb n m) m n) (λ g found. MakesNoAct) (λ found me'. HasOpened st me found me')) of.first
+        (step_law meaning o sizes id me (1 + q0) (λ n. either (eqb n m) m n) (λ g found. MakesNoAct) (λ found me'. HasOpened st me found me') of.alone (λ g local words homes f.
+        let x = slice_index words (1 + q0) in
+        let given : Given object sizes me g local words (1 + q0) x homes MakesNoAct (HasOpened st me x) = elim opening [
+          | inl first ↦ from_idle g local words homes f first.0 first.1
+          | inr next ↦ from_posting g local words homes f next
         ] in
-        exchanged x m m (λ y. Given object sizes me g local (slice_set words (1 + p) y) homes MakesNoAct (HasOpened st me x))
-        (λ e. subst (λ y. Given object sizes me g local (slice_set words (1 + p) y) homes MakesNoAct (HasOpened st me x)) e given) (λ ne. given))
+        exchanged x m m (λ y. Given object sizes me g local words (1 + q0) y homes MakesNoAct (HasOpened st me x))
+        (λ e. subst (λ y. Given object sizes me g local words (1 + q0) y homes MakesNoAct (HasOpened st me x)) e given) (λ ne. given)))
 
   -- it is given back
   module _ (inv : I) (r : ℕ) (stage : stage_of me ≡ Posting inv r true) (holds : HoldsCall sizes q0 r inv me) (st : Step (Mail I (Block S R))) where
-    module _ (g : Board I S R) (local : ℕ → Local I S R) (words : List ℕ) (homes : List (Maybe (Mail I (Block S R)))) (f : Found meaning o sizes me g local words homes) (i : ℕ) where
+    module _ (g : Board I S R) (local : ℕ → Local I S R) (words : List ℕ) (homes : List (Maybe (Mail I (Block S R)))) (f : Found meaning o sizes me g local words homes) where
       at_posting : IsStageAt object sizes g q0 l (Posting inv r true)
       at_posting = subst (IsStageAt object sizes g q0 l) stage f.mine.stage
 
-      close_now : Given object sizes me g local (slice_set words i (slice_index words i)) homes MakesNoAct (HasClosed st me (slice_index words i))
+      close_now : Given object sizes me g local words (1 + q0) (slice_index words (1 + q0)) homes MakesNoAct (HasClosed st me (slice_index words (1 + q0)))
       close_now =
           let at = at_posting in
           let out = at.3.is_out refl in
@@ -187,7 +197,7 @@ module _ {O I S R : Type 0} (meaning : O → Sequential S I R) (o : O) (sizes : 
           let ask = asked g local words homes f at.0 at.1 at.2 at.4 in
           let cu = current g local words homes f at.0 at.1 at.2 at.4 in
           let fi = f_in g local words homes f at.0 at.1 at.2 at.4 in
-          given_posting g local words homes f at.0 at.1 at.2 at.4 inv row i (r + 1) false gives tt (HasClosed st me (slice_index words i)) (ap pending_of stage)
+          given_posting g local words homes f at.0 at.1 at.2 at.4 inv row (r + 1) false gives tt (HasClosed st me (slice_index words (1 + q0))) (ap pending_of stage)
           (laid_closed object sizes g (call_frame sizes q0 m) q0 row (Asked inv) th ask cu fi r out.0
           (λ z below. elim (number_cases z r) [
             | inl same ↦ ap row same.0 ∙ set_at_same (g.slot (call_frame sizes q0 m)) r 2
@@ -201,6 +211,8 @@ module _ {O I S R : Type 0} (meaning : O → Sequential S I R) (o : O) (sizes : 
           let e : Posting inv r true ≡ Posting inv' r' true = sym stage ∙ stage' in
           let a : inv ≡ inv' = cc in let b : r ≡ r' = cc in
           λ k. (with_local me.0 (goes l (Posting (a k) (b k + 1) false)), rest me.1))
+          (CloseCall inv r holds.0 stage holds.1, (λ k. record { word = 1 + q0; becomes = slice_index words (1 + q0); homes = put_back homes (sym holds.2 k); leaves = goes l (Posting inv (r + 1) false); acts = [] }))
 
     pub closes : Moves meaning o sizes id me (1 + p) (λ n. n) (λ g found. MakesNoAct) (λ found me'. HasClosed st me found me')
-    closes = step_law meaning o sizes id me (1 + p) (λ n. n) (λ g found. MakesNoAct) (λ found me'. HasClosed st me found me') of.alone (λ g local words homes f. close_now g local words homes f (1 + p))
+    closes = subst (λ z. Moves meaning o sizes id me (1 + z) (λ n. n) (λ g found. MakesNoAct) (λ found me'. HasClosed st me found me')) of.first
+        (step_law meaning o sizes id me (1 + q0) (λ n. n) (λ g found. MakesNoAct) (λ found me'. HasClosed st me found me') of.alone (λ g local words homes f. close_now g local words homes f))

@@ -64,7 +64,7 @@ module _ {O I S R : Type 0} (meaning : O → Sequential S I R) (o : O) (sizes : 
     abbrev Waiting : Type 0
     Waiting = (l.stage ≡ Ready inv tries) ⊎ ((tries ≡ 0) × ((t : ℕ) × (r : ℕ) × (image : Image S R) × (l.stage ≡ Reading inv t r image)))
 
-    few_tries : (waits : Waiting) (base : Image S R) (homes : List (Maybe (Mail I (Block S R)))) → Reads object sizes m p base homes → applied_in base p ≢ length l.own + 1 → tries < 2
+    few_tries : (waits : Waiting) (base : Image S R) (homes : List (Maybe (Mail I (Block S R)))) → Reads object sizes m p (m.local p) base homes → applied_in base p ≢ length l.own + 1 → tries < 2
     few_tries waits base homes reads out =
         let me : Mine O I S R = (view_at meaning o sizes m.local p, []) in
         let to = starts meaning o sizes p me p (of meaning o sizes few m p []) inv tries waits (step 0 0 0 0 none)
@@ -76,8 +76,8 @@ module _ {O I S R : Type 0} (meaning : O → Sequential S I R) (o : O) (sizes : 
           | inr above ↦ absurd (out (ap (λ (i : Image S R). applied_in i p) (sym b.0) ∙ said.3 above.0))
         ]
 
-  within_after : (m : Moment I S R) (acts : List (Act I R)) → Holds meaning o sizes m acts → (p : ℕ) → p < sizes.processes → (next : Next object sizes m p) (taken : ℕ)
-      → IsWithin n (m.local p).stage taken → IsWithin n (effect_of object sizes m p next).leaves.stage (counted object sizes m p next taken)
+  within_after : (m : Moment I S R) (acts : List (Act I R)) → Holds meaning o sizes m acts → (p : ℕ) → p < sizes.processes → (next : Next object sizes m p (m.local p)) (taken : ℕ)
+      → IsWithin n (m.local p).stage taken → IsWithin n (effect_of object sizes m p (m.local p) next).leaves.stage (counted object sizes m p next taken)
   within_after m acts h p inside (OpenCall inv own r mail asks (inl first) r_in room lies) taken w =
       let e = ap (λ k. one_more k taken) first.1 in let z = first.0 in
       ((omega arith), (λ out. r_in), omega (arith, e, z))
@@ -125,8 +125,8 @@ module _ {O I S R : Type 0} (meaning : O → Sequential S I R) (o : O) (sizes : 
       → IsWithin n ((last_moment object sizes e).local p).stage (steps_of_call object sizes p taken e)
   within_end p inside acts taken h w Ends = w
   within_end p inside acts taken h w (Steps {m = m} q within next rest) =
-      let l' = (effect_of object sizes m q next).leaves in
-      within_end p inside (acts ++ (effect_of object sizes m q next).acts) (if p == q then counted object sizes m q next taken else taken) (step_holds meaning o sizes few m acts h q within next)
+      let l' = (effect_of object sizes m q (m.local q) next).leaves in
+      within_end p inside (acts ++ (effect_of object sizes m q (m.local q) next).acts) (if p == q then counted object sizes m q next taken else taken) (step_holds meaning o sizes few m acts h q within next)
       (⊎_elim
       (λ same. subst (λ b. IsWithin n (if b then l' else m.local p).stage (if b then counted object sizes m q next taken else taken)) (sym same.1)
       (within_after m acts h q within next taken (subst (λ k. IsWithin n (m.local k).stage taken) same.0 w)))
@@ -163,7 +163,7 @@ module _ {O I S R : Type 0} (meaning : O → Sequential S I R) (o : O) (sizes : 
     own_stage k e = subst (IsStageAt object sizes h.board p its) e (h.sound.each p inside).stage
 
     -- S can be loaded
-    loads : (inv : I) (tries : ℕ) (waits : (its.stage ≡ Ready inv tries) ⊎ ((tries ≡ 0) × ((t : ℕ) × (r : ℕ) × (image : Image S R) × (its.stage ≡ Reading inv t r image)))) → Next object sizes m p
+    loads : (inv : I) (tries : ℕ) (waits : (its.stage ≡ Ready inv tries) ⊎ ((tries ≡ 0) × ((t : ℕ) × (r : ℕ) × (image : Image S R) × (its.stage ≡ Reading inv t r image)))) → Next object sizes m p its
     loads inv tries waits =
         let to = starts meaning o sizes p me p seat inv tries waits (step 0 0 0 0 none) (state_at meaning o sizes m) h.board m.local (λ q. q) there (seat_at meaning o sizes few m p inside) in
         let said = to.7 inv tries waits in
@@ -176,15 +176,15 @@ module _ {O I S R : Type 0} (meaning : O → Sequential S I R) (o : O) (sizes : 
               goes_on inv tries waits said.0 (slice_set m.homes k none) (record { same = λ e. absurd (other.0 e); other = λ e. (x.0, x.1, x.2, x.4, lies, refl) }) said.1 said.4
         ] where
           goes_on : (inv : I) (tries : ℕ) → (its.stage ≡ Ready inv tries) ⊎ ((tries ≡ 0) × ((t : ℕ) × (r : ℕ) × (image : Image S R) × (its.stage ≡ Reading inv t r image)))
-              → (base : Image S R) (homes : List (Maybe (Mail I (Block S R)))) → Reads object sizes m p base homes
-              → (l' : Local I S R) → GoesOn (has_block its (slice_index m.words 0) base) p inv tries base l' → Next object sizes m p
+              → (base : Image S R) (homes : List (Maybe (Mail I (Block S R)))) → Reads object sizes m p (m.local p) base homes
+              → (l' : Local I S R) → GoesOn (has_block its (slice_index m.words 0) base) p inv tries base l' → Next object sizes m p its
           goes_on inv tries waits base homes reads l' on = elim (number_cases (applied_in base p) (length its.own + 1)) [
             | inl is_in ↦ (let r = on.0 is_in.0 in Return inv tries base homes r.0 waits reads is_in.0 r.1)
             | inr out ↦ Start inv tries base homes waits reads out.0
           ]
 
     -- the next announcement can be loaded
-    looks_on : (inv : I) (tries r : ℕ) (image : Image S R) → its.stage ≡ Reading inv tries r image → r < sizes.processes → Next object sizes m p
+    looks_on : (inv : I) (tries r : ℕ) (image : Image S R) → its.stage ≡ Reading inv tries r image → r < sizes.processes → Next object sizes m p its
     looks_on inv tries r image at r_in = elim (lt_cases (applied_in image r) (slice_index m.words (1 + r))) [
       | inr enough ↦ Pass inv tries r image at r_in enough.0
       | inl more ↦
@@ -204,7 +204,7 @@ module _ {O I S R : Type 0} (meaning : O → Sequential S I R) (o : O) (sizes : 
     lies_at : (f r : ℕ) → f < frames_of sizes → r < sizes.processes → h.board.slot f r ≢ 1 → (mail : Mail I (Block S R)) × (get_elem? m.homes (slot_of sizes f r) ≡ some (some mail))
     lies_at f r f_in r_in home = (let y = h.slots_are.home f r f_in r_in home in (y.0, y.1))
 
-    next_of : (k : Stage I S R) → its.stage ≡ k → k ≢ Idle → Next object sizes m p
+    next_of : (k : Stage I S R) → its.stage ≡ k → k ≢ Idle → Next object sizes m p its
     next_of Idle at busy = absurd (busy refl)
     next_of (Posting inv r true) at busy = (let own = owners (Asked inv) in CloseCall inv r own.0 at own.1)
     next_of (Posting inv r false) at busy =
@@ -241,7 +241,7 @@ module _ {O I S R : Type 0} (meaning : O → Sequential S I R) (o : O) (sizes : 
               let all : r ≡ sizes.processes = (let a = above.0 in let b = is.2.most in omega arith) in
               exchanges inv tries image (at ∙ ap (λ z. Writing inv tries image z false) all) is.0.0
         ] where
-          exchanges : (inv : I) (tries : ℕ) (image : Image S R) → its.stage ≡ Writing inv tries image sizes.processes false → length its.own < sizes.calls → Next object sizes m p
+          exchanges : (inv : I) (tries : ℕ) (image : Image S R) → its.stage ≡ Writing inv tries image sizes.processes false → length its.own < sizes.calls → Next object sizes m p its
           exchanges inv tries image whole room = elim (number_cases (slice_index m.words 0) its.word) [
             | inl same ↦
                 let new = word_of (its.word / span + 1) (p * sizes.calls + length its.own + 1) in

@@ -29,6 +29,7 @@ splits {O} {I} {S} {R} meaning o sizes id v some_left s holds at =
             seats = seats_later g local seat_of is told;
             sound = is.sound;
           },
+          holds.1.1.2,
         ),
       ),
     ) where

@@ -1,6 +1,8 @@
 -- The load of S with which an attempt begins, or a call ends.
-use Rattle.uni_any.proofs.Vocabulary.{append-nil, AcceptsAll-append, Act, AreHome, AreOrdered, AreSlots, Atomic, Block, Board, GoesOn, HasStarted, HasStartedAs, Invoke, IsBoard, IsHistory, IsHome, IsOf, IsOpen, IsOrdered, IsPending, IsReader, IsStageAt, IsTold, IsWhole, List, Local, Mail, Mine, None, Option, Reading, Ready, Respond, Returned, Sequential, Sizes, Some, Step, Valid, [], ap, applied_in, arith, at_start, block_frame, call_frame, carried_after, ending, goes, has_block, homes_after, in_of, inl, inr, keeps, length, length-append, local_of, made_of, map, mul-le-mul_right, slice_index_or, nothing_taken, taken_of, append_assoc, response_at, number_cases, pending_of, plain, refl, returns, row_in, sequential_acts, set_at, set_at-cases, set_at_elsewhere, set_at_same, slice_index, slice_set, slot_of, subst, sym, takes, version_in, with_local, word_of, ℕ, ◌*◌, ◌++◌, ◌+◌, ◌<◌, ◌∙◌, ◌∷◌, ◌≡◌, ◌≢◌, ◌≤◌}
+use Rattle.uni_any.proofs.Vocabulary.{append-nil, AcceptsAll-append, Act, AreHome, AreOrdered, AreSlots, Atomic, Block, Board, GoesOn, HasStarted, HasStartedAs, Invoke, IsBoard, IsHistory, IsHome, IsOf, IsOpen, IsOrdered, IsPending, IsReader, IsStageAt, IsTold, IsWhole, List, Local, Mail, Mine, None, Option, Reading, Ready, Respond, Returned, Sequential, Sizes, Some, Step, Valid, [], ap, applied_in, arith, at_start, block_frame, call_frame, carried_after, ending, goes, has_block, homes_after, in_of, inl, inr, keeps, length, length-append, local_of, made_of, map, mul-le-mul_right, slice_index_or, nothing_taken, taken_of, append_assoc, response_at, number_cases, pending_of, plain, refl, returns, row_in, sequential_acts, set_at, set_at-cases, set_at_elsewhere, set_at_same, slice_index, slot_of, subst, sym, takes, version_in, with_local, word_of, ℕ, ◌*◌, ◌++◌, ◌+◌, ◌<◌, ◌∙◌, ◌∷◌, ◌≡◌, ◌≢◌, ◌≤◌}
 use Rattle.uni_any.proofs.Acts.{none_returned, one_returned, responded_other, responded_own, sequential_acts-snoc}
+use Rattle.uni_any.specs.Execution.{Reads, moment_of}
+use Rattle.uni_any.specs.Execution.Next.{Return, Start}
 use Rattle.uni_any.specs.Laws.{IsSingle, Moves, Responds}
 use Rattle.uni_any.proofs.Frame.{Found, Given, sound_with, step_law}
 use Rattle.uni_any.proofs.Ordering.{order_kept, order_with, ordered_returned, version_rises}
@@ -82,9 +84,10 @@ module _ {O I S R : Type 0} (meaning : O → Sequential S I R) (o : O) (sizes : 
         (calls : (q k r : ℕ) → q < sizes.processes → k < sizes.calls → g.announced q ≤ k → slot' (call_frame sizes q k) r ≡ g.slot (call_frame sizes q k) r)
         (ready : (z k : ℕ) → z < sizes.processes → k < sizes.calls → slot' (call_frame sizes z k) q0 ≡ g.slot (call_frame sizes z k) q0)
         (act : Rattle.atomic_table.specs.Table.Act (Mail I (Block S R))) (single : IsSingle act) (valid : Valid homes me.1 act) (are : AreSlots sizes (record g { slot = slot' }) (homes_after homes me.1 act))
-        (said : (l' : Local I S R) → GoesOn l1 q0 inv tries g.image l' → HasStartedAs sizes inv tries me s (with_local me.0 l', carried_after me.1 act)) where
+        (said : (l' : Local I S R) → GoesOn l1 q0 inv tries g.image l' → HasStartedAs sizes inv tries me s (with_local me.0 l', carried_after me.1 act))
+        (reads : Reads object sizes (moment_of words homes local) q0 l g.image (homes_after homes me.1 act)) where
       abbrev Wanted : Type 0
-      Wanted = Given object sizes me g local (slice_set words 0 (slice_index words 0)) homes (Responds q0) (HasStarted st me s)
+      Wanted = Given object sizes me g local words 0 (slice_index words 0) homes (Responds q0) (HasStarted st me s)
 
       said_all : (l' : Local I S R) → GoesOn l1 q0 inv tries g.image l' → HasStarted st me s (with_local me.0 l', carried_after me.1 act)
       said_all l' on inv' tries' pending' =
@@ -174,6 +177,7 @@ module _ {O I S R : Type 0} (meaning : O → Sequential S I R) (o : O) (sizes : 
             words_are = words_same sizes g (g1 g.atomic g.acts) words 0 refl refl refl f.words_are;
             slots_are = are' g.atomic g.acts;
             said = said_all l' ((λ e. absurd (not_in e)), (λ e. (lacks, refl)));
+            can = (Start inv tries g.image (homes_after homes me.1 act) pending reads not_in, refl);
           } where
             history_on : (l' : Local I S R) → Some inv ≡ pending_of l.stage → IsHistory object sizes (g1 g.atomic g.acts) (set_at local q0 (goes l1 (Reading inv tries 0 g.image)))
             history_on l' e =
@@ -224,6 +228,7 @@ module _ {O I S R : Type 0} (meaning : O → Sequential S I R) (o : O) (sizes : 
             words_are = words_same sizes g (g1 atomic' acts') words 0 refl refl refl f.words_are;
             slots_are = are' atomic' acts';
             said = said_all l' ((λ e. (x, reply.1, follows_less x reply.1 in_is, refl)), (λ n. absurd (n in_is)));
+            can = (Return inv tries g.image (homes_after homes me.1 act) x pending reads in_is reply.1, refl);
           } where
             mine_ordered : IsOrdered object g.atomic.agreed g.calls_in_version g.version q0 l.after l.own
             mine_ordered = subst (λ (z : Local I S R). IsOrdered object g.atomic.agreed g.calls_in_version g.version q0 z.after z.own) f.local_is (f.sound.order.each q0 f.inside)
@@ -283,7 +288,7 @@ module _ {O I S R : Type 0} (meaning : O → Sequential S I R) (o : O) (sizes : 
       either_way = elim (number_cases (applied_in g.image q0) (m + 1)) [ inl e ↦ ends e.0 | inr n ↦ goes_on n.0 ]
 
     -- the process has this block already
-    same_word : s ≡ l.word → Given object sizes me g local (slice_set words 0 (slice_index words 0)) homes (Responds q0) (HasStarted st me s)
+    same_word : s ≡ l.word → Given object sizes me g local words 0 (slice_index words 0) homes (Responds q0) (HasStarted st me s)
     same_word same = either_way g.slot (λ f r n. refl) (λ q k r a b c. refl) (λ q k r a b c. refl) (λ z k a b. refl) keeps tt tt
         (slots_kept sizes g (record g { slot = g.slot }) homes f.slots_are (λ e c. ((λ n. n), (λ full. (full, refl)))))
         (λ l' on. (
@@ -295,10 +300,10 @@ module _ {O I S R : Type 0} (meaning : O → Sequential S I R) (o : O) (sizes : 
           (λ e. (sym (f.mine.reader.same (sym same ∙ is)), refl)),
           (λ n. absurd (n same)),
           fits,
-        ))
+        )) (record { same = λ e. (sym (f.mine.reader.same (sym same ∙ is)), refl); other = λ n. absurd (n same) })
 
     -- it takes the block out of its slot
-    new_word : s ≢ l.word → Given object sizes me g local (slice_set words 0 (slice_index words 0)) homes (Responds q0) (HasStarted st me s)
+    new_word : s ≢ l.word → Given object sizes me g local words 0 (slice_index words 0) homes (Responds q0) (HasStarted st me s)
     new_word apart =
         let new = f.mine.reader.new (λ e. apart (is ∙ sym e)) in
         let c = new.0 in
@@ -340,7 +345,17 @@ module _ {O I S R : Type 0} (meaning : O → Sequential S I R) (o : O) (sizes : 
             refl,
           )),
           fits,
-        ))
+        )) (record {
+          same = λ e. absurd (apart e);
+          other = λ n. (
+            c,
+            t.0,
+            (let a = is in let b = new.1 in let d = board.current in let e = most_calls in let h = f.few.2 in omega arith),
+            t.2 new.2 ∙ new.3,
+            t.1,
+            refl,
+          );
+        })
 
   pub starts : Moves meaning o sizes id me 0 (λ n. n) (λ g found. Responds p) (λ found me'. HasStarted st me found me')
   starts = subst (λ k. Moves meaning o sizes id me 0 (λ n. n) (λ g found. Responds k) (λ found me'. HasStarted st me found me')) of.first

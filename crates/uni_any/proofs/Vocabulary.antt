@@ -4,7 +4,7 @@ pub use Rattle.std.proofs.lemmas.Grind.{get_or_default_zero}
 pub use Rattle.std.proofs.lemmas.List.{length-map, length-replicate, set-get_or}
 pub use Rattle.std.specs.List.{fold, sum}
 pub use Rattle.atomic_table.proofs.Lists.{at_set, exchanged, set_else, set_here}
-pub use Rattle.atomic_table.specs.Table.{Allows, Me, State, Step, Valid, carried_after, chain, gives, homes_after, keeps, rest, step, takes}
+pub use Rattle.atomic_table.specs.Table.{Allows, Me, State, Step, Valid, carried_after, chain, gives, homes_after, keeps, put_back, rest, step, takes}
 pub use Rattle.seq_object.specs.Sequential.{Sequential}
 pub use Rattle.uni_model.proofs.LawProofs.{set_at_elsewhere}
 pub use Rattle.uni_model.proofs.Simulation.{set_at_same}

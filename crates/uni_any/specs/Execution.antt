@@ -30,6 +30,9 @@ pub record Moment (I S R : Type 0) : Type 0 where
   pub homes : Homes I S R
   pub local : ℕ → Local I S R
 
+abbrev pub moment_of : {I S R : Type 0} → List ℕ → Homes I S R → (ℕ → Local I S R) → Moment I S R
+moment_of words homes local = record { words = words; homes = homes; local = local }
+
 -- What a step does: what one word becomes, which slots are at home then, where its process stands, and which acts of a
 -- history it makes.
 pub record Effect (I S R : Type 0) : Type 0 where
@@ -58,10 +61,8 @@ calls_between local before after p (suc count) =
     ++ calls_between local before after (p + 1) count
 
 module _ {S I R : Type 0} (object : Sequential S I R) (sizes : Sizes) where
-  module _ (m : Moment I S R) (p : ℕ) where
-    abbrev pub mine : Local I S R
-    mine = m.local p
-
+  -- process p, which stands there
+  module _ (m : Moment I S R) (p : ℕ) (mine : Local I S R) where
     -- the word S, how many calls process p has made, and the slots for reader r of its next or pending call, and of its
     -- block
     abbrev pub present : ℕ
@@ -195,23 +196,26 @@ module _ {S I R : Type 0} (object : Sequential S I R) (sizes : Sizes) where
     effect_of (Follow at) = load_of 0 (knows mine (version_in present))
 
   -- the moment after process p has taken a step: one word, the slots at home and its own place have changed
-  abbrev pub after : (m : Moment I S R) (p : ℕ) → Next m p → Moment I S R
-  after m p next = let e = effect_of m p next in record {
+  abbrev pub changed : Moment I S R → (p : ℕ) → Effect I S R → Moment I S R
+  changed m p e = record {
     words = slice_set m.words e.word e.becomes;
     homes = e.homes;
     local = set_at m.local p e.leaves;
   }
 
+  abbrev pub after : (m : Moment I S R) (p : ℕ) → Next m p (m.local p) → Moment I S R
+  after m p next = changed m p (effect_of m p (m.local p) next)
+
   -- An execution from a moment on: again and again some process takes a step that it can take.
   pub data Execution : Moment I S R → Type 0 where
     Ends : {m : Moment I S R} → Execution m
-    Step : {m : Moment I S R} (p : ℕ) → p < sizes.processes → (next : Next m p) → Execution (after m p next)
+    Step : {m : Moment I S R} (p : ℕ) → p < sizes.processes → (next : Next m p (m.local p)) → Execution (after m p next)
         → Execution m
 
   -- the acts that its steps make, in the order of the steps
   abbrev pub history : {m : Moment I S R} → Execution m → List (Act I R)
   history Ends = []
-  history (Step {m = m} p inside next rest) = (effect_of m p next).acts ++ history rest
+  history (Step {m = m} p inside next rest) = (effect_of m p (m.local p) next).acts ++ history rest
 
   -- the moment at its end
   abbrev pub last_moment : {m : Moment I S R} → Execution m → Moment I S R

@@ -2,14 +2,16 @@
 use Rattle.std.specs.Prelude.{◌≡◌, ◌≢◌, ℕ, ◌+◌, List, [], ◌∷◌, ◌++◌, refl, drop, length, map, slice_index}
 use mathlib.Core.Option.{some}
 use lib.ListN.{get_elem?}
-use Rattle.atomic_table.specs.Table.{State, Valid, carried_after, chain, stepped}
+use Rattle.atomic_table.specs.Table.{State, Valid, carried_after, chain, homes_after, stepped}
 use Rattle.atomic_table.specs.Table.{Act as Handling}
 use Rattle.seq_object.specs.Sequential.{Sequential}
 use Rattle.uni_model.specs.AtomicObject.{Act, set_at}
 use Rattle.uni_model.specs.AtomicObject.Act.{Invoke, Linearize, Respond}
 use Rattle.uni_any.specs.Batch.{HasBatch}
 use Rattle.uni_any.specs.Board.{Board}
+use Rattle.uni_any.specs.Execution.{moment_of}
 use Rattle.uni_any.specs.Plays.{Mine}
+use Rattle.uni_any.specs.Ran.{CanTake}
 use Rattle.uni_any.specs.Shown.{IsShown}
 use Rattle.uni_any.specs.declared.block.Block.{Block}
 use Rattle.uni_any.specs.declared.mail.Mail.{Mail}
@@ -58,7 +60,7 @@ module _ {S I R : Type 0} where
 module _ {O S I R : Type 0} (meaning : O → Sequential S I R) (o : O) (sizes : Sizes) (id : ℕ) (me : Mine O I S R) where
   -- Where the table shows a board, and the word i becomes f of what it was by a step of the seat id, the seat can
   -- handle its slots so that the table shows a board whose history has these acts more. The seat is told this, and its
-  -- process alone stands elsewhere.
+  -- process alone stands elsewhere. It is a step that this process can take in an execution.
   abbrev pub Moves : (i : ℕ) → (f : ℕ → ℕ)
       → (makes : Board I S R → (found : ℕ) → (before after : Local I S R) → List (Act I R) → Type 0)
       → (says : ℕ → Mine O I S R → Type 0) → Type 0
@@ -72,6 +74,13 @@ module _ {O S I R : Type 0} (meaning : O → Sequential S I R) (o : O) (sizes : 
       × says (slice_index s.words i) (v, carried_after me.1 handled)
       × (g'.acts ≡ g.acts ++ acts)
       × makes g (slice_index s.words i) me.0.known.local v.known.local acts
+      × CanTake (meaning o) sizes (moment_of s.words s.homes local) me.0.known.first me.0.known.local (record {
+        word = i;
+        becomes = f (slice_index s.words i);
+        homes = homes_after s.homes me.1 handled;
+        leaves = v.known.local;
+        acts = acts;
+      })
 
 -- two calls more, of which the first was call 3 of process 1
 sample_responses : responses {I = ℕ} {R = ℕ} 1 3 (record { inv = 5; reply = 7; after = 0; version = 1 }

@@ -9,7 +9,9 @@ pub mod Standing
 pub mod Belongs
 pub mod Calls
 pub mod Final
-pub mod Laws
 pub mod Execution
+pub mod Ran
+pub mod Laws
 pub mod Linearized
 pub mod Progress
+pub mod Ended

@@ -21,7 +21,7 @@ one_more stage taken = taken + 1
 module _ {S I R : Type 0} (object : Sequential S I R) (sizes : Sizes) where
   -- Where a process has taken so many word steps for its latest call, so many with one more. To ask which version has
   -- come is no step of a call.
-  abbrev pub counted : (m : Moment I S R) (p : ℕ) → Next object sizes m p → (taken : ℕ) → ℕ
+  abbrev pub counted : (m : Moment I S R) (p : ℕ) → Next object sizes m p (m.local p) → (taken : ℕ) → ℕ
   counted m p (OpenCall inv own r mail asks opens inside few lies) taken = one_more (m.local p).stage taken
   counted m p (Start inv tries base homes waits reads out) taken = one_more (m.local p).stage taken
   counted m p (Return inv tries base homes reply waits reads is_in has) taken = one_more (m.local p).stage taken
@@ -48,4 +48,5 @@ module _ {S I R : Type 0} (object : Sequential S I R) (sizes : Sizes) where
   -- between calls alone.)
   abbrev pub NeverBlocks : Execution {R = R} object sizes (opened_moment object sizes) → Type 0
   NeverBlocks e = HasOwners I S R → (p : ℕ) → p < sizes.processes
-      → ((last_moment object sizes e).local p).stage ≢ Idle → Next object sizes (last_moment object sizes e) p
+      → ((last_moment object sizes e).local p).stage ≢ Idle
+      → Next object sizes (last_moment object sizes e) p ((last_moment object sizes e).local p)

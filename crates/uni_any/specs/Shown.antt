@@ -7,7 +7,9 @@ use Rattle.atomic_table.specs.Table.{State}
 use Rattle.seq_object.specs.Sequential.{Sequential}
 use Rattle.uni_any.specs.Content.{told}
 use Rattle.uni_any.specs.Board.{AreFew, Board, frames_of, slot_of, word_of}
+use Rattle.uni_any.specs.Execution.{moment_of}
 use Rattle.uni_any.specs.Invariant.{IsSound}
+use Rattle.uni_any.specs.Ran.{HasRun}
 use Rattle.uni_any.specs.declared.block.Block.{Block}
 use Rattle.uni_any.specs.declared.mail.Mail.{Mail}
 use Rattle.uni_any.specs.declared.sizes.Sizes.{Sizes}
@@ -46,9 +48,10 @@ module _ {O I S R : Type 0} (sizes : Sizes) where
     pub seats : (id : ℕ) (v : View O I S R) → get_elem? s.views id ≡ some v → Tells o local seat_of id v
     pub sound : IsSound (meaning o) sizes g local
 
--- the rule: the table shows some board
+-- the rule: the table shows some board, to which some execution has led
 abbrev pub ShowsBoard : {O I S R : Type 0} → (meaning : O → Sequential S I R) → (o : O) → Sizes
     → State (Mail I (Block S R)) (View O I S R) → Type 0
 ShowsBoard {O} {I} {S} {R} meaning o sizes s =
     (g : Board I S R)
-    × ((local : ℕ → Local I S R) × ((seat_of : ℕ → ℕ) × IsShown sizes meaning o g local seat_of s))
+    × ((local : ℕ → Local I S R) × ((seat_of : ℕ → ℕ) × IsShown sizes meaning o g local seat_of s
+    × HasRun (meaning o) sizes (moment_of s.words s.homes local) g.acts))

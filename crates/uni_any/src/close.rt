@@ -4,7 +4,8 @@ ghost use Rattle.std.specs.Arc.{arc_value};
 ghost use Rattle.std.specs.Mem.Slots.{IsFull, slots_items, slots_len};
 ghost use lib.ListN.{get_elem?};
 ghost use mathlib.Core.Option.{some};
-ghost use Rattle.uni_any.specs.Belongs.{IsSeatOf, known_calls, object_of, processes_of};
+ghost use Rattle.uni_any.specs.Belongs.{IsSeatOf, known_calls, object_of, processes_of, sizes_of};
+ghost use Rattle.uni_any.specs.Ended.{HasRunTo};
 ghost use Rattle.uni_any.specs.Final.{IsLinearized};
 
 use crate::block::Block;
@@ -55,10 +56,12 @@ impl<O: SeqObject> AnyShared<O> {
     /// atomic object accepts; where one is pending, it has begun, and may have taken effect. The last version
     /// has the state after the calls of this history, in the order in which they took effect. In that order each of
     /// them that has returned comes after all calls of the version that its seat had followed, and is among those of
-    /// its own version.
+    /// its own version. This history is made by the steps on words of an execution, in their order.
     pub fn close_with(self, seat: AnySeat<O>) -> Arc<Block<O::State, O::Resp>, Global>
         requires seat { IsSeatOf self seat }
         ensures told { IsLinearized (O.sequential (object_of self)) (processes_of self)
+            (known_calls seat ∷ []) (arc_value result).state }
+        ensures ran { HasRunTo (O.sequential (object_of self)) (sizes_of self)
             (known_calls seat ∷ []) (arc_value result).state }
     {
         let AnyShared { setup, table } = self;

@@ -6,6 +6,7 @@ ghost use Rattle.uni_any.specs.Belongs.{AreFirstSeats, IsSeatOf, object_of, size
 ghost use Rattle.uni_any.specs.Content.{blank, image_of, nothing_taken};
 ghost use Rattle.uni_any.specs.Board.{AreFew, first_image};
 ghost use Rattle.uni_any.specs.Plays.{first_alone, first_view, others};
+ghost use Rattle.uni_any.specs.declared.mail.Mail.TheVariants.{Empty};
 
 use crate::block::{Block, Row};
 use crate::mail::Mail;
@@ -42,7 +43,7 @@ pub enum AnyOpenFault {
 
 /// So many slots, with nothing in them.
 fn empty_slots<I: Drop, B: Drop>(alloc: Global, count: u64) -> Result<Vec<Mail<I, B>>, AllocError>
-    ensures { IfOk result (λ slots. length slots.items ≡ count) }
+    ensures { IfOk result (λ slots. slots.items ≡ replicate count Empty) }
 {
     let mut slots = Vec::with_capacity(alloc, count as usize)?;
     for _ in 0..count {

@@ -9,4 +9,5 @@ new-requires g c =
     let meaning = g.O.SeqObject.sequential in
     let words : c.deref.result.now ≡ replicate (1 + sizes.processes) 0 = c.deref.ensures.value ∙ c.in_ok-words.ensures.items_if_clones_equal (λ y same. same) in
     subst (λ ws. ShowsBoard meaning c.args.object sizes (opening ws c.in_ok-slots.slots.items (first_view meaning c.args.object sizes))) (sym words)
-    (opening_shows meaning c.args.object sizes c.requires.few c.in_ok-slots.slots.items c.in_ok-slots.ensures)
+    (subst (λ slots. ShowsBoard meaning c.args.object sizes (opening (replicate (1 + sizes.processes) 0) slots (first_view meaning c.args.object sizes))) (sym c.in_ok-slots.ensures)
+    (opening_shows meaning c.args.object sizes c.requires.few))
