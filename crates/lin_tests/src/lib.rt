@@ -6,4 +6,6 @@ mod bad_lines;
 #[cfg(test)]
 mod objects;
 #[cfg(test)]
+mod recorded;
+#[cfg(test)]
 mod verdicts;

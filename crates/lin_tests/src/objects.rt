@@ -7,7 +7,7 @@ use std::alloc::{AllocError, Global};
 
 /// What is found of a history.
 #[derive(Clone, Copy, Debug, PartialEq, Eq)]
-enum Found {
+pub(crate) enum Found {
     /// It has an order.
     Good,
     /// It has none from the event at this place on.
@@ -19,7 +19,11 @@ enum Found {
 }
 
 /// What is found of the history that a text is.
-fn found_in<O: Worded>(alloc: Global, object: &O, text: &str) -> Result<Found, AllocError> {
+pub(crate) fn found_in<O: Worded>(
+    alloc: Global,
+    object: &O,
+    text: &str,
+) -> Result<Found, AllocError> {
     let history = match read_history::<O>(alloc, text.as_bytes()) {
         Ok(history) => history,
         Err(ReadError::Refused(_)) => return Ok(Found::Refused),
