@@ -1,12 +1,15 @@
-//! The program: hands its words and its standard streams to `run` of `unicheck_run`, and ends with the status that it
-//! answers.
+//! The program: hands its words and its standard streams to `run` of `unicheck_run`, tells on a terminal how far it is,
+//! and ends with the status that `run` answers.
 #![tactic(auto)]
+
+mod terminal;
 
 use std::alloc::Global;
 use std::env::Env;
 use std::io::{ErrorKind, Write};
 use std::process::ExitCode;
 use std::{env, io};
+use terminal::Terminal;
 use unicheck_run::run;
 
 /// The argument texts, the program's name first.
@@ -15,15 +18,17 @@ fn words<R: Env + Alloc<A = Global>>(rt: &R) -> io::Result<Vec<String>> {
 }
 
 fn main(rt: HostRuntime) -> ExitCode {
+    let mut input = rt.stdin();
     let mut output = rt.stdout();
     let mut faults = rt.stderr();
     match words(&rt) {
         Ok(words) => ExitCode::from(run(
             &rt,
             words.as_slice(),
-            rt.stdin(),
+            &mut input,
             &mut output,
             &mut faults,
+            &Terminal::new(rt.stderr()),
         )),
         Err(error) if error.kind() == ErrorKind::OutOfMemory => {
             let _ = writeln!(faults, "out of memory");

@@ -1,5 +1,5 @@
 -- What is found of a recorded history.
-use Rattle.std.specs.Prelude.{◌+◌, ◌++◌, ◌<◌, ◌∷◌, ℕ, List, [], Option, Some, None, codes, length, take}
+use Rattle.std.specs.Prelude.{◌+◌, ◌<◌, ℕ, List, Option, Some, None, codes, if◌then◌else◌, length, nat_eq, take}
 use Rattle.seq_object.specs.Sequential.{Sequential}
 use Rattle.lin_check.specs.declared.event.Event.{Event}
 use Rattle.lin_check.specs.Verdicts.{IsLinearizable, IsOrder}
@@ -29,13 +29,7 @@ status_of (Linearizable order) = 0
 status_of (NotLinearizable first) = 1
 status_of GaveUp = 5
 
--- what is found, in words, and the first line of what is written of it
-abbrev pub verdict : Finding → List ℕ
-verdict (Linearizable order) = codes "linearizable"
-verdict (NotLinearizable first) = codes "not linearizable"
-verdict GaveUp = codes "gave up"
-
-abbrev pub verdict_line : Finding → List ℕ
-verdict_line (Linearizable order) = codes "linearizable" ++ 10 ∷ []
-verdict_line (NotLinearizable first) = codes "not linearizable" ++ 10 ∷ []
-verdict_line GaveUp = codes "gave up" ++ 10 ∷ []
+-- what a status of a finding says, in words
+abbrev pub verdict : (status : ℕ) → List ℕ
+verdict status =
+    if nat_eq status 0 then codes "linearizable" else if nat_eq status 1 then codes "not linearizable" else codes "gave up"

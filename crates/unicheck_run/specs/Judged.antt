@@ -1,5 +1,5 @@
 -- What a status says of the history that a text is.
-use Rattle.std.specs.Prelude.{◌≡◌, ◌<◌, ◌++◌, ◌∷◌, ◌⊎◌, ℕ, List, [], Option, None, Some, codes, true}
+use Rattle.std.specs.Prelude.{◌≡◌, ◌<◌, ◌++◌, ◌∷◌, ◌⊎◌, ℕ, List, Option, None, Some, true}
 use Rattle.std.specs.Io.KnownBytes.{Appends}
 use Rattle.seq_object.specs.Sequential.{Sequential}
 use Rattle.lin_check.specs.declared.event.Event.{Event}
@@ -14,6 +14,7 @@ use Rattle.judged_objects.specs.Set.{set, set_wording}
 use Rattle.history_picture.specs.Picture.{IsPageOf, IsPictureOf}
 use Rattle.history_picture.specs.declared.scene.Scene.{Scene}
 use Rattle.history_text.specs.Own.{is_own, lines_of, own_events}
+use Rattle.unicheck_run.specs.Found.{verdict}
 use Rattle.unicheck_run.specs.declared.words.Form.{Form}
 use Rattle.unicheck_run.specs.declared.words.Form.TheVariants.{Lines, Order, Svg, Html}
 use Rattle.unicheck_run.specs.declared.words.ObjectName.{ObjectName}
@@ -43,33 +44,21 @@ SaysBy Counter text status = SaysOfText counter counter_wording text status
 SaysBy Map text status = SaysOfText map_object map_wording text status
 SaysBy Set text status = SaysOfText set set_wording text status
 
--- known bytes grew by a line and what comes after it
-abbrev pub WritesLine : (line : List ℕ) → (old new : Option (List ℕ)) → Type 0
-WritesLine line old new = (more : List ℕ) × Appends old new (line ++ more)
+-- a line comes first
+abbrev pub BeginsWithLine : (line written : List ℕ) → Type 0
+BeginsWithLine line written = (more : List ℕ) × (written ≡ line ++ 10 ∷ more)
 
-abbrev pub yes_line : List ℕ
-yes_line = codes "linearizable" ++ 10 ∷ []
+-- a picture, or a page with one, is that of a scene with a title
+abbrev pub Draws : (IsDrawn : Scene → List ℕ → Type 0) → (title written : List ℕ) → Type 0
+Draws IsDrawn title written = (scene : Scene) × (scene.title.items ≡ title) × IsDrawn scene written
 
-abbrev pub no_line : List ℕ
-no_line = codes "not linearizable" ++ 10 ∷ []
+-- what is written in a form says what was found: in its first line, or as the title of a picture
+abbrev pub Shows : Form → (found written : List ℕ) → Type 0
+Shows Lines found written = BeginsWithLine found written
+Shows Order found written = BeginsWithLine found written
+Shows Svg found written = Draws IsPictureOf found written
+Shows Html found written = Draws IsPageOf found written
 
--- the title of a picture tells the status
-abbrev pub Titles : Scene → (status : ℕ) → Type 0
-Titles scene status = (status ≡ 0 → scene.title.items ≡ codes "linearizable") × (status ≡ 1 → scene.title.items ≡ codes "not linearizable")
-
--- known bytes grew by a picture, or by a page with one, whose title tells the status
-abbrev pub WritesPicture : (status : ℕ) → (old new : Option (List ℕ)) → Type 0
-WritesPicture status old new = (scene : Scene) × (svg : List ℕ) × IsPictureOf scene svg × Titles scene status × Appends old new svg
-
-abbrev pub WritesPage : (status : ℕ) → (old new : Option (List ℕ)) → Type 0
-WritesPage status old new = (scene : Scene) × (page : List ℕ) × IsPageOf scene page × Titles scene status × Appends old new page
-
--- what is written with a status of 0 or 1: a first line that tells it, a picture, or a page
-abbrev pub WritesVerdict : (status : ℕ) → (old new : Option (List ℕ)) → Type 0
-WritesVerdict status old new = (status ≡ 0 → WritesLine yes_line old new) × (status ≡ 1 → WritesLine no_line old new)
-
+-- with the status of a finding known bytes grow by what says it
 abbrev pub Writes : Form → (status : ℕ) → (old new : Option (List ℕ)) → Type 0
-Writes Lines status old new = WritesVerdict status old new
-Writes Order status old new = WritesVerdict status old new
-Writes Svg status old new = status < 2 → WritesPicture status old new
-Writes Html status old new = status < 2 → WritesPage status old new
+Writes form status old new = (status < 2) ⊎ (status ≡ 5) → (written : List ℕ) × Shows form (verdict status) written × Appends old new written

@@ -3,6 +3,7 @@
 ghost use Rattle.std.specs.Prelude.{◌≡◌, IfOk};
 ghost use Rattle.unicheck_run.specs.Found.{IsFound};
 
+use crate::watch::{Stage, Watch};
 use judged_objects::Worded;
 use lin_check::{Event, Verdict, check, shortest};
 use std::alloc::{AllocError, Global};
@@ -18,21 +19,24 @@ pub enum Finding {
     GaveUp,
 }
 
-/// Judges a history, in at most so many rounds of each search.
+/// Judges a history, in at most so many rounds of each search, and tells how far it is.
 ///
 /// An `Err` says that memory was refused.
-pub fn judge<O: Worded>(
+pub fn judge<O: Worded, P: Watch>(
     alloc: Global,
     object: &O,
     history: &[Event<O::Inv, O::Resp>],
     rounds: u64,
+    watch: &P,
 ) -> Result<Finding, AllocError>
     ensures { IfOk result (IsFound (O.sequential object.now) history.now) }
 {
+    watch.comes_to(Stage::Order(history.len()));
     let verdict = check(alloc, object, history, rounds)?;
     match verdict {
         Verdict::Linearizable(order) => Ok(Finding::Linearizable(order)),
         Verdict::NotLinearizable => {
+            watch.comes_to(Stage::FirstBad);
             let first = shortest(alloc, object, history, rounds)?;
             Ok(Finding::NotLinearizable(first))
         }

@@ -2,12 +2,16 @@
 //! history, and writes whether that is linearizable.
 #![tactic(auto)]
 
+mod answer;
 mod judging;
 mod picture;
 mod program;
 mod report;
+mod stop;
+mod watch;
 mod words;
 
 pub use judging::{Finding, judge};
-pub use program::{judge_text, run};
+pub use program::{judge_input, judge_text, run};
+pub use watch::{Stage, Watch};
 pub use words::{Form, ObjectName, Request};

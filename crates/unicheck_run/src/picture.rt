@@ -1,7 +1,7 @@
 //! What is drawn of a history. Nothing is promised of that but its title.
 
 ghost use Rattle.std.specs.Prelude.{◌≡◌, IfOk};
-ghost use Rattle.unicheck_run.specs.Found.{verdict};
+ghost use Rattle.unicheck_run.specs.Found.{status_of, verdict};
 
 use crate::judging::Finding;
 use crate::report::{first_bad_text, pending_call, verdict};
@@ -169,7 +169,7 @@ pub(crate) fn scene_of<O: Worded>(
     finding: &Finding,
     rounds: u64,
 ) -> Result<Scene, AllocError>
-    ensures { IfOk result (λ scene. scene.title.items ≡ verdict finding.now) }
+    ensures { IfOk result (λ scene. scene.title.items ≡ verdict (status_of finding.now)) }
 {
     let all = history.events.as_slice();
     let mut events = all;

@@ -1,7 +1,7 @@
 //! The text of a finding.
 
 ghost use Rattle.std.specs.Prelude.{◌≡◌};
-ghost use Rattle.unicheck_run.specs.Found.{verdict, verdict_line};
+ghost use Rattle.unicheck_run.specs.Found.{status_of, verdict};
 
 use crate::judging::Finding;
 use history_text::History;
@@ -130,22 +130,11 @@ pub(crate) fn first_bad_text<O: Worded>(
 
 /// What is found, in words.
 pub(crate) fn verdict(finding: &Finding) -> &'static str
-    ensures { result.now ≡ verdict finding.now }
+    ensures { result.now ≡ verdict (status_of finding.now) }
 {
     match finding {
         Finding::Linearizable(_) => "linearizable",
         Finding::NotLinearizable(_) => "not linearizable",
         Finding::GaveUp => "gave up",
-    }
-}
-
-/// The first line of what is written of a finding.
-pub(crate) fn verdict_line(finding: &Finding) -> &'static str
-    ensures { result.now ≡ verdict_line finding.now }
-{
-    match finding {
-        Finding::Linearizable(_) => "linearizable\n",
-        Finding::NotLinearizable(_) => "not linearizable\n",
-        Finding::GaveUp => "gave up\n",
     }
 }
