@@ -1,10 +1,12 @@
-//! Tests of the judge of histories: its verdicts, by hand, and the lines that a history can't have.
+//! Tests of the judge of histories: its verdicts, by hand, the lines that a history can't have, and pictures.
 #![tactic(auto)]
 
 #[cfg(test)]
 mod bad_lines;
 #[cfg(test)]
 mod objects;
+#[cfg(test)]
+mod pictures;
 #[cfg(test)]
 mod recorded;
 #[cfg(test)]
