@@ -8,9 +8,10 @@
  *   - a log: a tally, a sticky register, a register, or a machine of two tables, on words of 31 bits. A seat makes up to k
  *     calls, at most 4,096, and the closed log tells all of them in their order.
  *
- * The functions of this file stand in crates/universal_c; docs/bindings.md says what is proved of each. Only tested: when memory is
- * refused, and that a call takes no memory and no lock. That all calls have one order is a law of every execution; what closing an
- * object says is of the calls of the seat that closes it. What a caller owes is written here, and nothing checks it.
+ * The functions of this file but universal_version stand in crates/universal_c; docs/bindings.md says what is proved of each.
+ * Only tested: when memory is refused, and that a call takes no memory and no lock. That all calls have one order is a law of
+ * every execution; what closing an object says is of the calls of the seat that closes it. What a caller owes is written here,
+ * and nothing checks it.
  *
  * What a caller owes:
  *   - A handle begins as UNIVERSAL_NONE. Only these functions change it, and it is never copied: of two copies the
@@ -35,8 +36,10 @@
 extern "C" {
 #endif
 
-/* The version of this header and of the library: major, minor and patch as 10000 * major + 100 * minor + patch. */
-#define UNIVERSAL_VERSION 200
+/* The version of this header: major, minor and patch as 10000 * major + 100 * minor + patch; and that of the library, which is
+ * another one where a program runs with another library than it was compiled for. */
+#define UNIVERSAL_VERSION 300
+uint32_t universal_version(void);
 
 /* A small object, a log, a seat of either, the entries of a closed log, or nothing. */
 typedef struct universal_handle {
@@ -57,7 +60,8 @@ typedef enum universal_status {
     UNIVERSAL_BAD_COUNT = 1,    /* n isn't from 1 to 64 */
     UNIVERSAL_BAD_ROW = 2,      /* k isn't from 1 to 4096 */
     UNIVERSAL_MEMORY = 3,       /* memory was refused */
-    UNIVERSAL_FULL = 4,         /* the seat has made its k calls; of a small object, its 2^50 calls */
+    UNIVERSAL_SPENT = 4,        /* the seat has made its k calls; of a small object, its 2^50 calls */
+    UNIVERSAL_FULL = 4,         /* the same, by the name that it had until 0.3.0: of no queue or map */
     UNIVERSAL_NO_SEAT = 5,      /* all n seats are given out */
     UNIVERSAL_BUSY = 6,         /* another handle still has the log or the object */
     UNIVERSAL_WRONG_HANDLE = 7, /* the handle hasn't what the call is for */
@@ -82,7 +86,7 @@ static inline const char *universal_strerror(uint32_t status) {
     case UNIVERSAL_BAD_COUNT: return "the number of processes isn't from 1 to 64";
     case UNIVERSAL_BAD_ROW: return "the number of calls of a process isn't from 1 to 4096";
     case UNIVERSAL_MEMORY: return "memory was refused";
-    case UNIVERSAL_FULL: return "the seat has made all its calls";
+    case UNIVERSAL_SPENT: return "the seat has made all its calls";
     case UNIVERSAL_NO_SEAT: return "all seats are given out";
     case UNIVERSAL_BUSY: return "another handle still has the log or the object";
     case UNIVERSAL_WRONG_HANDLE: return "the handle hasn't what the call is for";
@@ -289,9 +293,36 @@ uint32_t universal_small_seat(universal_handle *object, universal_handle *seat, 
  * each that the seat has had since it was opened or taken over; that it is greater than those before a take-over is in no clause.
  *
  * UNIVERSAL_WRONG_HANDLE: *seat has no seat of a small object. UNIVERSAL_BAD_WIDTH: the invocation or the reply hasn't as many
- * words as those of the object. UNIVERSAL_FULL: the seat has made 2^50 calls. In this order; after each nothing is changed. */
+ * words as those of the object. UNIVERSAL_SPENT: the seat has made 2^50 calls. In this order; after each nothing is changed. */
 uint32_t universal_small_apply(universal_handle *seat, const uint64_t *invocation, size_t invocation_count, uint64_t *reply,
                                size_t reply_count, uint64_t *version);
+
+/* The calls of the objects by name, which know how many words each has; the version isn't told. They are C over
+ * universal_small_apply, with its statuses, and no part of the proof. What a call is answered is written where it is
+ * UNIVERSAL_DONE. */
+#define UNIVERSAL_NAMED(name, replies, reply, invocation, ...) \
+    static inline uint32_t name(universal_handle *seat, __VA_ARGS__) { \
+        const uint64_t words[] = invocation; \
+        uint64_t version = 0; \
+        return universal_small_apply(seat, words, sizeof words / sizeof *words, reply, replies, &version); \
+    }
+UNIVERSAL_NAMED(universal_counter_add, 1, before, UNIVERSAL_COUNTER_ADD(number), uint64_t number, uint64_t *before)
+UNIVERSAL_NAMED(universal_register64_read, 1, value, UNIVERSAL_REGISTER64_READ, uint64_t *value)
+UNIVERSAL_NAMED(universal_register64_write, 1, before, UNIVERSAL_REGISTER64_WRITE(value), uint64_t value, uint64_t *before)
+UNIVERSAL_NAMED(universal_register64_compare_exchange, 1, before, UNIVERSAL_REGISTER64_COMPARE_EXCHANGE(expected, value),
+                uint64_t expected, uint64_t value, uint64_t *before)
+UNIVERSAL_NAMED(universal_counters_add, 1, before, UNIVERSAL_COUNTERS_ADD(index, number), uint32_t index, uint64_t number,
+                uint64_t *before)
+/* *is_in is 1, or 0 where there is no room */
+UNIVERSAL_NAMED(universal_queue_put, 1, is_in, UNIVERSAL_QUEUE_PUT(number), uint64_t number, uint64_t *is_in)
+UNIVERSAL_NAMED(universal_stack_push, 1, is_in, UNIVERSAL_STACK_PUSH(number), uint64_t number, uint64_t *is_in)
+/* *number is 0 where there is none */
+UNIVERSAL_NAMED(universal_queue_take, 1, number, UNIVERSAL_QUEUE_TAKE, uint64_t *number)
+UNIVERSAL_NAMED(universal_stack_pop, 1, number, UNIVERSAL_STACK_POP, uint64_t *number)
+/* the reply's two words */
+UNIVERSAL_NAMED(universal_map_get, 2, reply, UNIVERSAL_MAP_GET(key), uint64_t key, uint64_t reply[2])
+UNIVERSAL_NAMED(universal_map_insert, 2, reply, UNIVERSAL_MAP_INSERT(key, value), uint64_t key, uint64_t value, uint64_t reply[2])
+UNIVERSAL_NAMED(universal_map_remove, 2, reply, UNIVERSAL_MAP_REMOVE(key), uint64_t key, uint64_t reply[2])
 
 /* The next three are for who keeps objects in memory that outlives a process, as universal_shared.h does: a seat is taken over
  * after its owner's death. */
@@ -409,7 +440,7 @@ uint32_t universal_seat(universal_handle *log, universal_handle *seat, uint64_t 
 
 /* A call by a seat.
  *
- * UNIVERSAL_WRONG_HANDLE: *seat has no seat. UNIVERSAL_FULL: it has made its k calls. After either nothing is changed. */
+ * UNIVERSAL_WRONG_HANDLE: *seat has no seat. UNIVERSAL_SPENT: it has made its k calls. After either nothing is changed. */
 uint32_t universal_apply(universal_handle *seat, uint64_t inv, universal_reply *answer);
 
 /* Asks whether a call stands in the log: the call `nth`, from 0, of a process, as that process counts its own calls. It

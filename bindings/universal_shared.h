@@ -174,7 +174,7 @@ uint32_t universal_shared_claim(universal_shared_segment *segment, int64_t proce
  * in the segment, for who claims the seat next. *version is greater than each that this owner has had.
  *
  * UNIVERSAL_WRONG_HANDLE: the seat was claimed by the process that this one was forked from. UNIVERSAL_BAD_WIDTH: the
- * invocation or the reply hasn't as many words as those of the object. UNIVERSAL_FULL: the seat has made 2^50 calls. In
+ * invocation or the reply hasn't as many words as those of the object. UNIVERSAL_SPENT: the seat has made 2^50 calls. In
  * this order; after each no call was made, and *reply and *version are as they were. */
 uint32_t universal_shared_apply(universal_shared_seat *seat, const uint64_t *invocation, size_t invocation_count,
                                 uint64_t *reply, size_t reply_count, uint64_t *version);

@@ -143,7 +143,8 @@ static void full(void) {
     universal_handle seat = only_seat(&log);
     IS(replied(&seat, 4), 0);
     answer = (universal_reply){NEVER, NEVER};
-    IS(universal_apply(&seat, 4, &answer), UNIVERSAL_FULL);
+    IS(universal_apply(&seat, 4, &answer), UNIVERSAL_SPENT);
+    IS(UNIVERSAL_FULL, UNIVERSAL_SPENT);
     IS(answer.reply, NEVER);
     IS(answer.turns, NEVER);
     IS(universal_close(&seat), UNIVERSAL_DONE);
@@ -335,6 +336,7 @@ static void two_logs(void) {
 }
 
 int main(void) {
+    IS(universal_version(), UNIVERSAL_VERSION);
     objects();
     bad_sizes();
     bad_tables();

@@ -14,5 +14,5 @@ int main() {
         return 1;
     if (universal_shared_strerror(UNIVERSAL_SHARED_TAKEN)[4] != 's' || universal_shared_strerror(UNIVERSAL_FULL)[4] != 's')
         return 1;
-    return handle.at == at_start.at && universal_strerror(UNIVERSAL_FULL)[0] == 't' ? 0 : 1;
+    return handle.at == at_start.at && universal_strerror(UNIVERSAL_SPENT)[0] == 't' ? 0 : 1;
 }

@@ -306,8 +306,65 @@ static void misuse(void) {
     universal_drop(&seat);
 }
 
+/* The calls by name. */
+static void named(void) {
+    universal_handle object = UNIVERSAL_NONE, seat;
+    uint64_t told[2] = {NEVER, NEVER};
+    IS(universal_open_counter(1, &object), UNIVERSAL_DONE);
+    seat = only_seat(&object);
+    IS(universal_counter_add(&seat, 5, told) || universal_counter_add(&seat, (uint64_t)-1, told), UNIVERSAL_DONE);
+    IS(told[0], 5);
+    IS(universal_queue_put(&seat, 3, told), UNIVERSAL_DONE); /* the same words as an addition */
+    IS(universal_map_get(&seat, 3, told), UNIVERSAL_BAD_WIDTH);
+    IS(told[0], 4);
+    IS(told[1], NEVER);
+    closes(&seat, (const uint64_t[]){7}, 1);
+    IS(universal_counter_add(&seat, 5, told), UNIVERSAL_WRONG_HANDLE);
+
+    IS(universal_open_register64(1, &object), UNIVERSAL_DONE);
+    seat = only_seat(&object);
+    IS(universal_register64_write(&seat, 6, told) || told[0], 0);
+    IS(universal_register64_compare_exchange(&seat, 6, 9, told), UNIVERSAL_DONE);
+    IS(told[0], 6);
+    IS(universal_register64_read(&seat, told), UNIVERSAL_DONE);
+    IS(told[0], 9);
+    closes(&seat, (const uint64_t[]){9}, 1);
+
+    IS(universal_open_counters(1, 3, &object), UNIVERSAL_DONE);
+    seat = only_seat(&object);
+    IS(universal_counters_add(&seat, 2, 8, told) || universal_counters_add(&seat, 2, 1, told), UNIVERSAL_DONE);
+    IS(told[0], 8);
+    closes(&seat, (const uint64_t[]){0, 0, 9}, 3);
+
+    IS(universal_open_queue(1, 2, &object), UNIVERSAL_DONE);
+    seat = only_seat(&object);
+    IS(universal_queue_put(&seat, 8, told) || universal_queue_put(&seat, 9, told), UNIVERSAL_DONE);
+    IS(told[0], 1);
+    IS(universal_queue_put(&seat, 7, told) || told[0], 0);
+    IS(universal_queue_take(&seat, told), UNIVERSAL_DONE);
+    IS(told[0], 8);
+    closes(&seat, (const uint64_t[]){1, 9, 0}, 3);
+
+    IS(universal_open_stack(1, 2, &object), UNIVERSAL_DONE);
+    seat = only_seat(&object);
+    IS(universal_stack_push(&seat, 8, told) || universal_stack_push(&seat, 9, told), UNIVERSAL_DONE);
+    IS(universal_stack_pop(&seat, told), UNIVERSAL_DONE);
+    IS(told[0], 9);
+    closes(&seat, (const uint64_t[]){1, 8, 0}, 3);
+
+    IS(universal_open_map(1, 2, &object), UNIVERSAL_DONE);
+    seat = only_seat(&object);
+    IS(universal_map_insert(&seat, 7, 70, told) || told[0], UNIVERSAL_MAP_ABSENT);
+    IS(universal_map_get(&seat, 7, told) || told[0] != UNIVERSAL_MAP_VALUE, 0);
+    IS(told[1], 70);
+    IS(universal_map_remove(&seat, 7, told) || told[1] != 70, 0);
+    IS(universal_map_get(&seat, 7, told) || told[0] != UNIVERSAL_MAP_ABSENT, 0);
+    closes(&seat, (const uint64_t[]){0, 0, 0, 0, 0}, 5);
+}
+
 int main(void) {
     numbers();
+    named();
     rows();
     map();
     book();

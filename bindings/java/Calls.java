@@ -56,7 +56,7 @@ public final class Calls extends Checks {
         Seat seat = log.seat();
         log.close();
         is(seat.apply(4), 0);
-        refuses(Fault.FULL, () -> seat.apply(4));
+        refuses(Fault.SPENT, () -> seat.apply(4));
         is(seat.finish(), List.of(new Entry(2, 0, 0, 4, 0)));
         try {
             seat.apply(1);

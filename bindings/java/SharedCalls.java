@@ -6,6 +6,7 @@ import java.nio.file.Path;
 import java.util.List;
 import java.util.OptionalLong;
 import fednayup.universal.Fault;
+import fednayup.universal.Program;
 import fednayup.universal.Shared;
 import fednayup.universal.Shared.Kind;
 import fednayup.universal.Small;
@@ -51,6 +52,47 @@ public final class SharedCalls extends Checks {
         refuses(Fault.SHORT, () -> book.withdraw(3, 11));
         Small.Machine machine = only(Kind.machine(new int[][] {{1}, {0}}, new int[][] {{7}, {8}}));
         is(List.of(machine.call(0), machine.call(0)), List.of(7L, 8L));
+    }
+
+    /** An account of at most 100, which is answered whether its word was added, and the balance. */
+    private static Program account() {
+        Program p = new Program(new long[] {40}, 1, 2);
+        Program.Register balance = p.state(0), amount = p.invocation(0);
+        p.answer(1, balance);
+        Program.Register total = p.add(balance, amount);
+        p.when(total.atMost(100), () -> {
+            p.store(0, total);
+            p.answer(0, Program.number(1));
+            p.answer(1, total);
+        });
+        return p;
+    }
+
+    private static void programs() throws Exception {
+        String of = name("program");
+        try (Shared<Small.Own> made = Shared.create(of, 2, Kind.program(account()));
+                Shared<Small.Own> again = Shared.attach(of, 2, Kind.program(account()))) {
+            try (Small.Own one = made.claim(1).seat()) {
+                is(List.of(one.call(60)[0], one.call(1)[0], one.call(-1)[1]), List.of(1L, 0L, 100L));
+                refuses(Fault.BAD_WIDTH, one::call);
+            }
+            Shared.Claimed<Small.Own> two = again.claim(1);
+            is(List.of(two.last().made(), two.last().invocation()[0], two.last().reply()[0], two.last().reply()[1]),
+                    List.of(3L, -1L, 0L, 100L));
+            is(List.of(two.seat().call(0)[0], two.seat().call(0)[1]), List.of(1L, 100L));
+            Program other = account();
+            other.answer(0, Program.number(2));
+            refuses(Fault.OTHER_OBJECT, () -> Shared.attach(of, 2, Kind.program(other)));
+        } finally {
+            Shared.unlink(of);
+        }
+        for (int[] widths : new int[][] {{5, 1}, {1, 3}, {1, 0}}) {
+            Program wide = new Program(new long[] {}, widths[0], widths[1]);
+            refuses(Fault.BAD_CAPACITY, () -> Shared.create(of, 2, Kind.program(wide)));
+        }
+        Program bad = new Program(new long[] {}, 1, 1);
+        bad.state(0);
+        refuses(Fault.NO_PLACE, () -> Shared.create(of, 2, Kind.program(bad)));
     }
 
     private static void names() throws Exception {
@@ -134,6 +176,7 @@ public final class SharedCalls extends Checks {
             return;
         }
         objects();
+        programs();
         names();
         seats();
         kills();

@@ -3,22 +3,22 @@
 python3 jobs.py WORKERS JOBS KILLS
 """
 
-import multiprocessing
 import os
 import random
-import signal
 import sys
 import time
+
+from multiprocessing import Process
 
 from universal.shared import Full, SharedCounters, SharedQueue
 
 
-def work(me, jobs, counts):
+def work(me: int, jobs: SharedQueue, counts: SharedCounters) -> None:
     """Worker number `me`, as the first or after one that died."""
     taken, counted = jobs.claim(me), counts.claim(me)
-    job = taken.reply[0] if taken.made else 0  # the last job that was taken; 0 where there was none to take
-    if job and counted.invocation[:1] != (job,):  # its effect isn't there yet
-        do(job, counts)
+    last = taken.reply[0] if taken.made else 0  # the last job that was taken; 0 where there was none to take
+    if last and counted.invocation[:1] != (last,):  # its effect isn't there yet
+        do(last, counts)
     while True:
         job = jobs.take()
         if job is None:
@@ -27,19 +27,19 @@ def work(me, jobs, counts):
             do(job, counts)
 
 
-def do(job, counts):
+def do(job: int, counts: SharedCounters) -> None:
     time.sleep(0.001)  # the work, which may be cut off and done again
     counts.add(job, 1)  # its effect, once
 
 
-def main(workers, all_jobs, kills):
+def main(workers: int, all_jobs: int, kills: int) -> bool:
     jobs = SharedQueue(f"jobs.{os.getpid()}", 100, seats=workers + 1, create=True)
     counts = SharedCounters(f"counts.{os.getpid()}", all_jobs + 1, seats=workers + 1, create=True)
     with jobs, counts:
         jobs.claim(workers), counts.claim(workers)  # the seats of this process
 
-        def start(me):
-            worker = multiprocessing.Process(target=work, args=(me, jobs, counts), daemon=True)
+        def start(me: int) -> Process:
+            worker = Process(target=work, args=(me, jobs, counts), daemon=True)
             worker.start()
             return worker
 
@@ -55,7 +55,7 @@ def main(workers, all_jobs, kills):
             time.sleep(random.random() * 0.01)
             if killed < kills:
                 me = random.randrange(workers)
-                os.kill(pool[me].pid, signal.SIGKILL)
+                pool[me].kill()
                 pool[me].join()
                 pool[me] = start(me)
                 killed += 1

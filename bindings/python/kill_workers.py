@@ -14,7 +14,10 @@ import random
 import signal
 import sys
 import time
+from collections.abc import Sequence
 from ctypes import c_uint64
+from multiprocessing.process import BaseProcess
+from typing import Any
 
 from universal.shared import SharedCounter, SharedMap, SharedQueue, SharedRegister
 
@@ -24,7 +27,7 @@ WORKERS, ROOM, CAPACITY, KEYS = 4, 1 << 21, 24, 8
 class Diary:
     """What the workers write down."""
 
-    def __init__(self, context):
+    def __init__(self, context: Any) -> None:
         self.recorded = context.RawArray(c_uint64, WORKERS)
         self.ended = context.RawArray(c_uint64, WORKERS)
         self.wrong = context.RawArray(c_uint64, WORKERS)
@@ -33,12 +36,12 @@ class Diary:
         self.answered = context.RawArray(c_uint64, WORKERS * ROOM)
 
 
-def draw(p, c):
+def draw(p: int, c: int) -> int:
     x = (c * 6364136223846793005 + p * 1442695040888963407 + 88172645463325252) % (1 << 64)
     return (x ^ x >> 29) >> 32
 
 
-def words_of(kind, p, c):
+def words_of(kind: str, p: int, c: int) -> tuple[int, ...]:
     """What call c of a worker is; its number is told by no other call."""
     number = p * ROOM + c + 1
     return {
@@ -49,10 +52,10 @@ def words_of(kind, p, c):
     }[kind]
 
 
-def account(diary, kind, p, c, words, reply):
+def account(diary: Diary, kind: str, p: int, c: int, words: Sequence[int], reply: Sequence[int]) -> None:
     call = c * WORKERS + p + 1
 
-    def meet(numbers, number):
+    def meet(numbers: Any, number: int) -> None:
         if numbers[number] not in (0, call):
             diary.wrong[p] += 1
         numbers[number] = call
@@ -71,7 +74,7 @@ def account(diary, kind, p, c, words, reply):
             meet(diary.answered, before)
 
 
-def work(shared, diary, kind, p, makes_again):
+def work(shared: Any, diary: Diary, kind: str, p: int, makes_again: bool) -> None:
     last = shared.claim(p)
     c = diary.recorded[p]
     diary.ended[p] += last.ended
@@ -89,7 +92,7 @@ def work(shared, diary, kind, p, makes_again):
     time.sleep(3600)
 
 
-def left(shared, kind, diary):
+def left(shared: Any, kind: str, diary: Diary) -> bool:
     """Takes out what is left, and whether the state fits all answers."""
     calls = sum(diary.recorded)
     if kind == "counter":
@@ -99,7 +102,7 @@ def left(shared, kind, diary):
         return total == calls and missing == 0
     at_end = WORKERS * ROOM + 1
     if kind == "register":
-        values = [shared.write(0)]
+        values: list[int] = [shared.write(0)]
     elif kind == "map":
         values = [shared.remove(key) for key in range(KEYS)]
     else:
@@ -115,17 +118,17 @@ def left(shared, kind, diary):
     return fits and put_in == answered
 
 
-def main(kind, method, kills, makes_again):
-    context = multiprocessing.get_context(method)
+def main(kind: str, method: str, kills: int, makes_again: bool) -> bool:
+    context: Any = multiprocessing.get_context(method)
     name, diary = f"kill.{os.getpid()}", Diary(context)
-    made = {"counter": SharedCounter, "register": SharedRegister}.get(kind)
+    made: Any = {"counter": SharedCounter, "register": SharedRegister}.get(kind)
     if made:
         shared = made(name, seats=WORKERS + 1, create=True)
     else:
         shared = {"queue": SharedQueue, "map": SharedMap}[kind](name, CAPACITY, seats=WORKERS + 1, create=True)
 
-    def start(p):
-        worker = context.Process(target=work, args=(shared, diary, kind, p, makes_again), daemon=True)
+    def start(p: int) -> BaseProcess:
+        worker: BaseProcess = context.Process(target=work, args=(shared, diary, kind, p, makes_again), daemon=True)
         worker.start()
         return worker
 
@@ -139,7 +142,7 @@ def main(kind, method, kills, makes_again):
                 time.sleep(0.001)  # most are killed once they make calls
             time.sleep(random.random() * 0.003)
             met += diary.recorded[p] != before
-            os.kill(workers[p].pid, signal.SIGKILL)
+            workers[p].kill()
             workers[p].join()
             workers[p] = start(p)
         still, before = WORKERS, list(diary.recorded)
@@ -148,7 +151,7 @@ def main(kind, method, kills, makes_again):
             time.sleep(0.01)
             still = sum(now == then < ROOM - 1 for now, then in zip(diary.recorded, before))
         for worker in workers:
-            os.kill(worker.pid, signal.SIGKILL)
+            worker.kill()
             worker.join()
         # the workers' last calls are ended, and counted
         for p in range(WORKERS):
@@ -165,19 +168,19 @@ def main(kind, method, kills, makes_again):
         return fits and wrong == 0 and still == 0
 
 
-def add_with_lock(value, told, p):
+def add_with_lock(value: Any, told: Any, p: int) -> None:
     while True:
         with value.get_lock():
             value.value += 1
         told[p] += 1
 
 
-def with_value(method, kills):
-    context = multiprocessing.get_context(method)
+def with_value(method: str, kills: int) -> bool:
+    context: Any = multiprocessing.get_context(method)
     value, told = context.Value(c_uint64, 0), context.RawArray(c_uint64, WORKERS)
 
-    def start(p):
-        worker = context.Process(target=add_with_lock, args=(value, told, p), daemon=True)
+    def start(p: int) -> BaseProcess:
+        worker: BaseProcess = context.Process(target=add_with_lock, args=(value, told, p), daemon=True)
         worker.start()
         return worker
 
@@ -186,7 +189,7 @@ def with_value(method, kills):
     for kill in range(kills):
         time.sleep(random.random() * 0.005)
         p = random.randrange(WORKERS)
-        os.kill(workers[p].pid, signal.SIGKILL)
+        workers[p].kill()
         workers[p].join()
         workers[p] = start(p)
         if kill % 10 == 9:
@@ -197,7 +200,7 @@ def with_value(method, kills):
                 break
     print(f"multiprocessing.Value with its lock, {method}: {seen}")
     for worker in workers:
-        os.kill(worker.pid, signal.SIGKILL)
+        worker.kill()
         worker.join()
     return True
 

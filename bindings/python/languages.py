@@ -16,11 +16,12 @@ from universal.shared import SharedCounter
 CALLS = 50_000
 
 
-def main(programs):
+def main(programs: list[str]) -> bool:
     seats = len(programs) + 1
-    with SharedCounter(f"languages.{os.getpid()}", seats=seats, create=True) as counter:
+    name = f"languages.{os.getpid()}"
+    with SharedCounter(name, seats=seats, create=True) as counter:
         counter.claim(seats - 1)
-        words = [counter.name, str(seats), str(CALLS)]
+        words = [name, str(seats), str(CALLS)]
         running = [subprocess.Popen([*shlex.split(program), *words]) for program in programs]
         mine = 0
         while any(program.poll() is None for program in running):

@@ -61,7 +61,8 @@ class Calls(unittest.TestCase):
         with Log.tally(1, 1) as log:
             seat = log.seat()
         self.assertEqual(seat.apply(4).reply, 0)
-        self.refuses(Fault.FULL, lambda: seat.apply(4))
+        self.refuses(Fault.SPENT, lambda: seat.apply(4))
+        self.assertIs(Fault.FULL, Fault.SPENT)
         self.assertRaises(ValueError, lambda: seat.apply(1 << 64))
         self.assertEqual(seat.finish(), [Entry(seq=2, process=0, nth=0, inv=4, reply=0)])
 

@@ -39,7 +39,8 @@ class Fault(IntEnum):
     BAD_COUNT = 1
     BAD_ROW = 2
     MEMORY = 3
-    FULL = 4
+    SPENT = 4
+    FULL = 4  # the same, by the name that it had until 0.3.0
     NO_SEAT = 5
     BUSY = 6
     WRONG_HANDLE = 7

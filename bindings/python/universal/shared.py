@@ -262,7 +262,7 @@ class _Shared(Calls):
         return list(seat.reply)
 
     def _applied(self, seat: _Seat, words: Sequence[int]) -> int:
-        seat.invocation[:] = words
+        seat.invocation[:] = list(words)
         reply, version = seat.reply, byref(seat.version)
         return int(_LIBRARY.universal_shared_apply(seat.at, seat.invocation, len(words), reply, len(reply), version))
 

@@ -9,7 +9,7 @@
 
 A call comes with a version: a number of the object's state, in which the call is. A seat has that of its latest call in
 `version`. Who is told a version, by whatever means, can follow it. A seat makes up to 2^50 calls; a further one raises
-`Refused`, with `FULL`.
+`Refused`, with `SPENT`.
 """
 
 from __future__ import annotations

@@ -1,6 +1,6 @@
 //! More threads than seats: a pool lends each seat to one thread at a time. It is the program of docs/bindings.md.
+use std::sync::mpsc::{channel, Receiver, Sender};
 use std::sync::Mutex;
-use std::sync::mpsc::{Receiver, Sender, channel};
 use std::thread::scope;
 use universal::small::{Counter, SmallSeat};
 

@@ -50,7 +50,7 @@ pub enum Fault {
     /// Memory was refused.
     Memory,
     /// The seat has made all its calls.
-    Full,
+    Spent,
     /// All seats are given out.
     NoSeat,
     /// Another handle has the log or the object.
@@ -82,13 +82,17 @@ pub enum Fault {
 }
 
 impl Fault {
+    /// [`Fault::Spent`], by the name that it had until 0.3.0: it is of no queue or map.
+    #[allow(non_upper_case_globals)]
+    pub const Full: Fault = Fault::Spent;
+
     fn of(status: u32) -> Result<(), Fault> {
         Err(match status {
             0 => return Ok(()),
             1 => Fault::BadCount,
             2 => Fault::BadRow,
             3 => Fault::Memory,
-            4 => Fault::Full,
+            4 => Fault::Spent,
             5 => Fault::NoSeat,
             6 => Fault::Busy,
             8 => Fault::BadTable,
@@ -119,7 +123,7 @@ impl fmt::Display for Fault {
             Fault::BadCount => "there aren't from 1 to 64 processes",
             Fault::BadRow => "there aren't from 1 to 4096 calls for each process",
             Fault::Memory => "memory was refused",
-            Fault::Full => "the seat has made all its calls",
+            Fault::Spent => "the seat has made all its calls",
             Fault::NoSeat => "all seats are given out",
             Fault::Busy => "another handle has the log or the object",
             Fault::WrongHandle => "the handle hasn't what the call is for",
@@ -270,7 +274,7 @@ impl Seat {
 
     /// A call.
     ///
-    /// Error: `Full`, and nothing is changed.
+    /// Error: `Spent`, and nothing is changed.
     pub fn apply(&mut self, inv: u64) -> Result<Reply, Fault> {
         self.handle.apply(inv)
     }

@@ -143,9 +143,9 @@ enum Word {
 /// has no result, or a place no word, the call ends; the functions whose names end in `_or` name a label to go on at instead.
 #[derive(Clone, Debug)]
 pub struct Program {
-    start: Vec<u64>,
-    invocation: u64,
-    reply: u64,
+    pub(crate) start: Vec<u64>,
+    pub(crate) invocation: u64,
+    pub(crate) reply: u64,
     code: Vec<[Word; 5]>,
     labels: Vec<Option<u64>>,
     taken: u64,
@@ -357,7 +357,8 @@ impl Program {
         self.code.iter().flatten().map(of).collect()
     }
 
-    /// The object for `n` processes. Its last state is its words.
+    /// The object for `n` processes. Its last state is its words. [`Shared`](crate::shared::Shared) has it among processes of the
+    /// operating system.
     pub fn open(&self, n: u64) -> Result<Small<kinds::Program>, ProgramFault> {
         let mut place = 0;
         let opened = Small::opened(self.start.len(), |object| {
@@ -407,7 +408,7 @@ arithmetic! {
 impl SmallSeat<kinds::Program> {
     /// A call with the words of an invocation, which writes those of the reply.
     ///
-    /// Errors: `BadWidth` where these aren't as many words as the program has; `Full` where the seat has made all its calls. After
+    /// Errors: `BadWidth` where these aren't as many words as the program has; `Spent` where the seat has made all its calls. After
     /// either nothing is changed.
     pub fn call(&mut self, invocation: &[u64], reply: &mut [u64]) -> Result<(), Fault> {
         self.apply_into(invocation, reply)

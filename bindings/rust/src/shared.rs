@@ -20,7 +20,8 @@
 //! The code of the objects is proved; this module and `universal_shared.c` are tested. A forked child has its parent's objects and
 //! none of its seats: a call by one is [`Spent`].
 
-pub use crate::small::kinds::{Book, Counter, Counters, Machine, Map, Queue, Register, Stack};
+use crate::program::Program;
+pub use crate::small::kinds::{Book, Counter, Counters, Machine, Map, Program as Own, Queue, Register, Stack};
 use crate::small::{calls, kinds, BookFault, Kind, PutFault, Spent};
 use crate::Fault;
 use std::error::Error;
@@ -41,6 +42,12 @@ struct RawKind {
     invocations: u32,
     next: *const u32,
     reply: *const u32,
+    code: *const u64,
+    count: usize,
+    start: *const u64,
+    words: usize,
+    invocation: u64,
+    answer: u64,
 }
 
 #[repr(C)]
@@ -245,16 +252,19 @@ impl<K: Kind> SharedSeat<K> {
         unsafe { universal_shared_made(self.at.as_ptr()) }
     }
 
-    fn apply<const REPLY: usize>(&mut self, invocation: &[u64]) -> Result<[u64; REPLY], Spent> {
-        let mut reply = [0; REPLY];
+    fn apply_into(&mut self, invocation: &[u64], reply: &mut [u64]) -> Result<(), Fault> {
         let (words, count) = (invocation.as_ptr(), invocation.len());
         // SAFETY: both slices are borrowed for the call, and so is the seat.
-        match unsafe {
-            universal_shared_apply(self.at.as_ptr(), words, count, reply.as_mut_ptr(), REPLY, &mut self.version)
-        } {
-            0 => Ok(reply),
-            _ => Err(Spent),
-        }
+        Fault::of(unsafe {
+            let (at, replies) = (reply.as_mut_ptr(), reply.len());
+            universal_shared_apply(self.at.as_ptr(), words, count, at, replies, &mut self.version)
+        })
+    }
+
+    fn apply<const REPLY: usize>(&mut self, invocation: &[u64]) -> Result<[u64; REPLY], Spent> {
+        let mut reply = [0; REPLY];
+        self.apply_into(invocation, &mut reply).map_err(|_| Spent)?;
+        Ok(reply)
     }
 }
 
@@ -295,7 +305,20 @@ made! {
 
 impl RawKind {
     fn of(object: u32, capacity: u32) -> RawKind {
-        RawKind { object, capacity, states: 0, invocations: 0, next: null(), reply: null() }
+        RawKind {
+            object,
+            capacity,
+            states: 0,
+            invocations: 0,
+            next: null(),
+            reply: null(),
+            code: null(),
+            count: 0,
+            start: null(),
+            words: 0,
+            invocation: 0,
+            answer: 0,
+        }
     }
 
     fn of_tables(tables: crate::Machine<'_>) -> Result<RawKind, SharedFault> {
@@ -304,7 +327,7 @@ impl RawKind {
         if next.len() != entries || reply.len() != entries {
             return Err(SharedFault::Object(Fault::BadTable));
         }
-        Ok(RawKind { object: 8, capacity: 0, states, invocations, next: next.as_ptr(), reply: reply.as_ptr() })
+        Ok(RawKind { states, invocations, next: next.as_ptr(), reply: reply.as_ptr(), ..RawKind::of(8, 0) })
     }
 }
 
@@ -317,5 +340,42 @@ impl Shared<kinds::Machine> {
     /// Attaches the machine of two tables that was made.
     pub fn attach(name: &Path, seats: u64, tables: crate::Machine<'_>) -> Result<Self, SharedFault> {
         Self::made(universal_shared_attach_named, Some(name), RawKind::of_tables(tables)?, seats)
+    }
+}
+
+impl Shared<Own> {
+    fn of(make: Make, name: Option<&Path>, seats: u64, program: &Program) -> Result<Self, SharedFault> {
+        let (code, start) = (program.words(), &program.start);
+        let kind = RawKind {
+            code: code.as_ptr(),
+            count: code.len() / 5,
+            start: start.as_ptr(),
+            words: start.len(),
+            invocation: program.invocation,
+            answer: program.reply,
+            ..RawKind::of(9, 0)
+        };
+        Self::made(make, name, kind, seats)
+    }
+
+    /// Makes the object of a program, whose invocation has at most 4 words and its reply at most 2 (`BadCapacity` else), for so many
+    /// seats, under a name, or with none for forked children alone.
+    pub fn create(name: Option<&Path>, seats: u64, program: &Program) -> Result<Self, SharedFault> {
+        Self::of(universal_shared_create_named, name, seats, program)
+    }
+
+    /// Attaches the object of this program that was made.
+    pub fn attach(name: &Path, seats: u64, program: &Program) -> Result<Self, SharedFault> {
+        Self::of(universal_shared_attach_named, Some(name), seats, program)
+    }
+}
+
+impl SharedSeat<Own> {
+    /// A call with the words of an invocation, which writes those of the reply.
+    ///
+    /// Errors: `BadWidth` where these aren't as many words as the program has; `Spent` where the seat has made all its calls;
+    /// `WrongHandle` where the process was forked from that which claimed it. After each nothing is changed.
+    pub fn call(&mut self, invocation: &[u64], reply: &mut [u64]) -> Result<(), Fault> {
+        self.apply_into(invocation, reply)
     }
 }

@@ -83,7 +83,8 @@ fn seats_come_from_the_greatest_process_and_end() {
 fn a_full_seat_changes_nothing() {
     let mut seats = Log::tally(1, 1).unwrap().into_seats().unwrap();
     assert_eq!(seats[0].apply(4).map(|answer| answer.reply), Ok(0));
-    assert_eq!(seats[0].apply(4), Err(Fault::Full));
+    assert_eq!(seats[0].apply(4), Err(Fault::Spent));
+    assert_eq!(Fault::Full, Fault::Spent);
     let calls = seats.pop().unwrap().close().unwrap();
     assert_eq!(calls.len(), 1);
     assert_eq!((calls[0].seq, calls[0].process, calls[0].nth, calls[0].inv, calls[0].reply()), (2, 0, 0, 4, Some(0)));

@@ -3,6 +3,7 @@ use std::num::NonZeroU64;
 use std::path::{Path, PathBuf};
 use std::process::{Command, Stdio};
 use std::{env, fs, io, process, thread, time};
+use universal::program::Program;
 use universal::shared::*;
 use universal::small::{BookFault, PutFault};
 use universal::Fault;
@@ -50,6 +51,45 @@ fn each_object() {
     let tables = universal::Machine { states: 2, invocations: 1, next: &[1, 0], reply: &[7, 8] };
     let mut machine = Shared::<Machine>::create(None, 1, tables).unwrap().claim(None).unwrap().0;
     assert_eq!([machine.call(0), machine.call(0)], [Ok(7), Ok(8)]);
+}
+
+/// An account of at most 100, which is answered whether its word was added, and the balance.
+fn account() -> Program {
+    let mut p = Program::new(&[40], 1, 2);
+    let (balance, amount) = (p.state(0), p.invocation(0));
+    p.answer(1, balance);
+    let total = p.add(balance, amount);
+    p.when(total.at_most(100), |p| {
+        p.store(0, total);
+        p.answer(0, 1);
+        p.answer(1, total);
+    });
+    p
+}
+
+#[test]
+fn programs() {
+    let named = Named(name("program"));
+    let made = Shared::<Own>::create(Some(&named.0), 2, &account()).unwrap();
+    let (mut one, mut reply) = (made.claim(Some(1)).unwrap().0, [9; 2]);
+    for (amount, answer) in [(60, [1, 100]), (1, [0, 100]), (u64::MAX, [0, 100])] {
+        assert_eq!((one.call(&[amount], &mut reply), reply), (Ok(()), answer));
+    }
+    assert_eq!(one.call(&[], &mut reply), Err(Fault::BadWidth));
+    assert_eq!((one.call(&[1], &mut [0]), one.made()), (Err(Fault::BadWidth), 3));
+    drop(one);
+    let (mut two, last) = Shared::<Own>::attach(&named.0, 2, &account()).unwrap().claim(Some(1)).unwrap();
+    assert_eq!((last.made, last.invocation[0], last.reply), (3, u64::MAX, [0, 100]));
+    assert_eq!((two.call(&[0], &mut reply), reply), (Ok(()), [1, 100]));
+    let mut other = account();
+    other.answer(0, 2);
+    assert!(matches!(Shared::<Own>::attach(&named.0, 2, &other), Err(SharedFault::OtherObject)));
+    for wide in [Program::new(&[], 5, 1), Program::new(&[], 1, 3), Program::new(&[], 1, 0)] {
+        assert!(matches!(Shared::<Own>::create(None, 1, &wide), Err(SharedFault::Object(Fault::BadCapacity))));
+    }
+    let mut bad = Program::new(&[], 1, 1);
+    bad.state(0);
+    assert!(matches!(Shared::<Own>::create(None, 1, &bad), Err(SharedFault::Object(Fault::NoPlace))));
 }
 
 #[test]

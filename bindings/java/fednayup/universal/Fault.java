@@ -57,6 +57,9 @@ public enum Fault {
     /** The seat has a living owner. */
     TAKEN;
 
+    /** {@link #FULL} by a better name: it is of no queue or map, but of a seat. */
+    public static final Fault SPENT = FULL;
+
     static Fault of(int status) {
         return switch (status) {
             case 20, 27 -> NOT_A_SEGMENT;

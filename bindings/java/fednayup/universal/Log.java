@@ -61,6 +61,7 @@ public final class Log implements AutoCloseable {
 
     /** The seat of the greatest process that has none yet. Refused: all are given out; memory. */
     public synchronized Seat seat() throws Refused {
+        handle.at(); // of a closed object nothing is made
         Handle seat = new Handle();
         try (Arena arena = Arena.ofConfined()) {
             MemorySegment process = arena.allocate(JAVA_LONG);

@@ -1,5 +1,6 @@
 package fednayup.universal;
 
+import static java.lang.foreign.ValueLayout.ADDRESS;
 import static java.lang.foreign.ValueLayout.JAVA_LONG;
 
 import java.lang.foreign.Arena;
@@ -311,18 +312,36 @@ public final class Program {
         here(past);
     }
 
+    private static MemorySegment words(Arena arena, long[] words) {
+        return arena.allocate(JAVA_LONG, Math.max(1, words.length)).copyFrom(MemorySegment.ofArray(words));
+    }
+
     private long[] words() {
         end.at = code.size();
         return code.stream().flatMap(Arrays::stream)
                 .mapToLong(word -> word instanceof Label label ? label.at : (long) word).toArray();
     }
 
+    /** The words by which {@code universal_shared_kind} names a program. */
+    void writeTo(MemorySegment kind, Arena arena) {
+        long[] words = words();
+        kind.set(ADDRESS, 0, words(arena, words));
+        kind.set(JAVA_LONG, 8, words.length / 5);
+        kind.set(ADDRESS, 16, words(arena, start));
+        kind.set(JAVA_LONG, 24, start.length);
+        kind.set(JAVA_LONG, 32, invocation);
+        kind.set(JAVA_LONG, 40, reply);
+    }
+
+    Small.Own seat(Small.Place place, long process) {
+        return new Small.Own(place, process, start.length, invocation, reply);
+    }
+
     /** The object for n processes. Refused: something of the program is wrong, as a {@link Bad}; n; memory. */
     public Small<Small.Own> open(long n) throws Refused {
         long[] words = words();
         try (Arena arena = Arena.ofConfined()) {
-            MemorySegment code = arena.allocate(JAVA_LONG, Math.max(1, words.length)).copyFrom(MemorySegment.ofArray(words));
-            MemorySegment first = arena.allocate(JAVA_LONG, Math.max(1, start.length)).copyFrom(MemorySegment.ofArray(start));
+            MemorySegment code = words(arena, words), first = words(arena, start);
             MemorySegment place = arena.allocate(JAVA_LONG);
             try {
                 return Small.Own.open(n, code, words.length, first, start.length, invocation, reply, place);

@@ -51,48 +51,54 @@ public final class Shared<S extends Small.Seat> implements AutoCloseable {
     public static final class Kind<S extends Small.Seat> {
         private final int object, capacity;
         private final Universal.Tables tables;
+        private final Program program;
         private final Small.Seats<S> seats;
 
-        private Kind(int object, int capacity, Universal.Tables tables, Small.Seats<S> seats) {
+        private Kind(int object, int capacity, Universal.Tables tables, Program program, Small.Seats<S> seats) {
             this.object = object;
             this.capacity = capacity;
             this.tables = tables;
+            this.program = program;
             this.seats = seats;
+        }
+
+        private Kind(int object, int capacity, Small.Seats<S> seats) {
+            this(object, capacity, null, null, seats);
         }
 
         /** A counter. */
         public static Kind<Small.Counter> counter() {
-            return new Kind<>(1, 0, null, Small.Counter::new);
+            return new Kind<>(1, 0, Small.Counter::new);
         }
 
         /** A register. */
         public static Kind<Small.Register> register() {
-            return new Kind<>(2, 0, null, Small.Register::new);
+            return new Kind<>(2, 0, Small.Register::new);
         }
 
         /** So many counters. */
         public static Kind<Small.Counters> counters(int count) {
-            return new Kind<>(3, count, null, Small.Counters::new);
+            return new Kind<>(3, count, Small.Counters::new);
         }
 
         /** A queue of this capacity. */
         public static Kind<Small.Queue> queue(int capacity) {
-            return new Kind<>(4, capacity, null, Small.Queue::new);
+            return new Kind<>(4, capacity, Small.Queue::new);
         }
 
         /** A stack of this capacity. */
         public static Kind<Small.Stack> stack(int capacity) {
-            return new Kind<>(5, capacity, null, Small.Stack::new);
+            return new Kind<>(5, capacity, Small.Stack::new);
         }
 
         /** A map of this capacity. */
         public static Kind<Small.Map> map(int capacity) {
-            return new Kind<>(6, capacity, null, Small.Map::new);
+            return new Kind<>(6, capacity, Small.Map::new);
         }
 
         /** A book. */
         public static Kind<Small.Book> book() {
-            return new Kind<>(7, 0, null, Small.Book::new);
+            return new Kind<>(7, 0, Small.Book::new);
         }
 
         /** The machine of two tables. */
@@ -101,11 +107,19 @@ public final class Shared<S extends Small.Seat> implements AutoCloseable {
             if (tables.nexts() != tables.replies()) {
                 throw new Refused(Fault.BAD_TABLE);
             }
-            return new Kind<>(8, 0, tables, Small.Machine::new);
+            return new Kind<>(8, 0, tables, null, Small.Machine::new);
+        }
+
+        /**
+         * The object of a program. It is refused as it is made, where {@link Program#open} refuses it, without the number of the
+         * instruction, and where an invocation has more than 4 words or a reply more than 2.
+         */
+        public static Kind<Small.Own> program(Program program) {
+            return new Kind<>(9, 0, null, program, (place, process, width) -> program.seat(place, process));
         }
 
         private MemorySegment in(Arena arena) {
-            MemorySegment words = arena.allocate(32, 8);
+            MemorySegment words = arena.allocate(80, 8);
             words.set(JAVA_INT, 0, object);
             words.set(JAVA_INT, 4, capacity);
             if (tables != null) {
@@ -113,6 +127,9 @@ public final class Shared<S extends Small.Seat> implements AutoCloseable {
                 words.set(JAVA_INT, 12, tables.invocations());
                 words.set(ADDRESS, 16, tables.next());
                 words.set(ADDRESS, 24, tables.reply());
+            }
+            if (program != null) {
+                program.writeTo(words.asSlice(32), arena);
             }
             return words;
         }

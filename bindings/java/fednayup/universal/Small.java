@@ -94,6 +94,7 @@ public final class Small<S extends Small.Seat> implements AutoCloseable {
 
     /** The seat of the greatest process that has none yet. Refused: all are given out; memory. */
     public synchronized S seat() throws Refused {
+        handle.at(); // of a closed object nothing is made
         Handle seat = new Handle();
         try (Arena arena = Arena.ofConfined()) {
             MemorySegment process = arena.allocate(JAVA_LONG);
@@ -450,7 +451,7 @@ public final class Small<S extends Small.Seat> implements AutoCloseable {
     public static final class Own extends Seat {
         private final int asks, answers;
 
-        private Own(Place place, long process, int width, int asks, int answers) {
+        Own(Place place, long process, int width, int asks, int answers) {
             super(place, process, width, asks, answers);
             this.asks = asks;
             this.answers = answers;
