@@ -2,6 +2,7 @@
 
 import copy
 import queue
+import threading
 import unittest
 
 from universal import Fault, Log, Refused
@@ -29,6 +30,24 @@ class Calls(unittest.TestCase):
         self.assertEqual([counters.add(2, 8), counters.add(2, 1)], [0, 8])
         self.assertRaises(IndexError, lambda: counters.add(3, 1))
         self.assertEqual(counters.finish(), [0, 0, 9])
+
+    def test_waiting_for_a_number(self):
+        """A permit for each number that is in: so none finds the queue empty."""
+        with Queue.open(4, 1000) as opened:
+            seats = opened.seats()
+        ready, taken = threading.Semaphore(0), []
+
+        def work(seat):
+            for number in range(1, 501):
+                if seat.process < 2:
+                    seat.put(number)
+                    ready.release()
+                else:
+                    ready.acquire()
+                    taken.append(seat.take())
+
+        self.assertEqual(in_threads(seats, work), [])
+        self.assertEqual(sorted(taken), sorted([*range(1, 501)] * 2))
 
     def test_register(self):
         register = only_seat(Register.open(1))
