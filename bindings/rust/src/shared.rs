@@ -22,7 +22,7 @@
 
 use crate::program::Program;
 pub use crate::small::kinds::{Book, Counter, Counters, Machine, Map, Program as Own, Queue, Register, Stack};
-use crate::small::{calls, kinds, BookFault, Kind, PutFault, Spent};
+use crate::small::{calls, kinds, BookFault, CounterFault, Kind, PutFault, Spent};
 use crate::Fault;
 use std::error::Error;
 use std::ffi::{c_char, c_void, CString};
@@ -171,6 +171,7 @@ pub struct Last {
 #[derive(Debug)]
 pub struct Shared<K> {
     at: NonNull<c_void>,
+    capacity: u32,
     kind: PhantomData<fn() -> K>,
 }
 
@@ -189,7 +190,8 @@ impl<K: Kind> Shared<K> {
         let mut at = null_mut();
         // SAFETY: the name and the tables are borrowed for the call.
         SharedFault::of(unsafe { make(name.as_ref().map_or(null(), |name| name.as_ptr()), &kind, seats, &mut at) })?;
-        Ok(Shared { at: NonNull::new(at).expect("a segment that was made is somewhere"), kind: PhantomData })
+        let at = NonNull::new(at).expect("a segment that was made is somewhere");
+        Ok(Shared { at, capacity: kind.capacity, kind: PhantomData })
     }
 
     /// Claims the seat of this number, or any that has no living owner, and tells what calls its owners made.
@@ -200,7 +202,8 @@ impl<K: Kind> Shared<K> {
             universal_shared_claim(self.at.as_ptr(), process.map_or(-1, i64::from), &mut at, &mut last)
         })?;
         let at = NonNull::new(at).expect("a seat that was claimed is somewhere");
-        let seat = SharedSeat { at, process: last.process, version: last.version, kind: PhantomData };
+        let (process, version) = (last.process, last.version);
+        let seat = SharedSeat { at, capacity: self.capacity, process, version, kind: PhantomData };
         let was = [Was::New, Was::Released, Was::Died][last.was.min(2) as usize];
         let next = (last.is_next != 0).then_some(last.next);
         let RawLast { made, ended, version, invocation, reply, .. } = last;
@@ -226,6 +229,7 @@ pub fn unlink(name: impl AsRef<Path>) -> Result<(), SharedFault> {
 #[derive(Debug)]
 pub struct SharedSeat<K> {
     at: NonNull<c_void>,
+    capacity: u32,
     process: u64,
     version: u64,
     kind: PhantomData<fn() -> K>,
@@ -250,6 +254,11 @@ impl<K: Kind> SharedSeat<K> {
     pub fn made(&self) -> u64 {
         // SAFETY: the seat is claimed as long as this is there.
         unsafe { universal_shared_made(self.at.as_ptr()) }
+    }
+
+    /// How many counters it has, where it is of an array of them.
+    fn count(&self) -> u64 {
+        self.capacity.into()
     }
 
     fn apply_into(&mut self, invocation: &[u64], reply: &mut [u64]) -> Result<(), Fault> {

@@ -148,6 +148,32 @@ impl fmt::Display for PutFault {
 
 impl Error for PutFault {}
 
+/// Why nothing was added to a counter of an array. Nothing is changed.
+#[derive(Clone, Copy, Debug, PartialEq, Eq)]
+pub enum CounterFault {
+    /// There is no counter at this index.
+    NoCounter,
+    /// The seat has made all the calls that it can make.
+    Spent,
+}
+
+impl From<Spent> for CounterFault {
+    fn from(_: Spent) -> CounterFault {
+        CounterFault::Spent
+    }
+}
+
+impl fmt::Display for CounterFault {
+    fn fmt(&self, out: &mut fmt::Formatter<'_>) -> fmt::Result {
+        match self {
+            CounterFault::NoCounter => out.write_str("there is no counter at this index"),
+            CounterFault::Spent => Spent.fmt(out),
+        }
+    }
+}
+
+impl Error for CounterFault {}
+
 /// Why a book is as it was.
 #[derive(Clone, Copy, Debug, PartialEq, Eq)]
 pub enum BookFault {
@@ -308,6 +334,11 @@ impl<K: Kind> SmallSeat<K> {
         self.held.close::<K>().ok_or(Busy(self))
     }
 
+    /// How many counters it has, where it is of an array of them.
+    fn count(&self) -> u64 {
+        self.held.width as u64
+    }
+
     pub(crate) fn apply_into(&mut self, invocation: &[u64], reply: &mut [u64]) -> Result<(), Fault> {
         self.version = self.held.handle.small_apply_into(invocation, reply)?;
         Ok(())
@@ -421,9 +452,12 @@ macro_rules! calls {
         }
 
         impl $seat<kinds::Counters> {
-            /// Adds a number to the counter at an index: the sum before. Where there is none, nothing is changed, and that is 0.
-            pub fn add(&mut self, index: u64, number: u64) -> Result<u64, Spent> {
-                self.ask(&[index, number])
+            /// Adds a number to the counter at an index: the sum before.
+            pub fn add(&mut self, index: u64, number: u64) -> Result<u64, CounterFault> {
+                if index >= self.count() {
+                    return Err(CounterFault::NoCounter);
+                }
+                Ok(self.ask(&[index, number])?)
             }
         }
 

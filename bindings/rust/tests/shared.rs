@@ -5,7 +5,7 @@ use std::process::{Command, Stdio};
 use std::{env, fs, io, process, thread, time};
 use universal::program::Program;
 use universal::shared::*;
-use universal::small::{BookFault, PutFault};
+use universal::small::{BookFault, CounterFault, PutFault};
 use universal::Fault;
 
 fn name(of: &str) -> PathBuf {
@@ -33,7 +33,10 @@ fn each_object() {
     let mut register = Shared::<Register>::create(None, 1).unwrap().claim(None).unwrap().0;
     assert_eq!([register.write(7), register.compare_exchange(3, 9), register.read()], [Ok(0), Ok(7), Ok(7)]);
     let mut counters = Shared::<Counters>::create(None, 1, 3).unwrap().claim(None).unwrap().0;
-    assert_eq!([counters.add(2, 8), counters.add(2, 1), counters.add(3, 1)], [Ok(0), Ok(8), Ok(0)]);
+    assert_eq!(
+        [counters.add(2, 8), counters.add(2, 1), counters.add(3, 1)],
+        [Ok(0), Ok(8), Err(CounterFault::NoCounter)]
+    );
     let mut queue = Shared::<Queue>::create(None, 1, 2).unwrap().claim(None).unwrap().0;
     assert_eq!(
         [queue.put(number(8)), queue.put(number(9)), queue.put(number(7))],

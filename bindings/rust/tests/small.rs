@@ -1,7 +1,8 @@
 //! Small objects: each call on its happy path, each refusal, and what its types keep.
 use std::num::NonZeroU64;
 use universal::small::{
-    Book, BookFault, Busy, Counter, Counters, Machine, Map, PutFault, Queue, Register, Small, SmallSeat, Stack,
+    Book, BookFault, Busy, Counter, CounterFault, Counters, Machine, Map, PutFault, Queue, Register, Small, SmallSeat,
+    Stack,
 };
 use universal::{Fault, Machine as Tables};
 
@@ -21,7 +22,10 @@ fn counters_answer_the_sum_before() {
     assert_eq!([counter.add(5), counter.add(u64::MAX), counter.add(0)], [Ok(0), Ok(5), Ok(4)]);
     assert_eq!(counter.close().unwrap(), 4);
     let mut counters = only_seat!(Counters::open(1, 3));
-    assert_eq!([counters.add(2, 8), counters.add(2, 1), counters.add(3, 1)], [Ok(0), Ok(8), Ok(0)]);
+    assert_eq!(
+        [counters.add(2, 8), counters.add(2, 1), counters.add(3, 1)],
+        [Ok(0), Ok(8), Err(CounterFault::NoCounter)]
+    );
     assert_eq!(counters.close().unwrap(), [0, 0, 9]);
 }
 
