@@ -10,6 +10,9 @@
 A call comes with a version: a number of the object's state, in which the call is. A seat has that of its latest call in
 `version`. Who is told a version, by whatever means, can follow it. A seat makes up to 2^50 calls; a further one raises
 `Refused`, with `SPENT`.
+
+A call copies the whole state, so its time is that of the capacity, also while the object is empty: in C 0.3 microseconds of
+processor time with 1 word, 0.7 with 64, 6.5 with 1,024 and 390 with 65,535 (docs/measured.md), and here some 8 more.
 """
 
 from __future__ import annotations
@@ -144,7 +147,7 @@ class Counters(CountersCalls, _Seat[list[int]]):
 
     @classmethod
     def open(cls, n: int, count: int) -> Small[Counters, list[int]]:
-        """So many counters for n processes.
+        """So many counters for n processes. A call's time is that of so many words.
 
         Raises `Refused`: n isn't from 1 to 64; there are more than 65,536 counters; memory was refused.
         """
@@ -162,7 +165,7 @@ class Queue(QueueCalls, _Row):
 
     @classmethod
     def open(cls, n: int, capacity: int) -> Small[Queue, list[int]]:
-        """A queue of at most `capacity` numbers for n processes.
+        """A queue of at most `capacity` numbers for n processes. A call's time is that of 1 + capacity words.
 
         Raises `Refused`: n isn't from 1 to 64; capacity is more than 65,535; memory was refused.
         """
@@ -174,7 +177,7 @@ class Stack(StackCalls, _Row):
 
     @classmethod
     def open(cls, n: int, capacity: int) -> Small[Stack, list[int]]:
-        """A stack of at most `capacity` numbers for n processes. Raises as `Queue.open`."""
+        """A stack of at most `capacity` numbers for n processes. Time and `Refused` are as of `Queue.open`."""
         return Small._open(cls, 1 + capacity, _LIBRARY.universal_open_stack, _number(n, 64), _number(capacity, 32))
 
 
@@ -183,7 +186,7 @@ class Map(MapCalls, _Seat[dict[int, int]]):
 
     @classmethod
     def open(cls, n: int, capacity: int) -> Small[Map, dict[int, int]]:
-        """A map of at most `capacity` keys for n processes.
+        """A map of at most `capacity` keys for n processes. A call's time is that of 1 + 2 * capacity words.
 
         Raises `Refused`: n isn't from 1 to 64; capacity is more than 32,767; memory was refused.
         """
