@@ -17,6 +17,9 @@
 #include <sys/wait.h>
 #include <unistd.h>
 
+/* What the wrappers of Rust, Python and Java hand in, and read. */
+_Static_assert(sizeof(universal_shared_kind) == 80 && sizeof(universal_shared_last) == 128, "as many bytes as there");
+
 enum { HEAD = 112 };
 
 static const universal_shared_kind map = {.object = UNIVERSAL_SHARED_MAP, .capacity = 100};

@@ -1,5 +1,6 @@
 """Objects that processes share: each call, each refusal, forks, spawned processes, threads, and kills: python3 -m unittest"""
 
+import ctypes
 import errno
 import gc
 import multiprocessing
@@ -10,7 +11,7 @@ import signal
 import threading
 import unittest
 
-from universal import Fault, Refused
+from universal import Fault, Refused, shared
 from universal.program import Program
 from universal.shared import Full, Last, Over, SharedBook, SharedCounter, SharedCounters, SharedMachine, SharedMap
 from universal.shared import SharedProgram, SharedQueue, SharedRegister, SharedStack, Short, Was, unlink
@@ -82,6 +83,9 @@ class Calls(unittest.TestCase):
             self.assertRaises(Short, lambda: book.transfer(3, 4, 10))
         with SharedMachine(None, [[1], [0]], [[7], [8]], seats=1, create=True) as machine:
             self.assertEqual([machine.call(0), machine.call(0), machine.call(0)], [7, 8, 7])
+
+    def test_layouts(self):
+        self.assertEqual((ctypes.sizeof(shared._Kind), ctypes.sizeof(shared._Last)), (80, 128))
 
     def test_programs(self):
         p = Program([40], invocation=1, reply=2)  # an account of at most 100

@@ -64,6 +64,8 @@ struct RawLast {
     next: [u64; 4],
 }
 
+const _: () = assert!(size_of::<RawKind>() == 80 && size_of::<RawLast>() == 128);
+
 type Make = unsafe extern "C" fn(name: *const c_char, kind: &RawKind, n: u64, segment: &mut *mut c_void) -> u32;
 
 extern "C" {
