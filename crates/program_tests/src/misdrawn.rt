@@ -67,6 +67,14 @@ enum Wrong {
     BarIsEmpty,
     /// All rows lie on one spot.
     RowsOnOneSpot,
+    /// A row has no height.
+    RowIsFlat,
+    /// A row is too low for its lowest lane.
+    RowCutsALane,
+    /// The first row begins after the first events, and the strip is said to begin there.
+    StripBeginsLate,
+    /// Paper lies over a row, and over nothing that stands before it.
+    RowUnderPaper,
     /// Paper lies over the strip.
     StripUnderPaper,
     /// Paper lies over the whole picture.
@@ -109,6 +117,8 @@ fn spoil_shape(alloc: Global, wrong: Wrong, shape: &mut Shape) -> Result<(), All
         (Wrong::BarEndsEarly, Shape::Rect(_, width, _, Paint::Frame)) => *width /= 2,
         (Wrong::BarIsEmpty, Shape::Rect(_, width, _, Paint::Frame)) => *width = 0,
         (Wrong::RowsOnOneSpot, Shape::View(at, _, _, _)) => at.y = 0,
+        (Wrong::RowIsFlat, Shape::View(_, _, height, _)) => *height = 0,
+        (Wrong::RowCutsALane, Shape::View(_, _, height, _)) => *height = height.saturating_sub(LANE),
         (Wrong::LabelLies, Shape::Text(_, _, _, text)) => *text = lie(alloc)?,
         (Wrong::StepBefore, Shape::Titled(at, _, _, _, _)) => *at = at.back(20, 0),
         (Wrong::RefusalLate, Shape::Line(from, to, Paint::Cross)) => {
@@ -141,6 +151,28 @@ fn paper(width: u64, height: u64) -> Shape {
     Shape::Rect(Spot { x: 0, y: 0 }, width, height, Paint::Paper)
 }
 
+/// Lets the rows begin so much further right in the strip.
+fn begin_late(drawn: &mut Drawn, by: u64) {
+    drawn.start = drawn.start.saturating_add(by);
+    for shape in &mut drawn.drawing.shapes {
+        if let Shape::View(_, width, _, left) = shape {
+            *left = left.saturating_add(by);
+            *width = width.saturating_sub(by);
+            return;
+        }
+    }
+}
+
+/// Paper over the first row alone.
+fn paper_over_row(shapes: &[Shape]) -> Shape {
+    for shape in shapes {
+        if let Shape::View(at, width, height, _) = shape {
+            return Shape::Rect(*at, *width, *height, Paint::Paper);
+        }
+    }
+    paper(0, 0)
+}
+
 /// Makes a drawing wrong where no single shape is.
 fn spoil_order(alloc: Global, wrong: Wrong, drawn: &mut Drawn) -> Result<(), AllocError> {
     let first = drawn.boxes.0;
@@ -167,6 +199,11 @@ fn spoil_order(alloc: Global, wrong: Wrong, drawn: &mut Drawn) -> Result<(), All
             let over = paper(drawn.drawing.width, drawn.drawing.height);
             drawn.drawing.shapes.push(over)?;
         }
+        Wrong::StripBeginsLate => begin_late(drawn, 100),
+        Wrong::RowUnderPaper => {
+            let over = paper_over_row(&drawn.drawing.shapes);
+            drawn.drawing.shapes.push(over)?;
+        }
         Wrong::Outside => drawn.drawing.width = 500,
         Wrong::Title => drawn.drawing.title = lie(alloc)?,
         _ => {}
@@ -186,7 +223,7 @@ fn is_misdrawn(alloc: Global, wrong: Wrong) -> Result<bool, Fail> {
 }
 
 /// Each way in which a drawing is made wrong.
-const ALL: [Wrong; 22] = [
+const ALL: [Wrong; 26] = [
     Wrong::DotInAnotherLane,
     Wrong::DotTwice,
     Wrong::LeftOut,
@@ -205,6 +242,10 @@ const ALL: [Wrong; 22] = [
     Wrong::BarEndsEarly,
     Wrong::BarIsEmpty,
     Wrong::RowsOnOneSpot,
+    Wrong::RowIsFlat,
+    Wrong::RowCutsALane,
+    Wrong::StripBeginsLate,
+    Wrong::RowUnderPaper,
     Wrong::StripUnderPaper,
     Wrong::AllUnderPaper,
     Wrong::Outside,

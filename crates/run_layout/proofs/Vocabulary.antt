@@ -1,10 +1,11 @@
 -- The names that the proofs of this crate share.
+pub use Rattle.run_layout.specs.Axis.{is_between, lanes_between, most_from}
 pub use Rattle.run_layout.specs.Choice.{all_events, bar_in, chosen, chosen_remarks, count_in, dot_in, end_in, era_in, is_bar_in, is_by, is_heading, is_in, line_in, links_outside, meets, step_in}
 pub use Rattle.run_layout.specs.Marked.{arrow_signs, at, bar_sign, dot_sign, line_sign, new_names, refusal_signs, sign_shown, step_sign, text_signs}
 unfoldable pub use Rattle.run_layout.specs.Marked.{names_from}
 pub use Rattle.run_layout.specs.Subject.{HasMoreEvents, HasTooManyEvents, IsSubject, IsSubjectOf, events_of_record, marks_of_own, marks_of_record, marks_of_session}
 unfoldable pub use Rattle.run_layout.specs.Subject.{marks_of_events}
-pub use Rattle.run_layout.specs.Vocabulary.{Called, Cell, Dot, End, EraLine, EraMarks, Event, Kind, PlacedRemark, Queue, Range, RunMarks, ScriptRecord, ScriptSession, SpokenObject, StepMark, bar_shown, cell_shown, era_shown, events_shown, filter, find, flat_map, list_any, marks_shown, option_map_or, own_scripts_of, remark_at, remarks_of_script, scripts_of, spoken}
+pub use Rattle.run_layout.specs.Vocabulary.{Called, Cell, Dot, End, EraLine, EraMarks, Event, Kind, PlacedRemark, Queue, Range, RunMarks, ScriptRecord, ScriptSession, SpokenObject, StepMark, Stretch, bar_shown, cell_shown, era_shown, events_shown, filter, find, flat_map, list_any, marks_shown, option_map_or, own_scripts_of, remark_at, remarks_of_script, scripts_of, spoken}
 pub use Rattle.run_layout.specs.Wording.{after_space, fitting_len, is_help, label_after, labels_of, last_space, linker_text, name_text, times_after, told_shown}
 unfoldable pub use Rattle.run_layout.specs.Wording.{labels_from, lines_of}
 pub use Rattle.run_layout.specs.declared.marked.Mark.TheVariants.{Name}

@@ -2,6 +2,7 @@
 pub use Rattle.ready_objects.specs.Directory.{pairs_text}
 pub use Rattle.ready_objects.specs.Number.{numbers_text}
 pub use Rattle.ready_objects.specs.Sticky.{sticky_text}
+pub use Rattle.run_layout.specs.declared.axis.Stretch.{Stretch}
 pub use Rattle.run_layout.specs.declared.choice.Range.{Range}
 pub use Rattle.run_layout.specs.declared.marked.Mark.{Mark}
 pub use Rattle.run_layout.specs.declared.refusals.Told.{Told}

@@ -1,10 +1,11 @@
 //! Where each event and each refusal stands from left to right, and each process from the top down: as far as numbers
 //! go.
 
-ghost use Rattle.std.specs.Prelude.{◌≤◌};
+ghost use Rattle.std.specs.Prelude.{◌≡◌, ◌≤◌};
+ghost use Rattle.run_layout.specs.Axis.{is_between, lanes_between};
 
 use crate::refusals::{Told, told_of};
-use crate::wording::{label_of, line_of};
+use crate::wording::{counts_of, label_of, line_of};
 use run_replay::{Bar, Era, Marks};
 use signs::{Edge, Layout, Span};
 use std::alloc::{AllocError, Global};
@@ -58,15 +59,28 @@ pub struct Stretch {
     pub lanes: u64,
 }
 
+impl Stretch {
+    /// Whether it is there from a place on and before another.
+    fn is_between(&self, from: u64, to: u64) -> bool
+        ensures { result ≡ is_between from to self.now }
+    {
+        self.from < to && from < self.to
+    }
+}
+
 /// The most lanes of an era that is there from a place on and before another, 64 at most.
+#[tactic(auto, using(crate::proofs::Lanes::one_era_on))]
 pub fn lanes_between(stretches: &[Stretch], from: u64, to: u64) -> u64
-    ensures { result ≤ 64 }
+    ensures few { result ≤ 64 }
+    ensures most { result ≡ lanes_between stretches.now from to }
 {
-    let there = stretches
-        .iter()
-        .filter(|stretch| stretch.from < to && from < stretch.to);
-    let lanes = there.map(|stretch| stretch.lanes).max();
-    lanes.unwrap_or(0).min(MOST_LANES)
+    let mut most = 0;
+    for stretch in stretches {
+        if stretch.is_between(from, to) {
+            most = stretch.lanes.max(most);
+        }
+    }
+    most.min(MOST_LANES)
 }
 
 /// The columns of a run.
@@ -136,15 +150,24 @@ fn told_room(told: &Told, scale: Scale) -> u64 {
     }
 }
 
-/// How wide the column of a call is: its bar takes its label, and each further event of it has the room of a step.
-fn bar_room(alloc: Global, bar: &Bar, events: u64, scale: Scale) -> Result<u64, AllocError> {
+/// How wide the bar of a call is at least: it takes its label, and its counts where it has returned.
+fn texts_room(alloc: Global, bar: &Bar, scale: Scale) -> Result<u64, AllocError> {
     let label = label_room(&label_of(alloc, bar)?, scale);
+    match &bar.end {
+        Some(end) => Ok(label_room(&counts_of(alloc, end)?, scale).max(label)),
+        None => Ok(label),
+    }
+}
+
+/// How wide the column of a call is: its bar takes its texts, and each further event of it has the room of a step.
+fn bar_room(alloc: Global, bar: &Bar, events: u64, scale: Scale) -> Result<u64, AllocError> {
     let last = match &bar.end {
         Some(end) => end.event.min(events),
         None => events.saturating_sub(1),
     };
     let rest = last.saturating_sub(bar.from);
-    Ok(label.saturating_sub(rest.saturating_mul(scale.step)))
+    let texts = texts_room(alloc, bar, scale)?;
+    Ok(texts.saturating_sub(rest.saturating_mul(scale.step)))
 }
 
 /// How wide the column of an event is: that of a step, but so wide that it takes the label of each bar that

@@ -1,18 +1,21 @@
 -- What a picture of marks shows, and the picture of a script.
 use Rattle.std.specs.Prelude.{◌≡◌, ℕ, [], List, map, take, drop, Option}
-use Rattle.run_picture.specs.Vocabulary.{flat_map, Drawing, svg_text, Places, AreApart, AreInSight, AreShown, AreWithin, Fills, Meaning, outline_of, PlacedRemark, RunMarks, signs_of, title_text, Kind, scripts_of, Range, chosen, chosen_remarks, marks_of_session, IsSubjectOf}
+use Rattle.run_picture.specs.Vocabulary.{flat_map, Drawing, svg_text, Places, AreApart, AreClear, AreFrom, AreHighEnough, AreInSight, AreShown, AreWithin, Fills, Meaning, outline_of, PlacedRemark, RunMarks, signs_of, title_text, Kind, scripts_of, Range, chosen, chosen_remarks, marks_of_session, IsSubjectOf}
 use Rattle.run_picture.specs.Parts.{parts_of, eras_from}
 
 -- the strip of a picture has these shapes, each once and in order, in the columns of its events and the lanes of its processes, and
--- no other that tells something; none is hidden or passes its edges, and the views show all of it, one part after the other, each below the
--- one before it
+-- no other that tells something; none is hidden or passes its edges. The views show all of it, one part after the other, each as high as
+-- what it shows; and what is drawn after a view lies below it.
 pub record IsStripOf (places : Places) (parts : List Meaning) (picture : Drawing) : Type 0 where
   pub apart : AreApart places
   pub shown : AreShown places parts (map outline_of picture.strip.items)
   pub in_sight : AreInSight picture.strip.items
-  pub inside : AreWithin places.width places.height picture.strip.items
+  pub within : AreWithin places.width places.height picture.strip.items
   pub start : ℕ
-  pub rows : Fills start 0 places.width picture.shapes.items
+  pub inside : AreFrom start picture.strip.items
+  pub rows : Fills start places.width picture.shapes.items
+  pub high : AreHighEnough picture.strip.items picture.shapes.items
+  pub clear : AreClear picture.shapes.items
 
 -- these shapes stand in it below the rows, one after the other
 pub record HasBoxes (parts : List Meaning) (picture : Drawing) : Type 0 where

@@ -8,7 +8,7 @@ pub use Rattle.run_layout.specs.declared.marked.Mark.{Mark}
 pub use Rattle.run_replay.specs.Marks.{Cell, EraMarks, RunMarks}
 pub use Rattle.run_replay.specs.Marks.{cell_shown, era_shown, marks_shown}
 pub use Rattle.run_replay.specs.declared.marks.Dot.{Dot}
-pub use Rattle.signs.specs.Signs.{AreApart, AreInSight, AreShown, AreWithin, Fills, Meaning, Places, meaning, outline_of, places_shown}
+pub use Rattle.signs.specs.Signs.{AreApart, AreClear, AreFrom, AreHighEnough, AreInSight, AreShown, AreWithin, Fills, Meaning, Places, meaning, outline_of, places_shown}
 pub use Rattle.signs.specs.declared.sign.Look.{Look}
 pub use Rattle.std.specs.Fmt.{decimal}
 pub use Rattle.std.specs.List.{flat_map}

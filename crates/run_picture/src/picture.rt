@@ -11,12 +11,14 @@ use crate::sheet::{Drawn, draw};
 use ready_objects::Spoken;
 use run_layout::{PictureFault, Range, Subject, signs_of, subject_of, subject_of_object, title_of};
 use run_replay::Marks;
-use signs::{Layout, Part, are_in_sight, are_shown, are_within, fill};
+use signs::{
+    Layout, Part, are_clear, are_from, are_high_enough, are_in_sight, are_shown, are_within, fill,
+};
 use std::alloc::Global;
 use svg_text::{Drawing, svg_of};
 use uni_script::{PlacedRemark, TextIn};
 
-/// Whether the strip of a drawing has these shapes, and the views show all of it from a place on.
+/// Whether the strip of a drawing has these shapes from a place on, and the views show all of it.
 fn is_strip(layout: &Layout, start: u64, parts: &[Part], drawing: &Drawing) -> bool
     ensures { IsTrue result → IsStripOf (places_shown layout.now) (map meaning parts.now) drawing.now }
 {
@@ -24,7 +26,10 @@ fn is_strip(layout: &Layout, start: u64, parts: &[Part], drawing: &Drawing) -> b
         && are_shown(layout, parts, &drawing.strip)
         && are_in_sight(&drawing.strip)
         && are_within(layout.width, layout.height, &drawing.strip)
+        && are_from(start, &drawing.strip)
         && fill(start, layout.width, &drawing.shapes)
+        && are_high_enough(&drawing.strip, &drawing.shapes)
+        && are_clear(&drawing.shapes)
 }
 
 /// Whether these shapes of a drawing are these boxes.

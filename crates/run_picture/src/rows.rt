@@ -88,7 +88,8 @@ pub fn push_row(
         sheet.push_text(at, name_of(sheet.alloc, process)?)?;
     }
     let width = row.to.saturating_sub(row.from);
-    let height = lane_top(lanes_between(stretches, row.from, row.to.saturating_add(1)));
+    let (before, after) = (row.from.saturating_sub(1), row.to.saturating_add(1));
+    let height = lane_top(lanes_between(stretches, before, after));
     sheet.push(Shape::View(sheet.below(START, 0), width, height, row.from))?;
     sheet.move_down(height);
     Ok(())

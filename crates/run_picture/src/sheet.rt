@@ -73,7 +73,7 @@ pub fn draw(alloc: Global, marks: &Marks, remarks: &[PlacedRemark]) -> Result<Dr
     let rows = rows_of(alloc, &labels_of(alloc, &signs, remarks, &axis)?, &axis)?;
     let mut strip = Sheet::of_width(alloc, axis.layout.width);
     push_eras(&mut strip, &stretches)?;
-    push_signs(&mut strip, &axis.layout, signs, SCALE.start)?;
+    push_signs(&mut strip, &axis.layout, &stretches, signs, SCALE.start)?;
     let mut sheet = Sheet::of_width(alloc, width_of(&axis));
     let at = sheet.below(MARGIN, 28);
     let title = title_of(alloc, marks)?;

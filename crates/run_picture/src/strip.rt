@@ -1,8 +1,8 @@
 //! The shapes of signs, from the lowest on.
 
 use crate::figures::{Sheet, Toward, mark_paint, width_of};
-use crate::lanes::{LANE, TOP};
-use run_layout::{Mark, Sign};
+use crate::lanes::{LANE, TOP, lane_top};
+use run_layout::{Mark, Sign, Stretch, lanes_between};
 use signs::{Layout, Span};
 use std::alloc::AllocError;
 use svg_text::{Anchor, Paint, Shape, Spot};
@@ -99,11 +99,25 @@ fn push_refusal(strip: &mut Sheet, x: u64, label: Vec<u8>) -> Result<u64, AllocE
     Ok(at.by(4, 0).by(width, 0).x)
 }
 
+/// Adds the end of an era, by its place at the top of the lanes: a line through the lanes of that era and of the next
+/// one, and its label.
+fn push_end(
+    strip: &mut Sheet,
+    stretches: &[Stretch],
+    top: Spot,
+    label: Vec<u8>,
+) -> Result<(), AllocError> {
+    let lanes = lanes_between(stretches, top.back(1, 0).x, top.by(1, 0).x);
+    strip.push(Shape::Line(top, top.level(lane_top(lanes)), Paint::Broken))?;
+    strip.push(Shape::Text(top.back(0, 6), Anchor::Middle, Paint::Ink, label))
+}
+
 /// Adds a sign; the name of a lane is drawn with its lane, and a refusal no further left than `free`, which
 /// is moved on.
 fn push_sign(
     strip: &mut Sheet,
     layout: &Layout,
+    stretches: &[Stretch],
     sign: Sign,
     free: &mut u64,
 ) -> Result<(), AllocError> {
@@ -116,11 +130,7 @@ fn push_sign(
     let text = sign.text;
     match sign.mark {
         Mark::Name => Ok(()),
-        Mark::End => {
-            let top = middle.level(TOP);
-            strip.push(Shape::Line(top, top.level(high.to), Paint::Broken))?;
-            strip.push(Shape::Text(top.back(0, 6), Anchor::Middle, Paint::Ink, text))
-        }
+        Mark::End => push_end(strip, stretches, middle.level(TOP), text),
         Mark::Bar => push_bar(strip, at, width),
         Mark::Open => push_open_bar(strip, at, width),
         Mark::Down => push_arrow(strip, middle, lower, Toward::Down),
@@ -143,12 +153,13 @@ fn push_sign(
 pub fn push_signs(
     strip: &mut Sheet,
     layout: &Layout,
+    stretches: &[Stretch],
     signs: Vec<Sign>,
     start: u64,
 ) -> Result<(), AllocError> {
     let mut free = start;
     for sign in signs {
-        push_sign(strip, layout, sign, &mut free)?;
+        push_sign(strip, layout, stretches, sign, &mut free)?;
     }
     Ok(())
 }

@@ -1,3 +1,4 @@
 pub mod Vocabulary
 pub mod Corners
 pub mod Rest
+pub mod Sides

@@ -1,7 +1,6 @@
 -- What a drawing has to show of marks, without a number of pixels.
 use Rattle.std.specs.Prelude.{◌≡◌, ℕ, ◌+◌, ◌<◌, ◌≤◌, List, [], ◌∷◌, Option, Some, None, ⊤, IfSome, IsSomeAnd, slice_index_or, refl}
 use Rattle.std.specs.List.{All}
-use Rattle.std.proofs.Common.{arith}
 use Rattle.svg_text.specs.declared.paint.Paint.{Paint}
 use Rattle.svg_text.specs.declared.paint.Paint.TheVariants.{Paper, Faint, Edge, Broken, Thick, Pale}
 use Rattle.svg_text.specs.declared.shape.Shape.{Shape}
@@ -181,11 +180,55 @@ pub data AreShown (places : Places) : List Meaning → List Outline → Type 0 w
 
 -- ---- the rows
 
--- the views of a strip show all of it, from a place to another: each begins where the one before it ends, and lies below it
-abbrev pub Fills : (from top to : ℕ) → List Shape → Type 0
-Fills from top to [] = from ≡ to
-Fills from top to (View at width height left ∷ shapes) = (left ≡ from) × (top ≤ at.y) × Fills (left + width) (at.y + height) to shapes
-Fills from top to (_ ∷ shapes) = Fills from top to shapes
+-- the views of a strip show all of it, from a place to another: each begins where the one before it ends
+abbrev pub Fills : (from to : ℕ) → List Shape → Type 0
+Fills from to [] = from ≡ to
+Fills from to (View at width height left ∷ shapes) = (left ≡ from) × Fills (left + width) to shapes
+Fills from to (_ ∷ shapes) = Fills from to shapes
+
+-- all corners of a shape are left of a place, right of it, or not left of it
+abbrev pub IsLeftOf : (place : ℕ) → Outline → Type 0
+IsLeftOf place outline = All (λ corner. corner.0 < place) outline.corners
+
+abbrev pub IsRightOf : (place : ℕ) → Outline → Type 0
+IsRightOf place outline = All (λ corner. place < corner.0) outline.corners
+
+abbrev pub IsFrom : (place : ℕ) → Outline → Type 0
+IsFrom place outline = All (λ corner. place ≤ corner.0) outline.corners
+
+-- or none is below a height, or none above it
+abbrev pub IsAbove : (height : ℕ) → Outline → Type 0
+IsAbove height outline = All (λ corner. corner.1 ≤ height) outline.corners
+
+abbrev pub IsBelow : (height : ℕ) → Outline → Type 0
+IsBelow height outline = All (λ corner. height ≤ corner.1) outline.corners
+
+-- a strip begins at a place or further right
+abbrev pub AreFrom : (place : ℕ) → List Shape → Type 0
+AreFrom place strip = All (λ shape. IsFrom place (outline_of shape)) strip
+
+-- a view that begins here in a strip does not cut a shape off: that is left of what it shows, or right of it, or ends above its foot
+pub data IsInView (left width height : ℕ) (shape : Shape) : Type 0 where
+  before : IsLeftOf left (outline_of shape) → IsInView left width height shape
+  after : IsRightOf (left + width) (outline_of shape) → IsInView left width height shape
+  high : IsAbove height (outline_of shape) → IsInView left width height shape
+
+abbrev pub IsHighEnough : (strip : List Shape) → (view : Shape) → Type 0
+IsHighEnough strip (View at width height left) = All (IsInView left width height) strip
+IsHighEnough strip _ = ⊤
+
+-- each view of a strip is as high as the shapes that it shows
+abbrev pub AreHighEnough : (strip shapes : List Shape) → Type 0
+AreHighEnough strip shapes = All (IsHighEnough strip) shapes
+
+-- what is drawn after a view lies below it, another view too
+abbrev pub IsClear : (view : Shape) → (later : List Shape) → Type 0
+IsClear (View at width height left) later = All (λ shape. IsBelow (at.y + height) (outline_of shape)) later
+IsClear _ later = ⊤
+
+abbrev pub AreClear : List Shape → Type 0
+AreClear [] = ⊤
+AreClear (shape ∷ shapes) = IsClear shape shapes × AreClear shapes
 
 -- ---- what the code has
 
@@ -219,6 +262,6 @@ latest_of_both = refl
 earliest_of_both : earliest_end two_of_one (After 1) ≡ 20
 earliest_of_both = refl
 
--- two views show a strip of 40, the second one below the first
-two_views : Fills 0 0 40 (View (record { x = 0; y = 0 }) 20 90 0 ∷ View (record { x = 0; y = 90 }) 20 90 20 ∷ [])
-two_views = (refl, omega arith, (refl, omega arith, refl))
+-- two views show a strip of 40
+two_views : Fills 0 40 (View (record { x = 0; y = 0 }) 20 90 0 ∷ View (record { x = 0; y = 90 }) 20 90 20 ∷ [])
+two_views = (refl, (refl, refl))

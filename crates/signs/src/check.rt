@@ -150,30 +150,27 @@ pub fn are_shown<S: Seen>(layout: &Layout, parts: &[Part], shapes: &[S]) -> bool
     next >= parts.len()
 }
 
-/// Up to where a strip is shown by a shape and those before it, which show it up to a place: how far from left to
-/// right, and where the next view may begin, from the top down. `None` where it leaves a gap, or lies over one.
-fn filled(end: u64, top: u64, shape: &Shape) -> Option<(u64, u64)>
+/// Up to where a strip is shown, from left to right, by a shape and those before it, which show it up to a place.
+/// `None` where it leaves a gap.
+fn filled(end: u64, shape: &Shape) -> Option<u64>
     ensures { IfSome result (λ after. (to : ℕ) (rest : List Shape)
-        → Fills after.0 after.1 to rest → Fills end top to (shape.now ∷ rest)) }
+        → Fills after to rest → Fills end to (shape.now ∷ rest)) }
 {
     match shape {
-        Shape::View(at, width, height, left) if *left == end && top <= at.y => {
-            Some((end.checked_add(*width)?, at.y.checked_add(*height)?))
-        }
+        Shape::View(_, width, _, left) if *left == end => end.checked_add(*width),
         Shape::View(..) => None,
-        _ => Some((end, top)),
+        _ => Some(end),
     }
 }
 
-/// Whether the views of a strip show all of it, from a place to another, each below the one before it.
+/// Whether the views of a strip show all of it, from a place to another.
 pub fn fill(from: u64, to: u64, shapes: &[Shape]) -> bool
-    ensures { IsTrue result → Fills from 0 to shapes.now }
+    ensures { IsTrue result → Fills from to shapes.now }
 {
     let mut end = from;
-    let mut top = 0;
     for shape in shapes {
-        match filled(end, top, shape) {
-            Some(after) => (end, top) = after,
+        match filled(end, shape) {
+            Some(after) => end = after,
             None => return false,
         }
     }

@@ -51,7 +51,7 @@ fn holds_box(wide: Span, high: Span, at: Spot, width: u64, height: u64) -> bool
 }
 
 /// Whether all corners of a shape are in a span from left to right, and in one from the top down.
-fn lies_within(shape: &Shape, wide: Span, high: Span) -> bool
+pub fn lies_within(shape: &Shape, wide: Span, high: Span) -> bool
     ensures within { IsTrue result → IsWithin wide high (outline_of shape.now) }
     ensures off { result ≡ false → ¬ (IsWithin wide high (outline_of shape.now)) }
 {
