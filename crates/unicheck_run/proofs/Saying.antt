@@ -1,5 +1,6 @@
 -- What a finding says of a history, and what is written of it.
 use Rattle.std.proofs.Common.{◌≡◌, ◌+◌, ◌<◌, ◌⊎◌, ℕ, List, Option, Some, None, IfSome, arith, length, take}
+use Rattle.std.specs.Prelude.{Err, IfOk, Ok, Result}
 use Rattle.seq_object.specs.Sequential.{Sequential}
 use Rattle.lin_check.specs.declared.event.Event.{Event}
 use Rattle.lin_check.specs.Verdicts.{IsLinearizable}
@@ -17,6 +18,11 @@ use Rattle.unicheck_run.specs.declared.judging.Finding.TheVariants.{Linearizable
 use Rattle.unicheck_run.specs.declared.words.Form.{Form}
 use Rattle.unicheck_run.specs.declared.words.ObjectName.{ObjectName}
 use Rattle.unicheck_run.specs.declared.words.ObjectName.TheVariants.{Queue, Stack, Register, Counter, Map, Set}
+
+-- what holds of a value, where it has what another fact asks
+pub ok_then : {T E : Type 0} (r : Result T E) {A B : T → Type 0} → IfOk r A → ((x : T) → A x → B x) → IfOk r B
+ok_then (Ok x) has so = so x has
+ok_then (Err e) has so = tt
 
 -- what `shortest` finds is the first event with which there is no order
 pub first_bad : {S I R : Type 0} (object : Sequential S I R) (history : List (Event I R)) (found : Option ℕ) → IfSome found (λ k. k < length history) → IfSome found (λ k. IsLinearizable object (take k history)) → IfSome found (λ k. ¬ (IsLinearizable object (take (k + 1) history))) → IsFirstBadIf object history found
