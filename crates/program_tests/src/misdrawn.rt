@@ -118,7 +118,9 @@ fn spoil_shape(alloc: Global, wrong: Wrong, shape: &mut Shape) -> Result<(), All
         (Wrong::BarIsEmpty, Shape::Rect(_, width, _, Paint::Frame)) => *width = 0,
         (Wrong::RowsOnOneSpot, Shape::View(at, _, _, _)) => at.y = 0,
         (Wrong::RowIsFlat, Shape::View(_, _, height, _)) => *height = 0,
-        (Wrong::RowCutsALane, Shape::View(_, _, height, _)) => *height = height.saturating_sub(LANE),
+        (Wrong::RowCutsALane, Shape::View(_, _, height, _)) => *height = height.saturating_sub(
+            LANE,
+        ),
         (Wrong::LabelLies, Shape::Text(_, _, _, text)) => *text = lie(alloc)?,
         (Wrong::StepBefore, Shape::Titled(at, _, _, _, _)) => *at = at.back(20, 0),
         (Wrong::RefusalLate, Shape::Line(from, to, Paint::Cross)) => {
