@@ -5,19 +5,15 @@
 
 function classroom() {
   // ---- the graph as it stands in a page: the events that differ, and for each process in each world which of them comes there,
-  // and how far the world after it is from this one; -1 where none does
+  // its number in the digits a to z, and how far the world after it is from this one; a point where none does
 
   function unfolded(stored) {
     const { events, steps, ...graph } = stored;
     graph.edges = [];
-    for (let k = 0; k < steps.length; k++) {
-      if (steps[k] < 0) {
-        graph.edges.push(null);
-        continue;
-      }
+    for (const [, word, away] of steps.join("").matchAll(/\.|([a-z]+)(-?\d+)/g)) {
       const node = Math.floor(graph.edges.length / graph.processes);
-      graph.edges.push({ to: node + steps[k + 1], ...events[steps[k]] });
-      k += 1;
+      const place = [...(word ?? "")].reduce((sum, letter) => 26 * sum + letter.charCodeAt(0) - 97, 0);
+      graph.edges.push(word === undefined ? null : { to: node + Number(away), ...events[place] });
     }
     return graph;
   }
