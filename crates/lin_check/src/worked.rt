@@ -13,7 +13,7 @@ pub fn worked_histories()
     // What was put into a queue first is taken first: five events have an order, the sixth leaves none.
     ensures stale_take { ¬ (IsLinearizable line stale_take) }
     ensures before_stale_take { IsOrder line (take 5 stale_take) (0 ∷ 2 ∷ []) }
-    // Calls that overlap take effect in either order.
+    // Of two puts that overlap the later one may take effect first.
     ensures overlapping { IsOrder line overlapping_puts (1 ∷ 0 ∷ 4 ∷ []) }
     // A call that never returned took effect, or it didn't, but never twice.
     ensures lost { IsOrder line never_returned (1 ∷ []) }

@@ -4,7 +4,7 @@ use mathlib.Core.Option.{Option as Maybe}
 use Rattle.uni_any.specs.Execution.{Execution, Moment, Next, Reads, effect_of, history, last_moment, opened_moment}
 use Rattle.uni_any.specs.Execution.Next.{OpenCall, CloseCall, Announce, Start, Return, Pass, Apply, Take, OpenBlock, CloseBlock, Bring, Fail, Follow}
 use Rattle.uni_any.specs.Execution.Execution.{Ends, Step as Steps}
-use Rattle.uni_any.specs.Progress.{HasOwners, KeepsBound, NeverBlocks, counted, one_more, steps_of_call}
+use Rattle.uni_any.specs.Progress.{HasOwner, KeepsBound, NeverBlocks, StepOfCall, counted, one_more, steps_of_call}
 use Rattle.uni_any.proofs.Executing.{Holds, history_holds, of, read_as, seat_at, shown, state_at, step_holds, taken_by, view_at}
 use Rattle.uni_any.proofs.Linearity.{opening_holds}
 use Rattle.uni_any.proofs.Bringing.{brings_in}
@@ -146,7 +146,7 @@ module _ {O I S R : Type 0} (meaning : O → Sequential S I R) (o : O) (sizes : 
       (within_end p inside [] 0 (opening_holds meaning o sizes few) (omega arith) e)
 
   -- where a process in the midst of a call stands, it can take a step
-  module _ (m : Moment I S R) (acts : List (Act I R)) (h : Holds meaning o sizes m acts) (owners : HasOwners I S R) (p : ℕ) (inside : p < sizes.processes) where
+  module _ (m : Moment I S R) (acts : List (Act I R)) (h : Holds meaning o sizes m acts) (p : ℕ) (inside : p < sizes.processes) where
     abbrev its : Local I S R
     its = m.local p
 
@@ -163,40 +163,39 @@ module _ {O I S R : Type 0} (meaning : O → Sequential S I R) (o : O) (sizes : 
     own_stage k e = subst (IsStageAt object sizes h.board p its) e (h.sound.each p inside).stage
 
     -- S can be loaded
-    loads : (inv : I) (tries : ℕ) (waits : (its.stage ≡ Ready inv tries) ⊎ ((tries ≡ 0) × ((t : ℕ) × (r : ℕ) × (image : Image S R) × (its.stage ≡ Reading inv t r image)))) → Next object sizes m p its
-    loads inv tries waits =
-        let to = starts meaning o sizes p me p seat inv tries waits (step 0 0 0 0 none) (state_at meaning o sizes m) h.board m.local (λ q. q) there (seat_at meaning o sizes few m p inside) in
-        let said = to.7 inv tries waits in
+    loads : (inv : I) (tries : ℕ) → its.stage ≡ Ready inv tries → StepOfCall object sizes m p
+    loads inv tries at =
+        let to = starts meaning o sizes p me p seat inv tries (inl at) (step 0 0 0 0 none) (state_at meaning o sizes m) h.board m.local (λ q. q) there (seat_at meaning o sizes few m p inside) in
+        let said = to.7 inv tries (inl at) in
         elim (number_cases (slice_index m.words 0) its.word) [
-          | inl same ↦ goes_on inv tries waits said.0 m.homes (record { same = λ e. ((said.5 e).0, refl); other = λ e. absurd (e same.0) }) said.1 said.4
+          | inl same ↦ goes_on inv tries at said.0 m.homes (record { same = λ e. ((said.5 e).0, refl); other = λ e. absurd (e same.0) }) said.1 said.4
           | inr other ↦
               let x = said.6 other.0 in
               let k : ℕ = slot_of sizes (block_frame sizes x.0) p in
               let lies = (taken_by meaning o sizes few m p said.1 k x.1 to.0 to.1 to.4 to.5 x.5).2 in
-              goes_on inv tries waits said.0 (slice_set m.homes k none) (record { same = λ e. absurd (other.0 e); other = λ e. (x.0, x.1, x.2, x.4, lies, refl) }) said.1 said.4
+              goes_on inv tries at said.0 (slice_set m.homes k none) (record { same = λ e. absurd (other.0 e); other = λ e. (x.0, x.1, x.2, x.4, lies, refl) }) said.1 said.4
         ] where
-          goes_on : (inv : I) (tries : ℕ) → (its.stage ≡ Ready inv tries) ⊎ ((tries ≡ 0) × ((t : ℕ) × (r : ℕ) × (image : Image S R) × (its.stage ≡ Reading inv t r image)))
-              → (base : Image S R) (homes : List (Maybe (Mail I (Block S R)))) → Reads object sizes m p (m.local p) base homes
-              → (l' : Local I S R) → GoesOn (has_block its (slice_index m.words 0) base) p inv tries base l' → Next object sizes m p its
-          goes_on inv tries waits base homes reads l' on = elim (number_cases (applied_in base p) (length its.own + 1)) [
-            | inl is_in ↦ (let r = on.0 is_in.0 in Return inv tries base homes r.0 waits reads is_in.0 r.1)
-            | inr out ↦ Start inv tries base homes waits reads out.0
+          goes_on : (inv : I) (tries : ℕ) → its.stage ≡ Ready inv tries → (base : Image S R) (homes : List (Maybe (Mail I (Block S R)))) → Reads object sizes m p (m.local p) base homes
+              → (l' : Local I S R) → GoesOn (has_block its (slice_index m.words 0) base) p inv tries base l' → StepOfCall object sizes m p
+          goes_on inv tries at base homes reads l' on = elim (number_cases (applied_in base p) (length its.own + 1)) [
+            | inl is_in ↦ (let r = on.0 is_in.0 in (Return inv tries base homes r.0 (inl at) reads is_in.0 r.1, λ taken. ap (λ k. one_more k taken) at))
+            | inr out ↦ (Start inv tries base homes (inl at) reads out.0, λ taken. ap (λ k. one_more k taken) at)
           ]
 
     -- the next announcement can be loaded
-    looks_on : (inv : I) (tries r : ℕ) (image : Image S R) → its.stage ≡ Reading inv tries r image → r < sizes.processes → Next object sizes m p its
+    looks_on : (inv : I) (tries r : ℕ) (image : Image S R) → its.stage ≡ Reading inv tries r image → r < sizes.processes → StepOfCall object sizes m p
     looks_on inv tries r image at r_in = elim (lt_cases (applied_in image r) (slice_index m.words (1 + r))) [
-      | inr enough ↦ Pass inv tries r image at r_in enough.0
+      | inr enough ↦ (Pass inv tries r image at r_in enough.0, λ taken. refl)
       | inl more ↦
           let to = looks meaning o sizes p me p seat inv tries r image at r_in (step 0 0 0 0 none) (state_at meaning o sizes m) h.board m.local (λ q. q) there (seat_at meaning o sizes few m p inside) in
           let t = (to.7 inv tries r image at r_in).2 more.0 in
           elim (number_cases (taken_of its r).number (slice_index m.words (1 + r))) [
-            | inl known ↦ (let k = t.1.0 known.0 in Apply inv tries r image t.0 at r_in more.0 known.0 k.0)
+            | inl known ↦ (let k = t.1.0 known.0 in (Apply inv tries r image t.0 at r_in more.0 known.0 k.0, λ taken. refl))
             | inr unknown ↦
                 let u = t.1.1 unknown.0 in
                 let l' = goes (took its r (slice_index m.words (1 + r)) t.0) (Reading inv tries (r + 1) (taken_in object image r t.0)) in
                 let k : ℕ = slot_of sizes (call_frame sizes r (slice_index m.words (1 + r) - 1)) p in
-                Take inv tries r image t.0 u.0 at r_in more.0 unknown.0 u.1 (taken_by meaning o sizes few m p l' k u.0 to.0 to.1 to.4 to.5 u.3).2
+                (Take inv tries r image t.0 u.0 at r_in more.0 unknown.0 u.1 (taken_by meaning o sizes few m p l' k u.0 to.0 to.1 to.4 to.5 u.3).2, λ taken. refl)
           ]
     ]
 
@@ -204,22 +203,21 @@ module _ {O I S R : Type 0} (meaning : O → Sequential S I R) (o : O) (sizes : 
     lies_at : (f r : ℕ) → f < frames_of sizes → r < sizes.processes → h.board.slot f r ≢ 1 → (mail : Mail I (Block S R)) × (get_elem? m.homes (slot_of sizes f r) ≡ some (some mail))
     lies_at f r f_in r_in home = (let y = h.slots_are.home f r f_in r_in home in (y.0, y.1))
 
-    next_of : (k : Stage I S R) → its.stage ≡ k → k ≢ Idle → Next object sizes m p its
-    next_of Idle at busy = absurd (busy refl)
-    next_of (Posting inv r true) at busy = (let own = owners (Asked inv) in CloseCall inv r own.0 at own.1)
-    next_of (Posting inv r false) at busy =
+    next_of : (k : Stage I S R) → its.stage ≡ k → k ≢ Idle → HasOwner k → StepOfCall object sizes m p
+    next_of Idle at busy own = absurd (busy refl)
+    next_of (Posting inv r true) at busy own = (CloseCall inv r own.0 at own.1, λ taken. refl)
+    next_of (Posting inv r false) at busy own =
         let is = own_stage (Posting inv r false) at in
         elim (lt_cases r sizes.processes) [
           | inl below ↦
-              let own = owners (Asked inv) in
               let y = lies_at (call_frame sizes p (length its.own)) r (call_inside sizes p (length its.own) inside is.1) below.0 (λ e. let x : false ≡ true = is.3.next e in cc) in
-              OpenCall inv own.0 r y.0 own.1 (inr at) below.0 is.1 y.1
+              (OpenCall inv own.0 r y.0 own.1 (inr at) below.0 is.1 y.1, λ taken. ap (λ k. one_more k taken) at)
           | inr above ↦
               let all : r ≡ sizes.processes = (let a = above.0 in let b = is.3.most in omega arith) in
-              Announce inv (at ∙ ap (λ z. Posting inv z false) all) is.1
+              (Announce inv (at ∙ ap (λ z. Posting inv z false) all) is.1, λ taken. refl)
         ]
-    next_of (Ready inv tries) at busy = loads inv tries (inl at)
-    next_of (Reading inv tries r image) at busy =
+    next_of (Ready inv tries) at busy own = loads inv tries at
+    next_of (Reading inv tries r image) at busy own =
         let is = own_stage (Reading inv tries r image) at in
         elim (lt_cases r sizes.processes) [
           | inl below ↦ looks_on inv tries r image at below.0
@@ -227,32 +225,32 @@ module _ {O I S R : Type 0} (meaning : O → Sequential S I R) (o : O) (sizes : 
               let all : r ≡ sizes.processes = (let a = above.0 in let b = is.3.looked in omega arith) in
               let some_process : 0 < sizes.processes = (let a = few.0 in omega arith) in
               let y = lies_at (block_frame sizes (p * sizes.calls + length its.own)) 0 (block_inside sizes (p * sizes.calls + length its.own) (block_number sizes p (length its.own) inside is.0.0)) some_process (is.2 0) in
-              OpenBlock inv tries 0 image y.0 (inl (refl, at ∙ ap (λ z. Reading inv tries z image) all)) some_process y.1
+              (OpenBlock inv tries 0 image y.0 (inl (refl, at ∙ ap (λ z. Reading inv tries z image) all)) some_process y.1, λ taken. refl)
         ]
-    next_of (Writing inv tries image r true) at busy = (let own = owners (Made image) in CloseBlock inv tries r image own.0 at own.1)
-    next_of (Writing inv tries image r false) at busy =
+    next_of (Writing inv tries image r true) at busy own = (CloseBlock inv tries r image own.0 at own.1, λ taken. refl)
+    next_of (Writing inv tries image r false) at busy own =
         let is = own_stage (Writing inv tries image r false) at in
         elim (lt_cases r sizes.processes) [
           | inl below ↦
               let y = lies_at (block_frame sizes (p * sizes.calls + length its.own)) r (block_inside sizes (p * sizes.calls + length its.own) (block_number sizes p (length its.own) inside is.0.0)) below.0
               (λ e. let x : false ≡ true = is.2.next e in cc) in
-              OpenBlock inv tries r image y.0 (inr at) below.0 y.1
+              (OpenBlock inv tries r image y.0 (inr at) below.0 y.1, λ taken. refl)
           | inr above ↦
               let all : r ≡ sizes.processes = (let a = above.0 in let b = is.2.most in omega arith) in
               exchanges inv tries image (at ∙ ap (λ z. Writing inv tries image z false) all) is.0.0
         ] where
-          exchanges : (inv : I) (tries : ℕ) (image : Image S R) → its.stage ≡ Writing inv tries image sizes.processes false → length its.own < sizes.calls → Next object sizes m p its
+          exchanges : (inv : I) (tries : ℕ) (image : Image S R) → its.stage ≡ Writing inv tries image sizes.processes false → length its.own < sizes.calls → StepOfCall object sizes m p
           exchanges inv tries image whole room = elim (number_cases (slice_index m.words 0) its.word) [
             | inl same ↦
                 let new = word_of (its.word / span + 1) (p * sizes.calls + length its.own + 1) in
                 let to = brings_in meaning o sizes p me p seat inv tries image whole (step 0 0 its.word new none) refl its.word refl (state_at meaning o sizes m) h.board m.local (λ q. q) there (seat_at meaning o sizes few m p inside) in
                 let t = (to.7 inv tries sizes.processes image whole).0 same.0 in
-                Bring inv tries image t.0 whole same.0 t.1
-            | inr other ↦ Fail inv tries image whole other.0
+                (Bring inv tries image t.0 whole same.0 t.1, λ taken. refl)
+            | inr other ↦ (Fail inv tries image whole other.0, λ taken. refl)
           ]
 
   pub never_blocks : (e : Execution object sizes (opened_moment object sizes)) → NeverBlocks object sizes e
-  never_blocks e owners p inside busy =
+  never_blocks e p inside busy own =
       let m : Moment I S R = last_moment object sizes e in
       let h = history_holds meaning o sizes few [] (opening_holds meaning o sizes few) e in
-      next_of m (history object sizes e) h owners p inside (m.local p).stage refl busy
+      next_of m (history object sizes e) h p inside (m.local p).stage refl busy own

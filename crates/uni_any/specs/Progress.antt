@@ -1,7 +1,7 @@
 -- What is said of the steps that a call takes in an execution.
 use Rattle.std.specs.Prelude.{◌≡◌, ◌≢◌, ℕ, ◌+◌, ◌*◌, ◌≤◌, ◌<◌, ◌==◌, if◌then◌else◌}
 use Rattle.seq_object.specs.Sequential.{Sequential}
-use Rattle.uni_any.specs.Content.{Content, told}
+use Rattle.uni_any.specs.Content.{Content.Asked, Content.Made, told}
 use Rattle.uni_any.specs.Execution.{Execution, Moment, Next, last_moment, opened_moment}
 use Rattle.uni_any.specs.Execution.Execution.{Ends, Step}
 use Rattle.uni_any.specs.Execution.Next.{OpenCall, Start, Return, Follow}
@@ -9,7 +9,7 @@ use Rattle.uni_any.specs.declared.block.Block.{Block}
 use Rattle.uni_any.specs.declared.mail.Mail.{Mail}
 use Rattle.uni_any.specs.declared.sizes.Sizes.{Sizes}
 use Rattle.uni_any.specs.declared.view.Stage.{Stage}
-use Rattle.uni_any.specs.declared.view.Stage.TheVariants.{Idle, Reading}
+use Rattle.uni_any.specs.declared.view.Stage.TheVariants.{Idle, Posting, Reading, Writing}
 
 -- One step more, or the first one: of a call that begins; or of one that was left in an attempt, for want of memory,
 -- and goes on by a load of S, from which it is counted.
@@ -38,15 +38,23 @@ module _ {S I R : Type 0} (object : Sequential S I R) (sizes : Sizes) where
   abbrev pub KeepsBound : Execution object sizes (opened_moment object sizes) → Type 0
   KeepsBound e = (p : ℕ) → p < sizes.processes → steps_of_call p 0 e ≤ 8 * sizes.processes + 6
 
--- whatever a process lays out, it has an owner of
-abbrev pub HasOwners : (I S R : Type 0) → Type 0
-HasOwners I S R = (content : Content I S R) → (mail : Mail I (Block S R)) × (told mail ≡ content)
+-- What a process lays out at this stage, it has an owner of: an invocation, or a block. At other stages it lays nothing
+-- out.
+abbrev pub HasOwner : {I S R : Type 0} → Stage I S R → Type 0
+HasOwner {I = I} {S = S} {R = R} (Posting inv r out) = (mail : Mail I (Block S R)) × (told mail ≡ Asked inv)
+HasOwner {I = I} {S = S} {R = R} (Writing inv tries image r out) =
+    (mail : Mail I (Block S R)) × (told mail ≡ Made image)
+HasOwner stage = Unit {0}
 
 module _ {S I R : Type 0} (object : Sequential S I R) (sizes : Sizes) where
+  -- a step of its call which process p can take: it counts as one more
+  abbrev pub StepOfCall : (m : Moment I S R) (p : ℕ) → Type 0
+  StepOfCall m p =
+      (next : Next object sizes m p (m.local p)) × ((taken : ℕ) → counted object sizes m p next taken ≡ taken + 1)
+
   -- Wherever an execution from the opening has come to, a process in the midst of a call can take a step of that call,
-  -- where it has owners of what it lays out: where its memory isn't refused. (A step that belongs to no call is taken
-  -- between calls alone.)
+  -- where it has an owner of what it lays out: where its memory isn't refused.
   abbrev pub NeverBlocks : Execution {R = R} object sizes (opened_moment object sizes) → Type 0
-  NeverBlocks e = HasOwners I S R → (p : ℕ) → p < sizes.processes
-      → ((last_moment object sizes e).local p).stage ≢ Idle
-      → Next object sizes (last_moment object sizes e) p ((last_moment object sizes e).local p)
+  NeverBlocks e = (p : ℕ) → p < sizes.processes
+      → let m = last_moment object sizes e in
+      (m.local p).stage ≢ Idle → HasOwner (m.local p).stage → StepOfCall m p

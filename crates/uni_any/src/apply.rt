@@ -94,8 +94,8 @@ impl<O: SeqObject> AnySeat<O> {
     /// greater; the seat follows that one then.
     ///
     /// With n processes it returns after at most `8 * n + 6` steps on shared words, whatever the other seats
-    /// do, and takes no lock. Beside them it costs up to `2 * n` applications of the object, and what these
-    /// take of memory.
+    /// do, and takes no lock. Beside them it costs up to `2 * n` applications of the object, which no clause
+    /// counts, and what these take of memory.
     ///
     /// Errors, in this order: `Pending` where the seat has a call pending, `Spent` where it has made all its
     /// calls: nothing is changed; `Memory`: where the call was not announced, nothing is changed; where it was,
@@ -180,9 +180,9 @@ impl<O: SeqObject> AnySeat<O> {
     }
 
     /// Asks whether this version has come, by one load of the word that names the present one. The seat follows
-    /// the present version then: later calls of this seat come after all calls that are in it, and their
-    /// versions are greater. The answer is `true` exactly where the present version is at least the one
-    /// that was asked for.
+    /// the version that it finds then: later calls of this seat come after all calls that are in it, and their
+    /// versions are greater. The answer is `true` exactly where that version is at least the one that was
+    /// asked for.
     ///
     /// A version that an answer had has come: the law `returned_has_come` says so, and no clause of this call.
     /// So whoever was told of a call's version, by whatever means, and follows it, makes its later calls come

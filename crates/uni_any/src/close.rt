@@ -50,10 +50,11 @@ fn take_slot<I: Drop, B: Drop>(closed: Closed<Mail<I, B>, Global>, slot: usize) 
 
 impl<O: SeqObject> AnyShared<O> {
     /// Closes the object with the seat of one of its processes, which is one of this object's: its last
-    /// version. Other seats may be dropped: which calls they made is not said. It takes no memory.
+    /// version, by tests: the clauses say that it is one with these calls. Other seats may be dropped: which calls
+    /// they made is not said. It takes no memory.
     ///
     /// The calls of the seat's process, with the replies that they were given, are those of a history that the
-    /// atomic object accepts; where one is pending, it has begun, and may have taken effect. The last version
+    /// atomic object accepts; where one is pending, it has begun, and may have taken effect. The version
     /// has the state after the calls of this history, in the order in which they took effect. In that order each of
     /// them that has returned comes after all calls of the version that its seat had followed, and is among those of
     /// its own version. This history is made by the steps on words of an execution, in their order.

@@ -40,7 +40,7 @@ pub fn shown_is_linearizable<O: SeqObject>()
         → IsLinearized (O.sequential o) sizes.processes known g.image.state }
 {}
 
-/// The version of a call that has returned has come: who follows it is answered `true`.
+/// The version of a call that has returned has come. That who follows it is answered `true` is in no clause of a call.
 pub fn returned_has_come<O: SeqObject>()
     ensures { (o : O) (sizes : Sizes) (g : Board O.Inv O.State O.Resp)
         (local : ℕ → Local O.Inv O.State O.Resp) (seat_of : ℕ → ℕ)
@@ -139,9 +139,10 @@ pub fn every_execution_is_linearizable<O: SeqObject>()
         → KeepsOrder (O.sequential o) sizes e more }
 {}
 
-/// The construction is wait-free in every execution: a process in the midst of a call can always take a step, where its
-/// memory isn't refused; and no call takes more than `8 * n + 6` steps of its own process, whatever the other processes
-/// do. A call that was left for want of memory is counted from the load with which it goes on.
+/// The construction is wait-free in every execution: a process in the midst of a call can always take a step that the
+/// call counts, where it has an owner of what it lays out, as it has where its memory isn't refused; and no call takes
+/// more than `8 * n + 6` steps of its own process, whatever the other processes do. A call that is left in an attempt,
+/// for want of memory, is counted from the load with which it begins anew.
 pub fn every_call_is_wait_free<O: SeqObject>()
     ensures blocks { (o : O) (sizes : Sizes) → AreFew sizes
         → (e : Execution {R = O.Resp} (O.sequential o) sizes (opened_moment (O.sequential o) sizes))

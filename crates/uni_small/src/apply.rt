@@ -209,7 +209,8 @@ impl<O: SmallObject> SmallSeat<O> {
     }
 
     /// Applies the invocation as `apply` does, but announces it at once, where `apply` makes a direct attempt first.
-    /// A thread that stops in such a call leaves an orphan, which can be taken over.
+    /// Its number is told by a word, so a process that shares the object's memory and dies in such a call can be
+    /// taken over.
     ///
     /// It returns after at most `4 * W + (6 + 2 * I + 4 * R) * n + I + R + 8` word steps.
     pub fn apply_announced(
@@ -255,9 +256,9 @@ impl<O: SmallObject> SmallSeat<O> {
     }
 
     /// Asks whether this version has come, by one load of the word that names the present one. The seat has
-    /// the present version then: later calls of this seat come after all calls that are in it, and their
-    /// versions are greater. The answer is `true` exactly where the present version is at least the one
-    /// that was asked for.
+    /// the version that it finds then: later calls of this seat come after all calls that are in it, and their
+    /// versions are greater. The answer is `true` exactly where that version is at least the one that was
+    /// asked for.
     ///
     /// A version that an answer had has come: the law `returned_has_come` says so, and no clause of this call.
     /// So whoever was told of a call's version, by whatever means, and follows it, makes its later calls come

@@ -149,7 +149,7 @@ pub fn loads_append_nothing<O: SmallObject>()
         → Moves O.meaning o sizes id me 0 (λ x. x) nothing (λ found me'. HasRestarted st me found me') }
 {}
 
-/// The version of a call that has returned has come: who follows it is answered `true`.
+/// The version of a call that has returned has come. That who follows it is answered `true` is in no clause of a call.
 pub fn returned_has_come<O: SmallObject>()
     ensures { (o : O) (sizes : Sizes) (g : Board) (local : ℕ → Local) (seat_of : ℕ → ℕ)
         (s : State Seen (View O)) (p k : ℕ) (call : Returned) →
@@ -185,8 +185,8 @@ pub fn every_call_is_wait_free<O: SmallObject>()
 {}
 
 /// Whether a process that stopped has loaded the last word of a reply leaves no trace: what goes on after that load
-/// goes on without it as well, with the same words. So a call whose reply was not kept may be taken as pending; who
-/// takes it over is told its reply.
+/// goes on without it as well, with the same words. So a call whose reply was not kept may be taken as pending. That who
+/// takes it over is told the same reply is argued by hand, and is in no clause.
 pub fn last_load_leaves_no_trace<O: SmallObject>()
     ensures { (o : O) (sizes : Sizes)
         → (e : Execution (O.meaning o).object sizes (opened_moment (O.meaning o).object sizes))

@@ -34,7 +34,7 @@ pub fn join_keeps<O: WordObject>()
         JoinKeeps (O.sequential object) row w s id v other x }
 {}
 
-/// A call that has returned has a number: to ask about it is always answered yes.
+/// A call that has returned has a number. That to ask about it is answered yes is in no clause of a call.
 pub fn returned_is_there<O: WordObject>()
     ensures { (object : O) (row : ℕ) (w : WorldOf ℕ ℕ ℕ) (s : State ℕ View) (call : CallId) (word : ℕ) →
         ReturnedIsThere (O.sequential object) row w s call word }

@@ -75,8 +75,8 @@ abbrev pub HasCalledSmall : (old new : Option Held) (invocation reply : List ℕ
 HasCalledSmall old new invocation reply version = IsSomeAnd (shared_in old) (λ shared. IsSomeAnd (place_in old) (λ s. IsSomeAnd (place_in new) (λ t.
     MakesCall shared s t invocation reply version)))
 
--- The same seat after it asked whether a version has come, by one word step. It has the present version then, and the number is 1 exactly
--- where that is at least the one that was asked for.
+-- The same seat after it asked whether a version has come, by one word step. It has the version that it found then, and the number is 1
+-- exactly where that is at least the one that was asked for.
 pub record AsksVersion (s t : SmallSeat SmallKind) (version number : ℕ) : Type 0 where
   pub few : number ≤ 1
   pub asked : (number ≡ 1) ↔ (version ≤ version_of t)

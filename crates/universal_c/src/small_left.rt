@@ -101,8 +101,8 @@ fn resume(
 /// else `ended` is 0, and reply and version stay. The handle has the seat then.
 ///
 /// The caller answers for this: the former owner takes no more steps, has made its calls by
-/// `universal_small_apply_announced`, and of them `made` have returned. A call whose reply was loaded, but not kept,
-/// may be counted as one that has not returned: it gets the same reply again.
+/// `universal_small_apply_announced`, and of them `made` have returned. That a call whose reply was
+/// loaded, but not kept, may be counted as one that has not returned, and gets the same reply again, is argued by hand.
 ///
 /// 0: it is done. 7: the handle has no seat without an owner. 11: the reply hasn't as many words as those of the
 /// object. 3: memory was refused. In this order; after each but 0 nothing is changed.
