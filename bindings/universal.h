@@ -278,7 +278,7 @@ typedef enum universal_operation {
 /* Opens an object by a program, for n processes: its state begins as the `words` words of `start`, an invocation has `invocation`
  * words, and a reply `reply`. `code` are the fields of instructions, `count` words, five of each instruction. All is copied.
  * universal_program.h writes programs. The program ends after at most as many steps as there are instructions, times one more than
- * the `left` of all AGAINs together. A call may run it up to 3n times, also for the calls of other processes.
+ * the `left` of all AGAINs together. A call may run it up to 3n times (by hand), also for the calls of other processes.
  *
  * UNIVERSAL_BAD_COUNT; UNIVERSAL_NO_OPERATION; then, of the first instruction that is wrong, the first of UNIVERSAL_NO_REGISTER,
  * UNIVERSAL_NO_PLACE, UNIVERSAL_JUMPS_BACK, UNIVERSAL_NO_TARGET, UNIVERSAL_GOES_FORWARD, UNIVERSAL_NO_LOOP: after each of these but

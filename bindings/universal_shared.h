@@ -15,8 +15,8 @@
  *     universal_shared_claim(jobs, -1, &seat, &last);         // any seat without a living owner
  *     universal_shared_apply(seat, (uint64_t[])UNIVERSAL_QUEUE_PUT(7), 1, &reply, 1, &version);
  *
- * A call takes no lock, no memory and no system call, and ends within a number of the caller's own steps, whatever the
- * others do. All else here may take a lock of its process, which a fork waits for. The object's code is proved in
+ * A call ends within a number of the caller's own steps, whatever the others do. It takes no lock, no memory and no system
+ * call, as is seen from its code. All else here may take a lock of its process, which a fork waits for. The object's code is proved in
  * crates/universal_c. The code of this file isn't: bindings/universal_shared.c is tested.
  *
  * What a caller owes, beside what universal.h says of pointers and signal handlers:

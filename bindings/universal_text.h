@@ -43,13 +43,13 @@ typedef enum universal_text_status {
 uint32_t universal_replay(const uint8_t *script, size_t length, uint64_t history, uint8_t *out, size_t capacity,
                           size_t *written);
 
-/* Draws the picture of a script's run, and writes the text of its SVG: what `unidraw` writes. A script of more than
+/* Draws a picture of a script's run, by the code of `unidraw`, and writes the text of its SVG. A script of more than
  * 2,000 events has none: UNIVERSAL_TEXT_BAD_SCRIPT, and the text is
  * "too many events for a picture: at most 2000" and the line's end.
  * Its history can have UNIVERSAL_TEXT_HISTORY events. */
 uint32_t universal_draw(const uint8_t *script, size_t length, uint8_t *out, size_t capacity, size_t *written);
 
-/* The same picture as lines of a terminal of 100 columns: what `unidraw --text` writes. */
+/* A picture of it as lines of a terminal of 100 columns, by the code of `unidraw --text`. */
 uint32_t universal_lines(const uint8_t *script, size_t length, uint8_t *out, size_t capacity, size_t *written);
 
 #ifdef __cplusplus

@@ -353,7 +353,7 @@ class Seat(_Held):
     def follows(self, process: int, nth: int) -> bool:
         """Whether the call nth, from 0, of a process stands in the log: all later calls of this seat come after it then.
 
-        It is always true of a call that has returned.
+        By a law a call that has returned does, but no clause of this call says so: be ready for False.
         """
         is_there = c_uint32()
         self._call(_LIBRARY.universal_follows, _number(process, 64), _number(nth, 64), byref(is_there))

@@ -6,7 +6,7 @@
 //! and any may be killed.
 //!
 //! A [`Log`] is an object that `n` processes share. It gives out a [`Seat`] for each, and a seat makes up to `k`
-//! calls, from any thread. A call takes no lock and no memory, and ends within `12n + 15` steps on shared words,
+//! calls, from any thread. A call takes no lock and no memory, as tests see, and ends within `12n + 15` steps on shared words,
 //! whatever the other threads do. The last seat closes the log and gets all calls in their one order.
 //!
 //! The functions behind this crate are proved; this crate is not. Its types keep what they ask for: a seat is `&mut`
@@ -280,7 +280,8 @@ impl Seat {
     }
 
     /// Asks whether the call `nth`, from 0, of a process stands in the log. `true`: it does, and all later calls of this
-    /// seat come after it, in the closed log too. It is always `true` of a call that has returned.
+    /// seat come after it, in the closed log too. By a law a call that has returned
+    /// does, but no clause of this call says so: be ready for `false`.
     pub fn follows(&mut self, process: u64, nth: u64) -> bool {
         self.handle.follows(process, nth).expect("a seat's handle has a seat")
     }

@@ -326,8 +326,8 @@ impl<K: Kind> SmallSeat<K> {
         self.version
     }
 
-    /// Whether a version has come: all later calls of this seat come after all calls that are in it then. It is always
-    /// `true` of one that a call was answered.
+    /// Whether a version has come: all later calls of this seat come after all calls that are in it then. By a law
+    /// one that a call was answered has come, but no clause of this call says so: be ready for `false`.
     pub fn follows(&mut self, version: u64) -> bool {
         self.held.handle.small_follows(version).expect("a seat's handle has a seat")
     }

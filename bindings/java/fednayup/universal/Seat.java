@@ -33,8 +33,8 @@ public final class Seat implements AutoCloseable {
     }
 
     /**
-     * Whether the call nth, from 0, of a process stands in the log: all later calls of this seat come after it then. It is
-     * always true of a call that has returned.
+     * Whether the call nth, from 0, of a process stands in the log: all later calls of this seat come after it then. By a
+     * law a call that has returned does, but no clause of this call says so: be ready for false.
      */
     public synchronized boolean follows(long process, long nth) throws Refused {
         handle.call(at -> (int) Universal.FOLLOWS.invokeExact(at, process, nth, answer));

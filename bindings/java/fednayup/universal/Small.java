@@ -203,8 +203,8 @@ public final class Small<S extends Small.Seat> implements AutoCloseable {
         }
 
         /**
-         * Whether a version has come: all later calls of this seat come after all calls that are in it then. It is always true
-         * of one that a call was answered.
+         * Whether a version has come: all later calls of this seat come after all calls that are in it then. By a law one
+         * that a call was answered has come, but no clause of this call says so: be ready for false.
          *
          * @throws UnsupportedOperationException it is a seat of a {@link Shared}
          */
