@@ -6,10 +6,9 @@ import ctypes
 import os
 import sys
 from collections.abc import Mapping, Sequence
-from pathlib import Path
 from typing import TypeVar
 
-PACKAGE = Path(__file__).parent
+PACKAGE = os.path.dirname(os.path.abspath(__file__))
 
 
 _Library = TypeVar("_Library", bound=ctypes.CDLL)
@@ -29,8 +28,9 @@ def load(
     use_errno: bool = False,
 ) -> _Library:
     """The library of this name: where the variable says, else in this package, else in `bindings/out`."""
-    places = [PACKAGE / f"{name}.so", PACKAGE.parent.parent / "out" / f"{name}.so"]
-    path = os.environ.get(variable) or str(next((place for place in places if place.exists()), places[0]))
+    bindings = os.path.dirname(os.path.dirname(PACKAGE))
+    places = [os.path.join(PACKAGE, f"{name}.so"), os.path.join(bindings, "out", f"{name}.so")]
+    path = os.environ.get(variable) or next((place for place in places if os.path.exists(place)), places[0])
     library = kind(path, use_errno=use_errno)
     for function_name, takes in signatures.items():
         function = getattr(library, function_name)
