@@ -7,6 +7,7 @@ import os
 import pickle
 import signal
 import threading
+import time
 import unittest
 
 from universal import Differs, Entry, Fault, Log, Refused, in_threads
@@ -266,6 +267,29 @@ class Calls(unittest.TestCase):
         self.assertEqual(seats[2].apply(5).reply, 3)
         self.refuses(Fault.BUSY, seats[0].finish)
         self.assertRaises(ValueError, lambda: in_threads([], work))
+
+    def test_threads_at_an_interrupt(self):
+        with Log.tally(3, 1) as log:
+            seats = log.seats()
+        started = threading.active_count()
+
+        def work(seat):
+            time.sleep(0.4)
+            seat.apply(1)
+
+        def interrupt(*_):
+            raise KeyboardInterrupt
+
+        before = signal.signal(signal.SIGALRM, interrupt)
+        try:
+            signal.setitimer(signal.ITIMER_REAL, 0.1)
+            self.assertRaises(KeyboardInterrupt, lambda: in_threads(seats, work))
+        finally:
+            signal.signal(signal.SIGALRM, before)
+        # all three were joined, and made their calls
+        self.assertEqual(threading.active_count(), started)
+        for seat in seats:
+            self.refuses(Fault.SPENT, lambda: seat.apply(1))
 
     def test_threads_beside_a_log(self):
         log = Log.tally(2, 1)

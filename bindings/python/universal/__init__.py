@@ -409,14 +409,38 @@ class _Finishing(Protocol[_State]):
     def finish(self) -> _State: ...
 
 
+class _Worker(threading.Thread):
+    """Works with a seat. `ended` tells that it is over; `join` doesn't, once an exception has come out of it."""
+
+    def __init__(self, work: Callable[[Any], object], seat: object) -> None:
+        super().__init__()
+        self._task, self._seat, self.ended = work, seat, threading.Event()
+        self.raised: BaseException | None = None
+
+    def run(self) -> None:
+        try:
+            self._task(self._seat)
+        except BaseException as fault:
+            self.raised = fault
+        finally:
+            self.ended.set()
+
+
+def _join(workers: Sequence[_Worker]) -> None:
+    for worker in workers:
+        worker.ended.wait()
+        worker.join()
+
+
 def in_threads(seats: Sequence[_Finishing[_State]], work: Callable[[Any], object]) -> _State:
     """Runs `work(seat)` for each seat in a thread of its own, joins them all, and closes what they are seats of: what `finish`
     gives, which is all calls of a log, in their order, or the last state of a small object.
 
     The seats are those that a log or a small object has given out, which was closed before. All but the first are closed,
     and the first closes the log. Raises what `work` raised, that of the first seat where several did: all threads are joined
-    then, the log is not closed, and the seats stay. Raises `ValueError`: there is no seat, one is there twice, or two are
-    of two logs. Else raises as `Seat.finish`.
+    then, the log is not closed, and the seats stay. So they do where a signal handler raises, as at Ctrl-C: that comes once
+    all are joined, and a second time at once. Raises `ValueError`: there is no seat, one is there twice, or two are of two
+    logs. Else raises as `Seat.finish`.
     """
     if not seats:
         raise ValueError("there is no seat")
@@ -424,25 +448,17 @@ def in_threads(seats: Sequence[_Finishing[_State]], work: Callable[[Any], object
         raise ValueError("a seat is there twice")
     if any(seat._mark is not seats[0]._mark for seat in seats):
         raise ValueError("the seats are of two logs")
-    raised: dict[int, BaseException] = {}
-
-    def run(place: int) -> None:
-        try:
-            work(seats[place])
-        except BaseException as fault:
-            raised[place] = fault
-
-    threads = []
+    workers = [_Worker(work, seat) for seat in seats]
     try:
-        for place in range(len(seats)):
-            thread = threading.Thread(target=run, args=[place])
-            thread.start()
-            threads.append(thread)
-    finally:
-        for thread in threads:
-            thread.join()
-    if raised:
-        raise raised[min(raised)]
+        for worker in workers:
+            worker.start()
+        _join(workers)
+    except BaseException:
+        _join([worker for worker in workers if worker.ident is not None])
+        raise
+    for worker in workers:
+        if worker.raised is not None:
+            raise worker.raised
     for seat in seats[1:]:
         seat.close()
     return seats[0].finish()
