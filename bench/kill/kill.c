@@ -4,13 +4,11 @@
  *
  *     kill OBJECT SEATS KILLS MICROSECONDS fork|exec [again|lost]
  *
- * OBJECT is counter, register, queue, map, book or program, which is a counter with a limit. Between two kills pass up to so many MICROSECONDS. Workers are
- * forked, or are programs that are begun anew. With `again` who takes a seat over makes a call again that was ended,
- * and with `lost` it takes one for made that wasn't: both have to be seen as wrong. With STOP in the environment nobody
- * is killed, but stopped for 20 ms. The status is 1 where something is wrong. */
+ * OBJECT is counter, register, queue, map, book or program, which is a counter with a limit. Between two kills pass up to so
+ * many MICROSECONDS. Workers are forked, or are programs that are begun anew. With `again` who takes a seat over makes a call
+ * again that was ended, and with `lost` it takes one for made that wasn't: both have to be seen as wrong. With STOP in the
+ * environment nobody is killed, but stopped for 20 ms. The status is 1 where something is wrong. */
 #define _GNU_SOURCE
-#include "universal_program.h"
-#include "universal_shared.h"
 #include <errno.h>
 #include <signal.h>
 #include <stdatomic.h>
@@ -24,6 +22,7 @@
 #include <time.h>
 #include <unistd.h>
 #include "killer.h"
+#include "limited.h"
 
 enum { SEATS = 64, KEYS = 8, CAPACITY = 24, ACCOUNTS = 16, NUMBERS = 1 << 28 };
 
@@ -278,23 +277,6 @@ static bool fits(universal_shared_seat *seat) {
     return !lost && !unknown;
 }
 
-/* A counter with a limit, which is never met: a call adds its word, and is answered the sum before. */
-static void write_program(void) {
-    static universal_instruction code[8];
-    static const uint64_t start[1];
-    enum { sum, amount, more, limit };
-    up_program p = UP_PROGRAM(code);
-    up_load(&p, sum, UP_STATE, 0);
-    up_answer(&p, 0, sum);
-    up_load(&p, amount, UP_INVOCATION, 0);
-    up_add(&p, more, sum, amount, UP_END);
-    up_set(&p, limit, (uint64_t)1 << 40);
-    up_if_less(&p, limit, more, UP_END);
-    up_store(&p, 0, more);
-    up_close(&p);
-    kind.code = code, kind.count = p.count, kind.start = start, kind.words = 1, kind.invocation = 1, kind.answer = 1;
-}
-
 static bool is_known(const char *object) {
     const struct {
         const char *name;
@@ -310,7 +292,7 @@ static bool is_known(const char *object) {
         if (!strcmp(object, known[k].name)) {
             kind = (universal_shared_kind){.object = known[k].object, .capacity = known[k].capacity};
             words_in = known[k].in, words_out = known[k].out;
-            if (kind.object == UNIVERSAL_SHARED_PROGRAM) write_program();
+            if (kind.object == UNIVERSAL_SHARED_PROGRAM) kind = limited_counter();
             return true;
         }
     return false;

@@ -3,11 +3,10 @@
  *
  *     steps OBJECT MEANWHILE [STRIDE [HEIR]]
  *
- * OBJECT is counter, register, queue, map or book; MEANWHILE is how many calls the other makes while the first one is
- * in its own. With STRIDE every so many-th instruction is taken. With HEIR the call is cut off after that many
- * instructions, and the claim of its seat is what is stepped through. The status is 1 where something is wrong. */
+ * OBJECT is counter, register, queue, map, book or program, which is a counter with a limit; MEANWHILE is how many calls the
+ * other makes while the first one is in its own. With STRIDE every so many-th instruction is taken. With HEIR the call is cut off
+ * after that many instructions, and the claim of its seat is what is stepped through. The status is 1 where something is wrong. */
 #define _GNU_SOURCE
-#include "universal_shared.h"
 #include <signal.h>
 #include <stdbool.h>
 #include <stdio.h>
@@ -16,10 +15,11 @@
 #include <sys/ptrace.h>
 #include <sys/wait.h>
 #include <unistd.h>
+#include "limited.h"
 
-enum { COUNTER, REGISTER, QUEUE, MAP, BOOK };
+enum { COUNTER, REGISTER, QUEUE, MAP, BOOK, PROGRAM, OBJECTS };
 
-static const struct object {
+static struct object {
     const char *name;
     universal_shared_kind kind;
     size_t in, out;
@@ -29,6 +29,7 @@ static const struct object {
     {"queue", {.object = UNIVERSAL_SHARED_QUEUE, .capacity = 8}, 1, 1},
     {"map", {.object = UNIVERSAL_SHARED_MAP, .capacity = 8}, 3, 2},
     {"book", {.object = UNIVERSAL_SHARED_BOOK}, 4, 2},
+    {"program", {.object = UNIVERSAL_SHARED_PROGRAM}, 1, 1},
 };
 
 static int which;
@@ -56,6 +57,7 @@ static answer call(universal_shared_seat *seat, uint64_t a, uint64_t b, uint64_t
  * account 0. */
 static answer others(universal_shared_seat *seat, uint64_t i) {
     switch (which) {
+    case PROGRAM:
     case COUNTER: return call(seat, 1, 0, 0, 0);
     case REGISTER: return call(seat, 1, i + 1, 0, 0);
     case QUEUE: return call(seat, i + 1, 0, 0, 0);
@@ -64,7 +66,7 @@ static answer others(universal_shared_seat *seat, uint64_t i) {
     }
 }
 
-static const uint64_t victims[][4] = {{1000}, {1, 1000, 0}, {0}, {1, 8, 1000}, {2, 0, 1, 3}};
+static const uint64_t victims[][4] = {{1000}, {1, 1000, 0}, {0}, {1, 8, 1000}, {2, 0, 1, 3}, {1000}};
 
 /* The call that is cut off: it adds 1000, writes 1000, takes, gives key 8 the value 1000, or moves 3 from account 0 to
  * account 1. */
@@ -78,6 +80,7 @@ static void is_right(universal_shared_seat *seat, const universal_shared_last *l
     const uint64_t *reply = last->reply;
     answer told;
     switch (which) {
+    case PROGRAM:
     case COUNTER:
         if (made) must(reply[0] >= before && reply[0] <= calls, "the sum before is one of those");
         must(call(seat, 0, 0, 0, 0).words[0] == calls + (made ? 1000 : 0), "the sum");
@@ -140,9 +143,10 @@ static void end(pid_t pid) {
 }
 
 int main(int argc, char **argv) {
-    for (which = 0; which < 5 && argc > 2 && strcmp(argv[1], objects[which].name); which++) {
+    objects[PROGRAM].kind = limited_counter();
+    for (which = 0; which < OBJECTS && argc > 2 && strcmp(argv[1], objects[which].name); which++) {
     }
-    if (argc < 3 || which == 5) return fprintf(stderr, "usage: steps OBJECT MEANWHILE [STRIDE [HEIR]]\n"), 2;
+    if (argc < 3 || which == OBJECTS) return fprintf(stderr, "usage: steps OBJECT MEANWHILE [STRIDE [HEIR]]\n"), 2;
     unsigned long meanwhile = strtoul(argv[2], NULL, 10), stride = argc > 3 ? strtoul(argv[3], NULL, 10) : 1;
     unsigned long heir = argc > 4 ? strtoul(argv[4], NULL, 10) : 0, runs = 0, made = 0, ended = 0, asked_only = 0,
                   died = 0;
