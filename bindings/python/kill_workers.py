@@ -1,39 +1,50 @@
 """A killer among the workers of `multiprocessing`, which share an object: each answer is accounted for.
 
-    python3 kill_workers.py counter|register|queue|map fork|spawn KILLS [again]
+    python3 kill_workers.py counter|register|queue|map|program fork|spawn KILLS [again]
     python3 kill_workers.py value fork KILLS
 
-A worker writes down, in memory that outlives it too, what it was answered; who comes after it goes on from there. With `again` it makes a
-call again that its forerunner's seat had made: that has to be seen as wrong. `value` is a `multiprocessing.Value` with its lock, for
-comparison. The status is 1 where something is wrong.
+A worker writes down, in memory that outlives it too, what it was answered; who comes after it goes on from there. `program` is a
+counter with a limit, by a program of one's own. With `again` a worker makes a call again that its forerunner's seat had made:
+that has to be seen as wrong. `value` is a `multiprocessing.Value` with its lock, for comparison. The status is 1 where something
+is wrong.
+
+Most kills come once at least three workers make calls, and one in eight whatever they do, also as they start. With `-S`, and
+where PYTHONPYCACHEPREFIX names a folder, spawned workers start sooner.
 """
 
+import mmap
 import multiprocessing
 import os
-import random
-import signal
 import sys
 import time
+from collections import Counter
 from collections.abc import Sequence
 from ctypes import c_uint64
 from multiprocessing.process import BaseProcess
 from typing import Any
 
-from universal.shared import SharedCounter, SharedMap, SharedQueue, SharedRegister
+from universal.program import Program
+from universal.shared import SharedCounter, SharedMap, SharedProgram, SharedQueue, SharedRegister
 
-WORKERS, ROOM, CAPACITY, KEYS = 4, 1 << 21, 24, 8
+WORKERS, BUSY, CAPACITY, KEYS = 8, 3, 24, 8
 
 
 class Diary:
-    """What the workers write down."""
+    """What the workers write down, in a file that each of them maps: of so many calls of each."""
 
-    def __init__(self, context: Any) -> None:
-        self.recorded = context.RawArray(c_uint64, WORKERS)
-        self.ended = context.RawArray(c_uint64, WORKERS)
-        self.wrong = context.RawArray(c_uint64, WORKERS)
+    def __init__(self, path: str, room: int) -> None:
+        self.path, self.room = path, room
+        size = 4 * WORKERS * room
+        with open(path, "r+b") as file:
+            file.truncate(24 * WORKERS + 2 * size)
+            memory = memoryview(mmap.mmap(file.fileno(), 0))
+        words = memory[: 24 * WORKERS].cast("Q")
+        self.recorded, self.ended, self.wrong = (words[k * WORKERS : (k + 1) * WORKERS] for k in range(3))
         # of a number: the call that has put it in, or was answered it
-        self.put_in = context.RawArray(c_uint64, WORKERS * ROOM)
-        self.answered = context.RawArray(c_uint64, WORKERS * ROOM)
+        self.put_in, self.answered = memory[24 * WORKERS : -size].cast("I"), memory[-size:].cast("I")
+
+    def __reduce__(self) -> tuple[object, ...]:
+        return Diary, (self.path, self.room)
 
 
 def draw(p: int, c: int) -> int:
@@ -41,52 +52,69 @@ def draw(p: int, c: int) -> int:
     return (x ^ x >> 29) >> 32
 
 
-def words_of(kind: str, p: int, c: int) -> tuple[int, ...]:
+def counter_with_limit() -> Program:
+    """A call adds its word where the sum is at most 2^40, and is answered the sum before."""
+    p = Program([0], invocation=1, reply=1)
+    before = p.state[0]
+    p.reply[0] = before
+    total = before + p.invocation[0]
+    with p.when(total <= 1 << 40):
+        p.state[0] = total
+    return p
+
+
+def words_of(kind: str, p: int, c: int, room: int) -> tuple[int, ...]:
     """What call c of a worker is; its number is told by no other call."""
-    number = p * ROOM + c + 1
-    return {
-        "counter": (1,),
-        "register": (1, number, 0),
-        "queue": (number if draw(p, c) % 2 else 0,),
-        "map": (1, draw(p, c) % KEYS, number),
-    }[kind]
+    number = p * room + c + 1
+    if kind == "register":
+        return 1, number, 0
+    if kind == "queue":
+        return (number if draw(p, c) % 2 else 0,)
+    if kind == "map":
+        return 1, draw(p, c) % KEYS, number
+    return (1,)
 
 
 def account(diary: Diary, kind: str, p: int, c: int, words: Sequence[int], reply: Sequence[int]) -> None:
     call = c * WORKERS + p + 1
 
-    def meet(numbers: Any, number: int) -> None:
+    def meet(numbers: memoryview, number: int) -> None:
         if numbers[number] not in (0, call):
             diary.wrong[p] += 1
         numbers[number] = call
 
-    if kind == "counter":
-        meet(diary.answered, reply[0])
-    elif kind == "queue":
+    if kind == "queue":
         if words[0] and reply[0]:
             meet(diary.put_in, words[0])
         if not words[0] and reply[0]:
             meet(diary.answered, reply[0])
-    else:
+    elif kind in ("register", "map"):
         meet(diary.put_in, words[1 if kind == "register" else 2])
         before = reply[0] if kind == "register" else reply[1]
         if before:
             meet(diary.answered, before)
+    else:
+        meet(diary.answered, reply[0])
 
 
-def work(shared: Any, diary: Diary, kind: str, p: int, makes_again: bool) -> None:
-    last = shared.claim(p)
-    c = diary.recorded[p]
+def go_on(shared: Any, diary: Diary, kind: str, p: int, makes_again: bool) -> int:
+    """Claims a worker's seat, and counts a call that was made and isn't counted: how many are."""
+    last, c = shared.claim(p), diary.recorded[p]
     diary.ended[p] += last.ended
-    if last.made == c + 1 and not makes_again:  # the call was made, and isn't counted
-        if last.invocation != words_of(kind, p, c):
+    if last.made == c + 1 and not makes_again:
+        if last.invocation != words_of(kind, p, c, diary.room):
             diary.wrong[p] += 1
         account(diary, kind, p, c, last.invocation, last.reply)
         diary.recorded[p] = c = c + 1
     elif last.made != c and not makes_again:
         diary.wrong[p] += 1
-    while c < ROOM - 1:
-        words = words_of(kind, p, c)
+    return c
+
+
+def work(shared: Any, diary: Diary, kind: str, p: int, makes_again: bool) -> None:
+    c = go_on(shared, diary, kind, p, makes_again)
+    while c < diary.room - 1:
+        words = words_of(kind, p, c, diary.room)
         account(diary, kind, p, c, words, shared._apply(*words))
         diary.recorded[p] = c = c + 1
     time.sleep(3600)
@@ -95,12 +123,11 @@ def work(shared: Any, diary: Diary, kind: str, p: int, makes_again: bool) -> Non
 def left(shared: Any, kind: str, diary: Diary) -> bool:
     """Takes out what is left, and whether the state fits all answers."""
     calls = sum(diary.recorded)
-    if kind == "counter":
-        total = shared.add(0)
+    if kind in ("counter", "program"):
+        total = shared._apply(0)[0]
         missing = sum(not met for met in diary.answered[:total])
-        print(f"counter: {calls} answers, the sum is {total}; sums that nobody was answered: {missing}")
-        return total == calls and missing == 0
-    at_end = WORKERS * ROOM + 1
+        print(f"{kind}: {calls} answers, the sum is {total}; sums that nobody was answered: {missing}")
+        return bool(total == calls and missing == 0)
     if kind == "register":
         values: list[int] = [shared.write(0)]
     elif kind == "map":
@@ -110,62 +137,93 @@ def left(shared: Any, kind: str, diary: Diary) -> bool:
     fits = True
     for value in filter(None, values):
         fits &= diary.answered[value] == 0
-        diary.answered[value] = at_end
-    put_in = {number for number, met in enumerate(diary.put_in) if met}
-    answered = {number for number, met in enumerate(diary.answered) if met}
-    print(f"{kind}: {calls} answers; {len(put_in)} went in, {len(answered)} came out; lost {len(put_in - answered)}, "
-          f"not known to have gone in {len(answered - put_in)}")
-    return fits and put_in == answered
+        diary.answered[value] = (1 << 32) - 1
+    met: Counter[tuple[bool, bool]] = Counter()
+    for p, recorded in enumerate(diary.recorded):
+        numbers = slice(p * diary.room + 1, p * diary.room + recorded + 2)
+        met.update(zip(map(bool, diary.put_in[numbers]), map(bool, diary.answered[numbers])))
+    both, lost, unknown = met[True, True], met[True, False], met[False, True]
+    print(f"{kind}: {calls} answers; {both + lost} went in, {both + unknown} came out; lost {lost}, not known to have gone in "
+          f"{unknown}")
+    return fits and lost == 0 and unknown == 0
 
 
-def main(kind: str, method: str, kills: int, makes_again: bool) -> bool:
-    context: Any = multiprocessing.get_context(method)
-    name, diary = f"kill.{os.getpid()}", Diary(context)
-    made: Any = {"counter": SharedCounter, "register": SharedRegister}.get(kind)
-    if made:
-        shared = made(name, seats=WORKERS + 1, create=True)
-    else:
-        shared = {"queue": SharedQueue, "map": SharedMap}[kind](name, CAPACITY, seats=WORKERS + 1, create=True)
+def opened(kind: str, name: str) -> Any:
+    if kind == "counter":
+        return SharedCounter(name, seats=WORKERS + 1, create=True)
+    if kind == "register":
+        return SharedRegister(name, seats=WORKERS + 1, create=True)
+    if kind == "program":
+        return SharedProgram(name, counter_with_limit(), seats=WORKERS + 1, create=True)
+    made: Any = {"queue": SharedQueue, "map": SharedMap}[kind]
+    return made(name, CAPACITY, seats=WORKERS + 1, create=True)
 
-    def start(p: int) -> BaseProcess:
-        worker: BaseProcess = context.Process(target=work, args=(shared, diary, kind, p, makes_again), daemon=True)
+
+class Pool:
+    """The workers, and their killer."""
+
+    def __init__(self, method: str, shared: Any, diary: Diary, kind: str, makes_again: bool) -> None:
+        self.context: Any = multiprocessing.get_context(method)
+        self.shared, self.diary, self.kind, self.makes_again = shared, diary, kind, makes_again
+        self.begun = [0] * WORKERS  # how many calls each seat had made as its worker was begun
+        self.workers = [self.start(p) for p in range(WORKERS)]
+
+    def start(self, p: int) -> BaseProcess:
+        self.begun[p] = self.diary.recorded[p]
+        worker: BaseProcess = self.context.Process(
+            target=work, args=(self.shared, self.diary, self.kind, p, self.makes_again), daemon=True
+        )
         worker.start()
         return worker
 
-    with shared:
-        workers = [start(p) for p in range(WORKERS)]
-        began, met = time.monotonic(), 0
-        for _ in range(kills):
-            p = random.randrange(WORKERS)
-            before, limit = diary.recorded[p], time.monotonic() + random.choice([0, 5, 5, 5, 5, 5, 5, 5])
-            while time.monotonic() < limit and diary.recorded[p] == before:
-                time.sleep(0.001)  # most are killed once they make calls
-            time.sleep(random.random() * 0.003)
-            met += diary.recorded[p] != before
-            workers[p].kill()
-            workers[p].join()
-            workers[p] = start(p)
-        still, before = WORKERS, list(diary.recorded)
-        limit = time.monotonic() + 60
-        while still and time.monotonic() < limit:
-            time.sleep(0.01)
-            still = sum(now == then < ROOM - 1 for now, then in zip(diary.recorded, before))
-        for worker in workers:
-            worker.kill()
-            worker.join()
-        # the workers' last calls are ended, and counted
+    def making_calls(self, least: int, seconds: float) -> list[int]:
+        """Who makes calls, once so many do, or after so long."""
+        limit = time.monotonic() + seconds
+        while True:
+            calling = [p for p in range(WORKERS) if self.diary.recorded[p] != self.begun[p]]
+            if len(calling) >= least or time.monotonic() > limit:
+                return calling
+            time.sleep(0.001)
+
+    def kill(self, p: int) -> None:
+        self.workers[p].kill()
+        self.workers[p].join()
+
+    def kill_one(self) -> bool:
+        """Kills a worker, and begins another one with its number: whether it made calls."""
+        calling = self.making_calls(BUSY, 5) if random.randrange(8) else []
+        time.sleep(random.random() * 0.003)
+        p = random.choice(calling or range(WORKERS))
+        made_calls = bool(self.diary.recorded[p] != self.begun[p])
+        self.kill(p)
+        self.workers[p] = self.start(p)
+        return made_calls
+
+    def end(self) -> int:
+        """Kills all, and counts their last calls: how many made none within a minute, and had some left to make."""
+        self.begun[:] = self.diary.recorded
+        calling = self.making_calls(WORKERS, 60)
+        still = sum(p not in calling and self.begun[p] < self.diary.room - 1 for p in range(WORKERS))
         for p in range(WORKERS):
-            last = shared.claim(p)
-            c = diary.recorded[p]
-            if last.made == c + 1:
-                account(diary, kind, p, c, last.invocation, last.reply)
-                diary.recorded[p] = c + 1
-            shared.release()
+            self.kill(p)
+        for p in range(WORKERS):
+            go_on(self.shared, self.diary, self.kind, p, self.makes_again)
+            self.shared.release()
+        return still
+
+
+def main(kind: str, method: str, kills: int, makes_again: bool) -> bool:
+    began = time.monotonic()
+    with tempfile.NamedTemporaryFile(dir="/dev/shm") as file, opened(kind, f"kill.{os.getpid()}") as shared:
+        diary = Diary(file.name, (1 << 18) + 2000 * kills)
+        pool = Pool(method, shared, diary, kind, makes_again)
+        met = sum(pool.kill_one() for _ in range(kills))
+        still = pool.end()
         fits = left(shared, kind, diary)
-        wrong = sum(diary.wrong)
-        print(f"{method}: {kills} kills in {time.monotonic() - began:.0f} s, {met} of them amid calls; a call was ended "
-              f"{sum(diary.ended)} times; workers that stood still {still}; wrong {wrong}")
-        return fits and wrong == 0 and still == 0
+    wrong, full = sum(diary.wrong), sum(c == diary.room - 1 for c in diary.recorded)
+    print(f"{method}: {kills} kills in {time.monotonic() - began:.0f} s, {met} of them amid calls; a call was ended "
+          f"{sum(diary.ended)} times; workers that stood still {still}, that had made all calls {full}; wrong {wrong}")
+    return fits and wrong == 0 and still == 0
 
 
 def add_with_lock(value: Any, told: Any, p: int) -> None:
@@ -206,6 +264,9 @@ def with_value(method: str, kills: int) -> bool:
 
 
 if __name__ == "__main__":
+    import random  # a spawned worker, which runs the rest of this file, needs neither
+    import tempfile
+
     words = sys.argv[1:]
     if words[0] == "value":
         sys.exit(not with_value(words[1], int(words[2])))
