@@ -1,5 +1,9 @@
-"""Objects by programs: an account, a rate limiter, a leaderboard and a map with compare-and-insert, each beside a function."""
+"""Objects by programs: an account, a rate limiter, a leaderboard and a map with compare-and-insert, each beside a function.
 
+The variable CALLS tells how many calls four threads make on each, in all (40000).
+"""
+
+import os
 import pickle
 import random
 import unittest
@@ -10,6 +14,7 @@ from universal.program import BadProgram, Label, Program, Register
 
 Words = list[int]
 LIMIT, CLIENTS, TOKENS, RATE, PAIRS, BEST, REPLY = 1000, 8, 5, 2, 8, 3, 8
+EACH = int(os.environ.get("CALLS", "40000")) // 4
 
 
 def counted(pairs: int) -> Program:
@@ -218,14 +223,14 @@ class Programs(unittest.TestCase):
 
                 def work(seat: object) -> None:
                     random_ = random.Random(seat.process)  # type: ignore[attr-defined]
-                    for k in range(10_000):
+                    for k in range(EACH):
                         call = drawn(random_, k // 16)
                         reply = list(seat.call(*call))  # type: ignore[attr-defined]
                         told[reply[0]] = call, reply
 
                 last = in_threads(seats, work)
                 state = [0] * (2 + 2 * pairs)
-                for k in range(40_000):
+                for k in range(4 * EACH):
                     call, found = told[k]
                     reply = [k] + [0] * (REPLY - 1)
                     state[0] += 1

@@ -265,8 +265,9 @@ fn agree(program: Program, pairs: u64, plain: Plain) {
     agree_in_threads(program, pairs, plain);
 }
 
-/// 1,000,000 calls of four threads, made again in the order that they were told.
+/// The calls of four threads, made again in the order that they were told: 1,000,000 in all, or as many as the variable CALLS says.
 fn agree_in_threads(program: Program, pairs: u64, plain: Plain) {
+    let each = std::env::var("CALLS").map_or(1_000_000, |calls| calls.parse().unwrap()) / 4;
     let mut seats = program.open(4).unwrap().into_seats().unwrap();
     let mut told: Vec<([u64; 3], [u64; REPLY])> = std::thread::scope(|scope| {
         let workers: Vec<_> = seats
@@ -274,7 +275,7 @@ fn agree_in_threads(program: Program, pairs: u64, plain: Plain) {
             .map(|seat| {
                 scope.spawn(move || {
                     let mut seed = 1000 + seat.process();
-                    let made = (0..250_000).map(|k| {
+                    let made = (0..each).map(|k| {
                         let (call, mut reply) = (call_of(&mut seed, k / 16), [9; REPLY]);
                         seat.call(&call, &mut reply).unwrap();
                         (call, reply)
