@@ -8,8 +8,8 @@ counter with a limit, by a program of one's own. With `again` a worker makes a c
 that has to be seen as wrong. `value` is a `multiprocessing.Value` with its lock, for comparison. The status is 1 where something
 is wrong.
 
-Most kills come once at least three workers make calls, and one in eight whatever they do, also as they start. With `-S`, and
-where PYTHONPYCACHEPREFIX names a folder, spawned workers start sooner.
+Most kills come once at least three workers make calls, and one in eight whatever they do, also as they start. With `-S` spawned
+workers start sooner.
 """
 
 import mmap
