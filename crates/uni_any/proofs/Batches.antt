@@ -1,5 +1,5 @@
 -- Calls that are applied one after another.
-use Rattle.uni_any.proofs.Vocabulary.{AcceptsAll, Atomic, Linearize, append-nil, append_assoc, Contains, Contains-append_cases, Image, Invoked, IsRising, List, Row, Sequential, Some, [], ap, applied_in, arith, blank, get_or-set_other, get_or-set_same, image_from, inl, inr, inv_of, length, length-set, map, number_cases, refl, response_at, row_in, slice_get, state_after, subst, suc, sym, taken_in, zero, ℕ, ◌++◌, ◌+◌, ◌<◌, ◌∙◌, ◌∷◌, ◌≡◌, ◌≢◌, ◌≤◌, ◌⊎◌}
+use Rattle.uni_any.proofs.Vocabulary.{AcceptsAll, Atomic, Linearize, append-nil, append_assoc, Contains, Contains-append_cases, Image, Invoked, IsRising, List, Row, Sequential, Some, [], ap, applied_in, arith, blank, cond, false, fold, get_or-set_other, get_or-set_same, image_from, inl, inr, inv_of, length, length-set, map, number_cases, refl, response_at, row_in, slice_get, state_after, subst, suc, sym, taken_in, zero, ℕ, ◌++◌, ◌+◌, ◌<◌, ◌==◌, ◌∙◌, ◌∷◌, ◌≡◌, ◌≢◌, ◌≤◌, ◌⊎◌}
 
 pub contains_cons : {A : Type 0} (x : A) (xs : List A) (y : A) → Contains (x ∷ xs) y → (x ≡ y) ⊎ Contains xs y
 contains_cons x xs y (zero, below, e) = inl e
@@ -48,6 +48,24 @@ module _ {S I R : Type 0} (object : Sequential S I R) where
   pub state_from : (image : Image S R) (cs : List (Invoked I)) → (image_from object image cs).state ≡ state_after object image.state (map inv_of cs)
   state_from image [] = refl
   state_from image (c ∷ cs) = state_from (taken_in object image c.process c.inv) cs
+
+  -- a row counts the calls of its process
+  row_counts : (image : Image S R) (c : Invoked I) (q : ℕ) → q < length image.rows → applied_in (taken_in object image c.process c.inv) q ≡ applied_in image q + cond (c.process == q) 1 0
+  row_counts image c q inside = elim (number_cases c.process q) [
+    | inl same ↦
+        subst (λ p. applied_in (taken_in object image p c.inv) q ≡ applied_in image q + cond (c.process == q) 1 0) (sym same.0)
+        (ap (λ (z : Row R). z.applied) (row_here object image q c.inv inside) ∙ ap (λ b. applied_in image q + cond b 1 0) (sym same.1))
+    | inr other ↦
+        let none : applied_in image q ≡ applied_in image q + cond false 1 0 = omega arith in
+        ap (λ (z : Row R). z.applied) (row_else object image q c.process c.inv (λ e. other.0 (sym e))) ∙ none ∙ ap (λ b. applied_in image q + cond b 1 0) (sym other.1)
+  ]
+
+  pub counted_from : (image : Image S R) (cs : List (Invoked I)) (q : ℕ) → q < length image.rows → applied_in (image_from object image cs) q ≡ fold (λ a (c : Invoked I). a + cond (c.process == q) 1 0) (applied_in image q) cs
+  counted_from image [] q inside = refl
+  counted_from image (c ∷ cs) q inside =
+      let l = length-set image.rows c.process (record { applied = applied_in image c.process + 1; reply = Some (object.answer image.state c.inv) }) in
+      counted_from (taken_in object image c.process c.inv) cs q (omega (arith, l, inside))
+      ∙ ap (λ k. fold (λ a (d : Invoked I). a + cond (d.process == q) 1 0) k cs) (row_counts image c q inside)
 
   -- a process has a call among them, or its row stays
   pub row_from : (image : Image S R) (cs : List (Invoked I)) (q : ℕ) → ((c : Invoked I) × Contains cs c × (c.process ≡ q)) ⊎ (row_in (image_from object image cs) q ≡ row_in image q)

@@ -1,11 +1,11 @@
 -- What a closed table shows.
-use Rattle.uni_any.proofs.Vocabulary.{Block, Board, Contains, IsOf, IsReader, IsShown, List, Made, Mail, Mine, Sequential, ShowsBoard, Sizes, State, View, [], ap, arith, block_frame, get_elem?, inl, inr, local_of, mul-le-mul_right, pending_of, refl, slice_index, slot_of, some, some-injective, some-ne-none, stage_of, subst, sym, told, word_of, ℕ, ◌%◌, ◌*◌, ◌+◌, ◌-◌, ◌<◌, ◌∙◌, ◌∷◌, ◌≡◌, ◌≢◌, ◌≤◌}
+use Rattle.uni_any.proofs.Vocabulary.{Block, Board, Contains, Image, IsOf, IsReader, IsShown, List, Made, Mail, Mine, Sequential, ShowsBoard, Sizes, State, View, [], ap, arith, block_frame, get_elem?, inl, inr, local_of, mul-le-mul_right, pending_of, refl, slice_index, slot_of, some, some-injective, some-ne-none, stage_of, subst, sym, told, word_of, ℕ, ◌%◌, ◌*◌, ◌+◌, ◌-◌, ◌<◌, ◌∙◌, ◌∷◌, ◌≡◌, ◌≢◌, ◌≤◌}
 use Rattle.uni_any.specs.Ended.{HasRunTo}
 use Rattle.uni_any.specs.Execution.{moment_of}
 use Rattle.uni_any.specs.Ran.{HasRun}
-use Rattle.uni_any.specs.Final.{IsLinearized, IsToldBy, ProcessCalls}
+use Rattle.uni_any.specs.Final.{IsToldBy, IsVersion, ProcessCalls}
 use Rattle.uni_any.proofs.Batches.{contains_cons, not_empty}
-use Rattle.uni_any.proofs.Meaning.{acts_at, linearized_at}
+use Rattle.uni_any.proofs.Meaning.{acts_at, linearized_at, version_at}
 use Rattle.uni_any.proofs.Slots.{block_inside}
 
 module _ {O I S R : Type 0} (meaning : O → Sequential S I R) (o : O) (sizes : Sizes) (last : State (Mail I (Block S R)) (View O I S R)) (holds : ShowsBoard meaning o sizes last) (words : List ℕ) (words_are : last.words ≡ words) (p id : ℕ)
@@ -38,9 +38,9 @@ module _ {O I S R : Type 0} (meaning : O → Sequential S I R) (o : O) (sizes : 
   run : HasRun (meaning o) sizes (moment_of last.words last.homes holds.1.0) g.acts
   run = holds.1.1.2
 
-  pub closed_linearized : (state : S) → g.image.state ≡ state → IsLinearized (meaning o) sizes.processes (told_calls ∷ []) state
-  closed_linearized state e = subst (λ z. IsLinearized (meaning o) sizes.processes (told_calls ∷ []) z) e
-      (linearized_at meaning o sizes g holds.1.0 holds.1.1.0 last is (told_calls ∷ []) told_by)
+  pub closed_version : (version : Image S R) → g.image ≡ version → IsVersion (meaning o) sizes.processes (told_calls ∷ []) version
+  closed_version version e = subst (λ z. IsVersion (meaning o) sizes.processes (told_calls ∷ []) z) e
+      (version_at meaning o sizes g holds.1.0 holds.1.1.0 last is (told_calls ∷ []) told_by)
 
   -- and some execution has made that history
   pub closed_ran : (state : S) → g.image.state ≡ state → HasRunTo (meaning o) sizes (told_calls ∷ []) state

@@ -1,7 +1,8 @@
 -- What the rule means.
-use Rattle.uni_any.proofs.Vocabulary.{Block, Board, Contains, Image, IsOrdered, IsShown, IsTold, List, Local, Mail, None, Option, Returned, Sequential, Sizes, Some, State, View, acts_by, ap, arith, first_image, in_of, mul-le-mul_right, pending_of, refl, slice_get, slice_index, StandsIn, subst, sym, version_in, word_of, ℕ, ◌*◌, ◌+◌, ◌/◌, ◌<◌, ◌∙◌, ◌≡◌, ◌≤◌}
-use Rattle.uni_any.specs.Final.{IsLinearized, IsToldBy, ProcessCalls, acts_told}
-use Rattle.uni_any.proofs.Batches.{state_from}
+use Rattle.uni_any.proofs.Vocabulary.{Block, Board, Contains, Image, Invoked, IsOrdered, IsShown, IsTold, List, Local, Mail, None, Option, Returned, Row, Sequential, Sizes, Some, State, View, acts_by, ap, applied_in, arith, blank, cond, first_image, fold, in_of, length-replicate, mul-le-mul_right, pending_of, refl, slice_get, slice_index, StandsIn, subst, sym, version_in, word_of, ℕ, ◌*◌, ◌+◌, ◌/◌, ◌<◌, ◌==◌, ◌∙◌, ◌≡◌, ◌≤◌}
+use Rattle.uni_any.specs.Final.{IsLinearized, IsToldBy, IsVersion, ProcessCalls, acts_told}
+use Rattle.uni_any.proofs.Batches.{counted_from, state_from}
+use Rattle.uni_any.proofs.Opening.{copies}
 
 acts_of : {I S R : Type 0} (object : Sequential S I R) (g : Board I S R) (p : ℕ) (own : List (Returned I R)) (pending : Option I) → IsTold object g p own pending → acts_by p g.acts ≡ acts_told p own pending
 acts_of object g p own None told = told.2
@@ -43,6 +44,17 @@ module _ {O I S R : Type 0} (meaning : O → Sequential S I R) (o : O) (sizes : 
         rising = is.sound.order.rising;
         stand = λ its has k call at. told_order its (by its has) k call at;
       }
+
+  pub version_at : (known : List (ProcessCalls I R)) → ((its : ProcessCalls I R) → Contains known its → IsToldBy s.views its) → IsVersion (meaning o) sizes.processes known g.image
+  unfolding linearized_at
+  version_at known by = record {
+    history = linearized_at known by;
+    rows = λ q inside.
+        let long = length-replicate {A = Row R} sizes.processes blank in
+        let none : applied_in (first_image (meaning o) sizes) q ≡ 0 = ap (λ (z : Row R). z.applied) (copies sizes.processes q blank) in
+        ap (λ (i : Image S R). applied_in i q) (sym is.sound.history.image) ∙ counted_from (meaning o) (first_image (meaning o) sizes) g.atomic.agreed q (omega (arith, long, inside))
+        ∙ ap (λ k. fold (λ a (c : Invoked I). a + cond (c.process == q) 1 0) k g.atomic.agreed) none;
+  }
 
   pub soon_at : (p : ℕ) → p < sizes.processes → g.since p + 2 ≤ g.version → in_of g p ≡ g.announced p
   soon_at p inside late = (let a = is.sound.board.soon p inside late in let b = is.sound.board.in_most p inside in omega arith)

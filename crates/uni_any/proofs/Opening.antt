@@ -6,7 +6,7 @@ use Rattle.atomic_table.specs.Table.{opening}
 use Rattle.atomic_table.proofs.Lists.{some_there}
 use Rattle.uni_any.proofs.Slots.{place_inside}
 
-copies : {A : Type 0} (k i : ℕ) (a : A) → slice_index_or (replicate k a) i a ≡ a
+pub copies : {A : Type 0} (k i : ℕ) (a : A) → slice_index_or (replicate k a) i a ≡ a
 copies zero i a = refl
 copies (suc k) zero a = refl
 copies (suc k) (suc i) a = copies k i a

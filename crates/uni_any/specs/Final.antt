@@ -1,6 +1,6 @@
 -- What the rule tells of a process.
-use Rattle.std.specs.Prelude.{◌≡◌, ℕ, ◌<◌, ◌≤◌, List, [], ◌∷◌, ◌++◌, Option, None, Some}
-use Rattle.std.specs.Prelude.{Contains, length, map, slice_get}
+use Rattle.std.specs.Prelude.{◌≡◌, ℕ, ◌<◌, ◌≤◌, ◌==◌, List, [], ◌∷◌, ◌++◌, Option, None, Some}
+use Rattle.std.specs.Prelude.{Contains, count_by, length, map, refl, slice_get}
 use Rattle.seq_object.specs.Sequential.{Sequential}
 use Rattle.seq_object.specs.History.{state_after}
 use Rattle.uni_model.specs.AtomicObject.{AcceptsAll, Act, Atomic, Invoked, at_start}
@@ -10,7 +10,9 @@ use Rattle.uni_model.specs.ProcessCalls.{acts_by, sequential_acts}
 use lib.ListN.{get_elem?}
 use mathlib.Core.Option.{some}
 use Rattle.uni_any.specs.Batch.{inv_of, pending_of, plain}
+use Rattle.uni_any.specs.Content.{applied_in}
 use Rattle.uni_any.specs.Order.{StandsIn}
+use Rattle.uni_any.specs.declared.view.Image.{Image}
 use Rattle.uni_any.specs.declared.view.Returned.{Returned}
 use Rattle.uni_any.specs.declared.view.View.{View}
 
@@ -56,3 +58,21 @@ pub record IsLinearized {S I R : Type 0} (object : Sequential S I R) (n : ℕ) (
   pub stand : (its : ProcessCalls I R) → Contains known its
       → (k : ℕ) (call : Returned I R) → slice_get its.own k ≡ Some call
       → StandsIn object atomic.agreed calls_in_version its.process k call
+
+-- how many calls of process q are among these
+abbrev pub calls_among : {I : Type 0} → (q : ℕ) → List (Invoked I) → ℕ
+calls_among q calls = count_by (λ c. c.process == q) calls
+
+-- A version has the state after such a history, and its rows say how many calls of each process took effect in it.
+pub record IsVersion {S I R : Type 0} (object : Sequential S I R) (n : ℕ) (known : List (ProcessCalls I R))
+    (version : Image S R) : Type 0 where
+  pub history : IsLinearized object n known version.state
+  pub rows : (q : ℕ) → q < n → applied_in version q ≡ calls_among q history.atomic.agreed
+
+-- of three calls two are those of process 1, and none is one of process 0
+abbrev sample_call : (p k : ℕ) → Invoked ℕ
+sample_call p k = record { process = p; nth = k; inv = 5 }
+
+sample_among : calls_among 1 (sample_call 1 0 ∷ sample_call 2 0 ∷ sample_call 1 1 ∷ [])
+    ∷ calls_among 0 (sample_call 1 0 ∷ sample_call 2 0 ∷ []) ∷ [] ≡ 2 ∷ 0 ∷ []
+sample_among = refl

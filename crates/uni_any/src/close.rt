@@ -5,8 +5,9 @@ ghost use Rattle.std.specs.Mem.Slots.{IsFull, slots_items, slots_len};
 ghost use lib.ListN.{get_elem?};
 ghost use mathlib.Core.Option.{some};
 ghost use Rattle.uni_any.specs.Belongs.{IsSeatOf, known_calls, object_of, processes_of, sizes_of};
+ghost use Rattle.uni_any.specs.Content.{image_of};
 ghost use Rattle.uni_any.specs.Ended.{HasRunTo};
-ghost use Rattle.uni_any.specs.Final.{IsLinearized};
+ghost use Rattle.uni_any.specs.Final.{IsVersion};
 
 use crate::block::Block;
 use crate::mail::Mail;
@@ -50,18 +51,20 @@ fn take_slot<I: Drop, B: Drop>(closed: Closed<Mail<I, B>, Global>, slot: usize) 
 
 impl<O: SeqObject> AnyShared<O> {
     /// Closes the object with the seat of one of its processes, which is one of this object's: its last
-    /// version, by tests: the clauses say that it is one with these calls. Other seats may be dropped: which calls
-    /// they made is not said. It takes no memory.
+    /// version. Other seats may be dropped. It takes no memory.
     ///
     /// The calls of the seat's process, with the replies that they were given, are those of a history that the
     /// atomic object accepts; where one is pending, it has begun, and may have taken effect. The version
     /// has the state after the calls of this history, in the order in which they took effect. In that order each of
     /// them that has returned comes after all calls of the version that its seat had followed, and is among those of
     /// its own version. This history is made by the steps on words of an execution, in their order.
+    ///
+    /// The rows say how many calls of each process have taken effect in that history: so whoever knows how many
+    /// were made sees that the version is the last one. No clause says so by itself, and tests do.
     pub fn close_with(self, seat: AnySeat<O>) -> Arc<Block<O::State, O::Resp>, Global>
         requires seat { IsSeatOf self seat }
-        ensures told { IsLinearized (O.sequential (object_of self)) (processes_of self)
-            (known_calls seat ∷ []) (arc_value result).state }
+        ensures told { IsVersion (O.sequential (object_of self)) (processes_of self)
+            (known_calls seat ∷ []) (image_of (arc_value result)) }
         ensures ran { HasRunTo (O.sequential (object_of self)) (sizes_of self)
             (known_calls seat ∷ []) (arc_value result).state }
     {
