@@ -13,7 +13,8 @@ use Rattle.uni_script.specs.Scripts.{scripts_of}
 use Rattle.uni_script.specs.Grammar.{is_note, is_plain_byte}
 use Rattle.uni_script.specs.Replay.{text_of_script}
 use Rattle.run_layout.specs.Choice.{all_events}
-use Rattle.run_layout.specs.Subject.{HasTooManyEvents}
+use Rattle.run_layout.specs.Subject.{HasRangeFault}
+use Rattle.run_layout.specs.declared.choice.RangeFault.TheVariants.{TooManyEvents}
 use Rattle.run_tell.specs.Sentences.{steps_wording}
 use Rattle.run_tell.specs.Told.{IsTold}
 use Rattle.course_run.specs.declared.judging.Judgement.{Judgement}
@@ -165,7 +166,8 @@ missing_of goal script steps =
 -- a script's run is told in these steps; or it has more than 2,000 events, and they are none
 abbrev pub AreStepsOf : (script steps : List ℕ) → Type 0
 AreStepsOf script steps =
-    IsTold steps_wording all_events (Some script) steps ⊎ (HasTooManyEvents all_events (Some script) × (steps ≡ []))
+    IsTold steps_wording all_events (Some script) steps
+    ⊎ (HasRangeFault all_events TooManyEvents (Some script) × (steps ≡ []))
 
 -- the line that is missing, if one is
 abbrev pub missing_in : Judgement → Option ℕ

@@ -59,7 +59,8 @@ pub fn steps_of(alloc: Global, script: &[u8]) -> Result<Vec<u8>, BenchFault>
     let mut steps = Checked::new(Vec::new(alloc));
     match tell_script::<InWords, _, _>(alloc, Range::all(), &mut Checked::new(script), &mut steps) {
         Ok(()) => Ok(Vec::from_slice(alloc, steps.end().as_slice())?),
-        Err(PictureFault::TooManyEvents) => Ok(Vec::new(alloc)),
+        // Of all events only too many are refused.
+        Err(PictureFault::Range(_)) => Ok(Vec::new(alloc)),
         // The writer keeps what it is given: it fails where memory is refused.
         Err(PictureFault::Script(BenchFault::Write) | PictureFault::Misdrawn) => {
             Err(BenchFault::Memory)

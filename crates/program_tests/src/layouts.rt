@@ -1,6 +1,8 @@
 //! Tests of the labels of equal refusals, of columns, and of the longest picture.
 
-use run_layout::{Axis, PictureFault, Range, Scale, Subject, Told, axis_of, subject_of, told_of};
+use run_layout::{
+    Axis, PictureFault, Range, RangeFault, Scale, Subject, Told, axis_of, subject_of, told_of,
+};
 use std::alloc::Global;
 use std::io::Write;
 use std::test::Fail;
@@ -114,8 +116,15 @@ fn long_script(alloc: Global, steps: u64) -> Result<Vec<u8>, Fail> {
 
 #[test]
 fn a_picture_shows_2000_events(rt: HostRuntime) -> Result<(), Fail> {
-    let many = Some(PictureFault::TooManyEvents);
-    for (steps, from, fault) in [(4, 0, None), (5, 0, many), (5, 1, None)] {
+    let many = Some(PictureFault::Range(RangeFault::TooManyEvents));
+    let past = Some(PictureFault::Range(RangeFault::PastEnd));
+    for (steps, from, fault) in [
+        (4, 0, None),
+        (5, 0, many),
+        (5, 1, None),
+        (5, 2000, None),
+        (5, 2001, past),
+    ] {
         let script = long_script(rt.alloc(), steps)?;
         let range = Range { from, to: None };
         let subject = subject_of(rt.alloc(), range, &mut Checked::new(script.as_slice()));

@@ -1,5 +1,6 @@
 pub mod Vocabulary
 pub mod Adding
+pub mod Ranges
 pub mod Scripts
 pub mod Everything
 pub mod Lanes

@@ -1,5 +1,6 @@
 -- What a picture shows of a script, by the record of its run.
-use Rattle.run_layout.proofs.Vocabulary.{Event, HasMoreEvents, HasRunWhole, HasTooManyEvents, Heard, IsOwnRunOf, IsRunOf, IsScriptRun, IsSubject, IsSubjectOf, Kind, List, Off, Option, Options, PlacedRemark, Queue, Range, Recording, RunMarks, ScriptRecord, ScriptRun, ScriptSession, Session, SpokenObject, Version, ap, count_in, events_of_record, events_shown, length, map, marks_of_events, marks_of_own, marks_of_record, marks_of_session, own_scripts, own_scripts_of, refl, remark_at, remarks_of_script, scripts_of, session_of_record, subst, sym, ℕ, ◌<◌, ◌∙◌, ◌≡◌, ◌≤◌}
+use Rattle.run_layout.proofs.Vocabulary.{Event, HasRangeFault, HasRangeFaultOf, HasRunWhole, Heard, IsOwnRunOf, IsRunOf, IsScriptRun, IsSubject, IsSubjectOf, Kind, List, None, Off, Option, Options, PlacedRemark, Queue, Range, Recording, RangeFault, RunMarks, ScriptRecord, ScriptRun, ScriptSession, Session, Some, SpokenObject, Version, ap, count_in, events_of_record, events_shown, length, map, marks_of_events, marks_of_own, marks_of_record, marks_of_session, own_scripts, own_scripts_of, range_fault, refl, remark_at, remarks_of_script, scripts_of, session_of_record, subst, sym, ℕ, ◌∙◌, ◌≡◌, ◌≤◌}
+use Rattle.run_layout.proofs.Ranges.{few_in}
 
 marks_of_session-record : (version : Version) (r : ScriptRecord) → marks_of_session (session_of_record version r) ≡ marks_of_record r
 marks_of_session-record version (Queue r) = refl
@@ -29,32 +30,32 @@ pub default_own_run : {O S I R : Type 0} (o : SpokenObject S I R) (name : List �
     → HasRunWhole (own_scripts o name (record { history = 1048576; echo = Off })) left (λ b remarks. IsOwnRunOf o b remarks run)
 default_own_run o name options left run same is = subst (λ options. HasRunWhole (own_scripts o name options) left (λ b remarks. IsOwnRunOf o b remarks run)) same is
 
--- a script that has run whole is a subject, or has too many events
+-- a script that has run whole is a subject, or these events can't be chosen of it
 module _ {B : Type 0} (kind : Kind B) (marks_in : B → RunMarks) (range : Range) (left : Option (List ℕ)) (Holds : B → Heard → Type 0) (is : HasRunWhole kind left Holds) where
-  as_subject : (marks : RunMarks) (remarks : List PlacedRemark) → count_in range (kind.events is.3.0) ≤ 2000 → marks ≡ marks_in is.3.0
+  as_subject : (marks : RunMarks) (remarks : List PlacedRemark) → range_fault range (kind.events is.3.0) ≡ None → marks ≡ marks_in is.3.0
       → remarks_of_script kind is.0 ≡ map remark_at remarks → IsSubjectOf kind marks_in range left marks remarks
-  as_subject marks remarks few same told =
-      record { script = is.0; input = is.1; good = is.2; session = is.3.0; session_is = is.3.1; few = few; marks_are = same; remarks_are = told }
+  as_subject marks remarks fits same told =
+      record { script = is.0; input = is.1; good = is.2; session = is.3.0; session_is = is.3.1; fits = fits; marks_are = same; remarks_are = told }
 
-  as_more : 2000 < count_in range (kind.events is.3.0) → HasMoreEvents kind range left
-  as_more many = record { script = is.0; input = is.1; good = is.2; session = is.3.0; session_is = is.3.1; many = many }
+  as_fault : (e : RangeFault) → range_fault range (kind.events is.3.0) ≡ Some e → HasRangeFaultOf kind range e left
+  as_fault e fault = record { script = is.0; input = is.1; good = is.2; session = is.3.0; session_is = is.3.1; fault = fault }
 
 module _ (range : Range) (left : Option (List ℕ)) (run : ScriptRun ScriptRecord) (is : IsScriptRun (record { history = 1048576; echo = Off }) left run) where
-  pub subject_run : (marks : RunMarks) → count_in range (events_of_record run.record) ≤ 2000 → marks ≡ marks_of_record run.record → IsSubject range left marks run.remarks.items
-  subject_run marks few same =
+  pub subject_run : (marks : RunMarks) → range_fault range (events_of_record run.record) ≡ None → marks ≡ marks_of_record run.record → IsSubject range left marks run.remarks.items
+  subject_run marks fits same =
       let of = is.3.2 in
       as_subject (scripts_of 1048576) marks_of_session range left (λ b heard. IsRunOf b heard run) is marks run.remarks.items
-      (subst (λ n. count_in range n ≤ 2000) (sym (events-run is.3.0 of.version run.record of.session)) few)
+      (subst (λ n. range_fault range n ≡ None) (sym (events-run is.3.0 of.version run.record of.session)) fits)
       (same ∙ sym (marks_of_session-record of.version run.record) ∙ ap marks_of_session (sym of.session)) of.remarks_are
 
-  pub more_run : 2000 < count_in range (events_of_record run.record) → HasTooManyEvents range left
-  more_run many =
-      as_more (scripts_of 1048576) marks_of_session range left (λ b heard. IsRunOf b heard run) is
-      (subst (λ n. 2000 < count_in range n) (sym (events-run is.3.0 is.3.2.version run.record is.3.2.session)) many)
+  pub fault_run : (e : RangeFault) → range_fault range (events_of_record run.record) ≡ Some e → HasRangeFault range e left
+  fault_run e fault =
+      as_fault (scripts_of 1048576) marks_of_session range left (λ b heard. IsRunOf b heard run) is e
+      (subst (λ n. range_fault range n ≡ Some e) (sym (events-run is.3.0 is.3.2.version run.record is.3.2.session)) fault)
 
 -- a subject has as many events as its record
-pub few_run : (range : Range) (r : ScriptRecord) (marks : RunMarks) → marks ≡ marks_of_record r → count_in range (events_of_record r) ≤ 2000 → count_in range marks.events ≤ 2000
-few_run range r marks same few = subst (λ n. count_in range n ≤ 2000) (sym (ap (λ (m : RunMarks). m.events) same ∙ events-marks r)) few
+pub few_run : (range : Range) (r : ScriptRecord) (marks : RunMarks) → marks ≡ marks_of_record r → range_fault range (events_of_record r) ≡ None → count_in range marks.events ≤ 2000
+few_run range r marks same fits = subst (λ n. count_in range n ≤ 2000) (sym (ap (λ (m : RunMarks). m.events) same ∙ events-marks r)) (few_in range (events_of_record r) fits)
 
 -- the same of the run of a script over one object
 module _ {O S I R : Type 0} (o : SpokenObject S I R) (text : S → List ℕ) (name : List ℕ) (range : Range) (left : Option (List ℕ)) (run : ScriptRun (Recording O S I R))
@@ -62,22 +63,22 @@ module _ {O S I R : Type 0} (o : SpokenObject S I R) (text : S → List ℕ) (na
   abbrev stored : List (Event I)
   stored = events_shown run.record.events
 
-  pub own_subject : (marks : RunMarks) → count_in range (length stored) ≤ 2000 → marks ≡ marks_of_events o text name run.record.processes run.record.first stored
+  pub own_subject : (marks : RunMarks) → range_fault range (length stored) ≡ None → marks ≡ marks_of_events o text name run.record.processes run.record.first stored
       → IsSubjectOf (own_scripts_of o name 1048576) (marks_of_own o text name) range left marks run.remarks.items
-  own_subject marks few same =
+  own_subject marks fits same =
       let of = is.3.2 in
       as_subject (own_scripts_of o name 1048576) (marks_of_own o text name) range left (λ b heard. IsOwnRunOf o b heard run) is marks run.remarks.items
-      (subst (λ (s : Session S I R). count_in range (length s.events) ≤ 2000) (sym of.session) few)
+      (subst (λ (s : Session S I R). range_fault range (length s.events) ≡ None) (sym of.session) fits)
       (same ∙ ap (λ (s : Session S I R). marks_of_events o text name s.processes s.first s.events) (sym of.session)) of.remarks_are
 
-  pub own_few : (marks : RunMarks) → count_in range (length stored) ≤ 2000 → marks ≡ marks_of_events o text name run.record.processes run.record.first stored → count_in range marks.events ≤ 2000
+  pub own_few : (marks : RunMarks) → range_fault range (length stored) ≡ None → marks ≡ marks_of_events o text name run.record.processes run.record.first stored → count_in range marks.events ≤ 2000
   unfolding marks_of_events
-  own_few marks few same = subst (λ n. count_in range n ≤ 2000) (sym (ap (λ (m : RunMarks). m.events) same)) few
+  own_few marks fits same = subst (λ n. count_in range n ≤ 2000) (sym (ap (λ (m : RunMarks). m.events) same)) (few_in range (length stored) fits)
 
   pub own_remarks : length run.remarks.items ≤ 100000
   own_remarks = is.3.2.few
 
-  pub own_more : 2000 < count_in range (length stored) → HasMoreEvents (own_scripts_of o name 1048576) range left
-  own_more many =
-      as_more (own_scripts_of o name 1048576) (marks_of_own o text name) range left (λ b heard. IsOwnRunOf o b heard run) is
-      (subst (λ (s : Session S I R). 2000 < count_in range (length s.events)) (sym is.3.2.session) many)
+  pub own_fault : (e : RangeFault) → range_fault range (length stored) ≡ Some e → HasRangeFaultOf (own_scripts_of o name 1048576) range e left
+  own_fault e fault =
+      as_fault (own_scripts_of o name 1048576) (marks_of_own o text name) range left (λ b heard. IsOwnRunOf o b heard run) is e
+      (subst (λ (s : Session S I R). range_fault range (length s.events) ≡ Some e) (sym is.3.2.session) fault)

@@ -1,6 +1,6 @@
 -- Some events of a run, and what is drawn of it where these are chosen.
-use Rattle.std.specs.Prelude.{◌≡◌, ℕ, ◌+◌, ◌-◌, ◌==◌, ◌&&◌, ◌||◌, not, min, max, nat_le, if◌then◌else◌, Bool, true, false, List, [], ◌∷◌, map, Option, Some, None, Vec, option_and_then, refl}
-use Rattle.run_layout.specs.Vocabulary.{filter, list_any, option_map_or, Global, Remark, Heading, Note, Refused, PlacedRemark, Sequence, StepMark, Dot, EraLine, End, Called, Cell, EraMarks, RunMarks, Range}
+use Rattle.std.specs.Prelude.{◌≡◌, ℕ, ◌+◌, ◌-◌, ◌==◌, ◌&&◌, ◌||◌, not, min, max, nat_le, nat_lt, if◌then◌else◌, Bool, true, false, List, [], ◌∷◌, map, Option, Some, None, Vec, option_and_then, refl}
+use Rattle.run_layout.specs.Vocabulary.{filter, list_any, option_map_or, Global, Remark, Heading, Note, Refused, PlacedRemark, Sequence, StepMark, Dot, EraLine, End, Called, Cell, EraMarks, RunMarks, Range, RangeFault, PastEnd, TooManyEvents}
 
 -- whether an event isn't after the last one, if there is a last
 abbrev pub is_by : (event : ℕ) → (last : Option ℕ) → Bool
@@ -22,6 +22,12 @@ all_events = record { from = 0; to = None }
 -- how many of so many events are chosen
 abbrev pub count_in : Range → (events : ℕ) → ℕ
 count_in range events = option_map_or (λ to. min (to + 1) events) range.to events - range.from
+
+-- why a choice of some of so many events is refused, if it is: it begins after the last one, or it has more than 2,000
+unfoldable pub range_fault : Range → (events : ℕ) → Option RangeFault
+range_fault range events =
+    if nat_lt 0 range.from && nat_le events range.from then Some PastEnd
+    else if nat_lt 2000 (count_in range events) then Some TooManyEvents else None
 
 -- ---- what is drawn of it: numbers count from the first event that is chosen
 
@@ -95,6 +101,19 @@ ten_to_twenty = record { from = 10; to = Some 20 }
 counts_of_three : count_in ten_to_twenty 27 ∷ count_in (record { from = 20; to = None }) 27
     ∷ count_in (record { from = 27; to = None }) 27 ∷ [] ≡ 11 ∷ 7 ∷ 0 ∷ []
 counts_of_three = refl
+
+-- from event 27 on nothing is left of 27 events, nor from event 5 on of none; all of none can be chosen, and 2,000 events can
+faults_of_four : range_fault (record { from = 27; to = None }) 27 ∷ range_fault (record { from = 5; to = Some 7 }) 0
+    ∷ range_fault all_events 0 ∷ range_fault (record { from = 1; to = None }) 2001 ∷ []
+    ≡ Some PastEnd ∷ Some PastEnd ∷ None ∷ None ∷ []
+unfolding range_fault
+faults_of_four = refl
+
+-- 2,001 events are too many, and the last of 27 can be chosen
+faults_of_two : range_fault all_events 2001 ∷ range_fault (record { from = 26; to = None }) 27 ∷ []
+    ≡ Some TooManyEvents ∷ None ∷ []
+unfolding range_fault
+faults_of_two = refl
 
 -- a range that ends before it begins has no event, and no bar goes over one
 none_of_twenty_to_ten : (count_in (record { from = 20; to = Some 10 }) 27 ≡ 0)

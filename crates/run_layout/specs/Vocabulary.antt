@@ -4,10 +4,12 @@ pub use Rattle.ready_objects.specs.Number.{numbers_text}
 pub use Rattle.ready_objects.specs.Sticky.{sticky_text}
 pub use Rattle.run_layout.specs.declared.axis.Stretch.{Stretch}
 pub use Rattle.run_layout.specs.declared.choice.Range.{Range}
+pub use Rattle.run_layout.specs.declared.choice.RangeFault.{RangeFault}
+pub use Rattle.run_layout.specs.declared.choice.RangeFault.TheVariants.{PastEnd, TooManyEvents}
 pub use Rattle.run_layout.specs.declared.marked.Mark.{Mark}
 pub use Rattle.run_layout.specs.declared.refusals.Told.{Told}
 pub use Rattle.run_layout.specs.declared.subject.PictureFault.{PictureFault}
-pub use Rattle.run_layout.specs.declared.subject.PictureFault.TheVariants.{Misdrawn, Script, TooManyEvents}
+pub use Rattle.run_layout.specs.declared.subject.PictureFault.TheVariants.{Misdrawn, Range as OfRange, Script}
 pub use Rattle.run_replay.specs.Marks.{Called, Cell, End, EraMarks, RunMarks, lanes_of, marks_of_run}
 pub use Rattle.run_replay.specs.Marks.{bar_shown, cell_shown, end_shown, era_shown, marks_shown}
 pub use Rattle.run_replay.specs.declared.marks.Dot.{Dot}

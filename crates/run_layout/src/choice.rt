@@ -6,8 +6,9 @@ ghost use Rattle.run_layout.specs.Vocabulary.{filter, list_any, bar_shown, cell_
 ghost use Rattle.run_layout.specs.Vocabulary.{marks_shown, Placed, RunMarks};
 ghost use Rattle.run_layout.specs.Choice.{is_by, is_in, meets, all_events, count_in, step_in, dot_in, line_in, end_in};
 ghost use Rattle.run_layout.specs.Choice.{bar_in, is_bar_in, links_outside, era_in, chosen, is_told_in, remark_in};
-ghost use Rattle.run_layout.specs.Choice.{chosen_remarks};
+ghost use Rattle.run_layout.specs.Choice.{chosen_remarks, range_fault};
 
+use crate::axis::MOST_EVENTS;
 use run_replay::{Bar, BarEnd, CellBox, Dot, Era, EraLine, Marks, StepMark};
 use std::alloc::{AllocError, Global};
 use uni_script::{PlacedRemark, Remark};
@@ -19,6 +20,15 @@ pub struct Range {
     pub from: u64,
     /// The last one; `None` where it is the run's.
     pub to: Option<u64>,
+}
+
+/// Why some events can't be chosen of a run.
+#[derive(Clone, Copy, Debug, PartialEq, Eq)]
+pub enum RangeFault {
+    /// They begin after the last event of the run.
+    PastEnd,
+    /// They are more than 2,000.
+    TooManyEvents,
 }
 
 /// Whether an event isn't after the last one, if there is a last.
@@ -65,6 +75,20 @@ impl Range {
             None => events,
         };
         end.saturating_sub(self.from)
+    }
+
+    /// Why it can't be chosen of a run of so many events, if it can't.
+    #[tactic(auto, unfolding(crate::specs::Choice::range_fault))]
+    pub fn fault(self, events: u64) -> Option<RangeFault>
+        ensures { result ≡ range_fault self events }
+    {
+        if 0 < self.from && events <= self.from {
+            return Some(RangeFault::PastEnd);
+        }
+        if MOST_EVENTS < self.count(events) {
+            return Some(RangeFault::TooManyEvents);
+        }
+        None
     }
 
     /// Whether a remark is told where these events are chosen: a heading is, and what stands before one of them.

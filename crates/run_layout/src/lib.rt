@@ -14,7 +14,7 @@ mod wrapping;
 pub use axis::{
     Axis, MOST_EVENTS, MOST_LANES, Scale, Side, Stretch, axis_of, lanes_between, letters,
 };
-pub use choice::Range;
+pub use choice::{Range, RangeFault};
 pub use marked::{Mark, Sign, after_events, push_part, push_part_in, signs_of};
 pub use refusals::{Told, refused_text, told_of};
 pub use subject::{PictureFault, Subject, subject_of, subject_of_object};

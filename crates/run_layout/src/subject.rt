@@ -1,14 +1,13 @@
 //! What a picture shows of a script.
 
-ghost use Rattle.std.specs.Prelude.{◌≡◌, ◌<◌, ◌≤◌, IfOk, OnOk, IsErrOf, Some, false, length};
+ghost use Rattle.std.specs.Prelude.{◌≡◌, ◌≤◌, IfOk, OnOk, IsErrOf, None, Some, false, length};
 ghost use Rattle.run_layout.specs.Vocabulary.{events_shown, spoken, HasFault, IsFaultOfScript, scripts_of};
 ghost use Rattle.run_layout.specs.Vocabulary.{own_scripts_of, Fault, marks_shown};
-ghost use Rattle.run_layout.specs.Choice.{chosen, chosen_remarks, count_in};
+ghost use Rattle.run_layout.specs.Choice.{chosen, chosen_remarks, count_in, range_fault};
 ghost use Rattle.run_layout.specs.Subject.{marks_of_events, marks_of_record, marks_of_own, events_of_record};
-ghost use Rattle.run_layout.specs.Subject.{picture_fault_text, IsSubject, IsSubjectOf, HasTooManyEvents, HasMoreEvents};
+ghost use Rattle.run_layout.specs.Subject.{picture_fault_text, IsSubject, IsSubjectOf, HasRangeFault, HasRangeFaultOf};
 
-use crate::axis::MOST_EVENTS;
-use crate::choice::{Range, chosen, chosen_remarks};
+use crate::choice::{Range, RangeFault, chosen, chosen_remarks};
 use ready_objects::{BookObject, DirectoryObject, QueueObject, Spoken, StickyObject};
 use run_replay::{Marks, marks_of};
 use std::alloc::{AllocError, Global};
@@ -23,8 +22,8 @@ use uni_script::{
 pub enum PictureFault {
     /// The script has this fault, or its run has.
     Script(BenchFault),
-    /// More than 2,000 events of the script are chosen.
-    TooManyEvents,
+    /// The events that are asked for can't be chosen of the script's.
+    Range(RangeFault),
     /// The drawing of its run does not show what it is to show: no script is known to come to this.
     Misdrawn,
 }
@@ -35,7 +34,10 @@ impl fmt::Display for PictureFault {
     fn fmt<W: fmt::Write>(&self, f: &mut fmt::Formatter<W>) -> fmt::Result {
         match self {
             PictureFault::Script(fault) => write!(f, "{fault}"),
-            PictureFault::TooManyEvents => {
+            PictureFault::Range(RangeFault::PastEnd) => {
+                write!(f, "no event is left: the range begins after the last one")
+            }
+            PictureFault::Range(RangeFault::TooManyEvents) => {
                 write!(f, "too many events for a picture: at most 2000")
             }
             PictureFault::Misdrawn => write!(f, "the picture does not show its run"),
@@ -91,7 +93,7 @@ impl Subject {
 }
 
 /// The marks of the run that a record has stored, on an object of this name, of which these events are to be chosen;
-/// `object` is a further value of that object. Errors: `TooManyEvents` where more than 2,000 are chosen; else `Memory`.
+/// `object` is a further value of that object. Errors: `Range` where they can't be chosen; else `Memory`.
 fn marks_of_events<O: Spoken>(
     alloc: Global,
     range: Range,
@@ -99,31 +101,32 @@ fn marks_of_events<O: Spoken>(
     object: O,
     recorded: &Recorded<O>,
 ) -> Result<Marks, PictureFault>
-    ensures few { OnOk result (count_in range (length (events_shown recorded.now.events)) ≤ 2000) }
+    ensures fits { OnOk result (range_fault range (length (events_shown recorded.now.events)) ≡ None) }
     ensures marks { IfOk result (λ marks. marks_shown marks
         ≡ marks_of_events (record { object = O.sequential object; language = O.language }) O.state_text name.now
         recorded.now.processes recorded.now.first (events_shown recorded.now.events)) }
-    ensures many { IsErrOf result PictureFault.TooManyEvents
-        → 2000 < count_in range (length (events_shown recorded.now.events)) }
+    ensures range { (e : RangeFault) → IsErrOf result (PictureFault.Range e)
+        → range_fault range (length (events_shown recorded.now.events)) ≡ Some e }
     ensures memory { (e : Fault) → IsErrOf result (PictureFault.Script e) → e ≡ Fault.Memory }
     ensures drawn { IsErrOf result PictureFault.Misdrawn → ⊥ }
 {
-    if range.count(recorded.events().len() as u64) > MOST_EVENTS {
-        return Err(PictureFault::TooManyEvents);
+    if let Some(fault) = range.fault(recorded.events().len() as u64) {
+        return Err(PictureFault::Range(fault));
     }
     Ok(marks_of(alloc, name, object, recorded)?)
 }
 
-/// The marks of a record, by its object, of which these events are to be chosen. Errors: `TooManyEvents` where more
-/// than 2,000 are chosen; else `Memory`.
+/// The marks of a record, by its object, of which these events are to be chosen. Errors: `Range` where they can't be
+/// chosen; else `Memory`.
 fn marks_of_record(
     alloc: Global,
     range: Range,
     stored: &ScriptRecord,
 ) -> Result<Marks, PictureFault>
-    ensures few { OnOk result (count_in range (events_of_record stored.now) ≤ 2000) }
+    ensures fits { OnOk result (range_fault range (events_of_record stored.now) ≡ None) }
     ensures marks { IfOk result (λ marks. marks_shown marks ≡ marks_of_record stored.now) }
-    ensures many { IsErrOf result PictureFault.TooManyEvents → 2000 < count_in range (events_of_record stored.now) }
+    ensures range { (e : RangeFault) → IsErrOf result (PictureFault.Range e)
+        → range_fault range (events_of_record stored.now) ≡ Some e }
     ensures memory { (e : Fault) → IsErrOf result (PictureFault.Script e) → e ≡ Fault.Memory }
     ensures drawn { IsErrOf result PictureFault.Misdrawn → ⊥ }
 {
@@ -138,8 +141,8 @@ fn marks_of_record(
 }
 
 /// What a picture shows of the script that a reader has, of which these events are to be chosen. An `Err` is the first
-/// fault of the script; `Read` where the reader failed; `Memory` where memory was refused; or `TooManyEvents` of a good
-/// script of which more than 2,000 events are chosen.
+/// fault of the script; `Read` where the reader failed; `Memory` where memory was refused; or `Range` of a good script
+/// of which these events can't be chosen.
 pub fn subject_of<I: TextIn>(
     alloc: Global,
     range: Range,
@@ -150,7 +153,8 @@ pub fn subject_of<I: TextIn>(
         (marks_shown subject.marks) subject.remarks.items) }
     ensures few { IfOk result (λ subject. count_in range subject.marks.events ≤ 2000) }
     ensures remarks { IfOk result (λ subject. length subject.remarks.items ≤ 100000) }
-    ensures many { IsErrOf result PictureFault.TooManyEvents → HasTooManyEvents range (I.remaining reader.old) }
+    ensures range { (e : RangeFault) → IsErrOf result (PictureFault.Range e)
+        → HasRangeFault range e (I.remaining reader.old) }
     ensures fault { (e : Fault) → IsErrOf result (PictureFault.Script e) → IsFaultOfScript e
         → HasFault (scripts_of 1048576) (I.remaining reader.old) e }
     ensures drawn { IsErrOf result PictureFault.Misdrawn → ⊥ }
@@ -179,9 +183,9 @@ pub fn subject_of_object<O: Spoken + Copy, I: TextIn>(
         (marks_shown subject.marks) subject.remarks.items) }
     ensures few { IfOk result (λ subject. count_in range subject.marks.events ≤ 2000) }
     ensures remarks { IfOk result (λ subject. length subject.remarks.items ≤ 100000) }
-    ensures many { IsErrOf result PictureFault.TooManyEvents
-        → HasMoreEvents (own_scripts_of (spoken O.sequential O.language object) name.now 1048576)
-        range (I.remaining reader.old) }
+    ensures range { (e : RangeFault) → IsErrOf result (PictureFault.Range e)
+        → HasRangeFaultOf (own_scripts_of (spoken O.sequential O.language object) name.now 1048576)
+        range e (I.remaining reader.old) }
     ensures fault { (e : Fault) → IsErrOf result (PictureFault.Script e) → IsFaultOfScript e
         → HasFault (own_scripts_of (spoken O.sequential O.language object) name.now 1048576)
         (I.remaining reader.old) e }

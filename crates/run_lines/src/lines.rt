@@ -2,8 +2,8 @@
 
 ghost use Rattle.std.specs.Prelude.{◌≡◌, IfOk, IsErrOf, false};
 ghost use Rattle.run_lines.specs.Vocabulary.{spoken, HasFault, IsFaultOfScript, scripts_of, own_scripts_of, Fault};
-ghost use Rattle.run_lines.specs.Vocabulary.{marks_shown, chosen, chosen_remarks, HasTooManyEvents, HasMoreEvents};
-ghost use Rattle.run_lines.specs.Vocabulary.{marks_of_own};
+ghost use Rattle.run_lines.specs.Vocabulary.{marks_shown, chosen, chosen_remarks, HasRangeFault, HasRangeFaultOf};
+ghost use Rattle.run_lines.specs.Vocabulary.{RangeFault, marks_of_own};
 ghost use Rattle.run_lines.specs.Lines.{IsLines, IsLinesOf, IsTextOf};
 
 use crate::sheet::{sketch_of, tried};
@@ -22,7 +22,7 @@ fn text_of_subject(
 ) -> Result<Vec<u8>, PictureFault>
     ensures text { IfOk result (λ text. IsTextOf columns (chosen range (marks_shown subject.marks))
         (chosen_remarks range subject.remarks.items) text.items) }
-    ensures few { IsErrOf result PictureFault.TooManyEvents → ⊥ }
+    ensures range { (e : RangeFault) → IsErrOf result (PictureFault.Range e) → ⊥ }
     ensures memory { (e : Fault) → IsErrOf result (PictureFault.Script e) → e ≡ Fault.Memory }
 {
     let part = subject.chosen(alloc, range)?;
@@ -32,9 +32,9 @@ fn text_of_subject(
 
 /// The run of the script that a reader has, where these events are chosen, as lines for a terminal of so many columns.
 /// A block has at least one column behind the names of lanes, and at most 1,000. An `Err` is the first fault of the
-/// script; `Read` where the reader failed; `Memory` where memory was refused; `TooManyEvents` of a good script of which
-/// more than 2,000 events are chosen; or `Misdrawn` where what is drawn of its run does not show its marks, of which no
-/// script is known.
+/// script; `Read` where the reader failed; `Memory` where memory was refused; `Range` of a good script of which these
+/// events can't be chosen; or `Misdrawn` where what is drawn of its run does not show its marks, of which no script is
+/// known.
 pub fn lines_of<I: TextIn>(
     alloc: Global,
     range: Range,
@@ -43,7 +43,8 @@ pub fn lines_of<I: TextIn>(
 ) -> Result<Vec<u8>, PictureFault>
     requires { I.has_failed reader.old ≡ false }
     ensures lines { IfOk result (λ text. IsLines range columns (I.remaining reader.old) text.items) }
-    ensures many { IsErrOf result PictureFault.TooManyEvents → HasTooManyEvents range (I.remaining reader.old) }
+    ensures range { (e : RangeFault) → IsErrOf result (PictureFault.Range e)
+        → HasRangeFault range e (I.remaining reader.old) }
     ensures fault { (e : Fault) → IsErrOf result (PictureFault.Script e) → IsFaultOfScript e
         → HasFault (scripts_of 1048576) (I.remaining reader.old) e }
 {
@@ -66,9 +67,9 @@ pub fn lines_of_object<O: Spoken + Copy, I: TextIn>(
         (own_scripts_of (spoken O.sequential O.language object) name.now 1048576)
         (marks_of_own (spoken O.sequential O.language object) O.state_text name.now)
         range columns (I.remaining reader.old) text.items) }
-    ensures many { IsErrOf result PictureFault.TooManyEvents
-        → HasMoreEvents (own_scripts_of (spoken O.sequential O.language object) name.now 1048576)
-        range (I.remaining reader.old) }
+    ensures range { (e : RangeFault) → IsErrOf result (PictureFault.Range e)
+        → HasRangeFaultOf (own_scripts_of (spoken O.sequential O.language object) name.now 1048576)
+        range e (I.remaining reader.old) }
     ensures fault { (e : Fault) → IsErrOf result (PictureFault.Script e) → IsFaultOfScript e
         → HasFault (own_scripts_of (spoken O.sequential O.language object) name.now 1048576)
         (I.remaining reader.old) e }

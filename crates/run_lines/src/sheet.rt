@@ -1,7 +1,7 @@
 //! The whole text.
 
 ghost use Rattle.std.specs.Prelude.{◌≡◌, ◌++◌, IfOk, IsErrOf, IsTrue, OnOk, map, take};
-ghost use Rattle.run_lines.specs.Vocabulary.{flat_map, meaning, places_shown, Fault, marks_shown};
+ghost use Rattle.run_lines.specs.Vocabulary.{flat_map, meaning, places_shown, Fault, RangeFault, marks_shown};
 ghost use Rattle.run_lines.specs.Lines.{AreSide, HasText, IsTextOf, ShowsRows, block_text, bottom_row, part_of};
 ghost use Rattle.run_lines.specs.Lines.{row_name, row_text, rows_text_of, trimmed};
 
@@ -294,7 +294,7 @@ pub fn tried(
     sketch: &Sketch,
 ) -> Result<Vec<u8>, PictureFault>
     ensures text { IfOk result (λ text. IsTextOf columns (marks_shown marks.now) remarks.now text.items) }
-    ensures few { IsErrOf result PictureFault.TooManyEvents → ⊥ }
+    ensures range { (e : RangeFault) → IsErrOf result (PictureFault.Range e) → ⊥ }
     ensures memory { (e : Fault) → IsErrOf result (PictureFault.Script e) → e ≡ Fault.Memory }
 {
     let parts = parts_of_run(alloc, marks, remarks)?;

@@ -1,9 +1,10 @@
 -- The names of other crates, and of the declared types, that the definitions of this crate share.
 pub use Rattle.run_layout.specs.Choice.{chosen, chosen_remarks}
 pub use Rattle.run_layout.specs.Marked.{Sign, part, part_in, sign_shown, signs_of}
-pub use Rattle.run_layout.specs.Subject.{HasMoreEvents, HasTooManyEvents, IsSubjectOf, marks_of_own, marks_of_session}
+pub use Rattle.run_layout.specs.Subject.{HasRangeFault, HasRangeFaultOf, IsSubjectOf, marks_of_own, marks_of_session}
 pub use Rattle.run_layout.specs.Wording.{cell_name, cell_state, cell_words, letter_of, title_text}
 pub use Rattle.run_layout.specs.declared.choice.Range.{Range}
+pub use Rattle.run_layout.specs.declared.choice.RangeFault.{RangeFault}
 pub use Rattle.run_layout.specs.declared.marked.Mark.{Mark}
 pub use Rattle.run_replay.specs.Marks.{Cell, EraMarks, RunMarks}
 pub use Rattle.run_replay.specs.Marks.{cell_shown, era_shown, marks_shown}

@@ -2,8 +2,8 @@
 
 ghost use Rattle.std.specs.Prelude.{◌≡◌, ◌-◌, IfOk, IsErrOf, IsTrue, false, map};
 ghost use Rattle.run_picture.specs.Vocabulary.{spoken, HasFault, IsFaultOfScript, scripts_of, own_scripts_of, Fault};
-ghost use Rattle.run_picture.specs.Vocabulary.{marks_shown, chosen, chosen_remarks, HasTooManyEvents, HasMoreEvents};
-ghost use Rattle.run_picture.specs.Vocabulary.{marks_of_own, meaning, places_shown};
+ghost use Rattle.run_picture.specs.Vocabulary.{marks_shown, chosen, chosen_remarks, HasRangeFault, HasRangeFaultOf};
+ghost use Rattle.run_picture.specs.Vocabulary.{RangeFault, marks_of_own, meaning, places_shown};
 ghost use Rattle.run_picture.specs.Picture.{HasBoxes, IsDrawingOf, IsStripOf, IsSvgOf, IsPicture, IsPictureOf};
 
 use crate::parts::{boxes_of, parts_of};
@@ -58,7 +58,7 @@ pub fn tried(
 ) -> Result<Drawing, PictureFault>
     ensures drawing { IfOk result (λ drawing. drawing ≡ drawn.drawing) }
     ensures shown { IfOk result (λ drawing. IsDrawingOf (marks_shown marks.now) remarks.now drawing) }
-    ensures few { IsErrOf result PictureFault.TooManyEvents → ⊥ }
+    ensures range { (e : RangeFault) → IsErrOf result (PictureFault.Range e) → ⊥ }
     ensures memory { (e : Fault) → IsErrOf result (PictureFault.Script e) → e ≡ Fault.Memory }
 {
     let Drawn {
@@ -86,7 +86,7 @@ pub fn tried(
 fn svg_of_subject(alloc: Global, range: Range, subject: Subject) -> Result<Vec<u8>, PictureFault>
     ensures svg { IfOk result (λ svg. IsSvgOf (chosen range (marks_shown subject.marks))
         (chosen_remarks range subject.remarks.items) svg.items) }
-    ensures few { IsErrOf result PictureFault.TooManyEvents → ⊥ }
+    ensures range { (e : RangeFault) → IsErrOf result (PictureFault.Range e) → ⊥ }
     ensures memory { (e : Fault) → IsErrOf result (PictureFault.Script e) → e ≡ Fault.Memory }
 {
     let part = subject.chosen(alloc, range)?;
@@ -97,8 +97,8 @@ fn svg_of_subject(alloc: Global, range: Range, subject: Subject) -> Result<Vec<u
 
 /// The picture of the run of the script that a reader has, where these events are chosen, as the text of an SVG. An
 /// `Err` is the first fault of the script; `Read` where the reader failed; `Memory` where memory was refused;
-/// `TooManyEvents` of a good script of which more than 2,000 events are chosen; or `Misdrawn` where the drawing of its
-/// run does not show its marks, of which no script is known.
+/// `Range` of a good script of which these events can't be chosen; or `Misdrawn` where the drawing of its run does not
+/// show its marks, of which no script is known.
 pub fn picture_of<I: TextIn>(
     alloc: Global,
     range: Range,
@@ -106,7 +106,8 @@ pub fn picture_of<I: TextIn>(
 ) -> Result<Vec<u8>, PictureFault>
     requires { I.has_failed reader.old ≡ false }
     ensures picture { IfOk result (λ svg. IsPicture range (I.remaining reader.old) svg.items) }
-    ensures many { IsErrOf result PictureFault.TooManyEvents → HasTooManyEvents range (I.remaining reader.old) }
+    ensures range { (e : RangeFault) → IsErrOf result (PictureFault.Range e)
+        → HasRangeFault range e (I.remaining reader.old) }
     ensures fault { (e : Fault) → IsErrOf result (PictureFault.Script e) → IsFaultOfScript e
         → HasFault (scripts_of 1048576) (I.remaining reader.old) e }
 {
@@ -128,9 +129,9 @@ pub fn picture_of_object<O: Spoken + Copy, I: TextIn>(
         (own_scripts_of (spoken O.sequential O.language object) name.now 1048576)
         (marks_of_own (spoken O.sequential O.language object) O.state_text name.now)
         range (I.remaining reader.old) svg.items) }
-    ensures many { IsErrOf result PictureFault.TooManyEvents
-        → HasMoreEvents (own_scripts_of (spoken O.sequential O.language object) name.now 1048576)
-        range (I.remaining reader.old) }
+    ensures range { (e : RangeFault) → IsErrOf result (PictureFault.Range e)
+        → HasRangeFaultOf (own_scripts_of (spoken O.sequential O.language object) name.now 1048576)
+        range e (I.remaining reader.old) }
     ensures fault { (e : Fault) → IsErrOf result (PictureFault.Script e) → IsFaultOfScript e
         → HasFault (own_scripts_of (spoken O.sequential O.language object) name.now 1048576)
         (I.remaining reader.old) e }

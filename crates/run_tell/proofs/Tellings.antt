@@ -1,8 +1,8 @@
 -- The run of a script, told, by its record, and what is written of it piece by piece.
-use Rattle.run_tell.proofs.Vocabulary.{Appends, AppendsPrefix, AppendsPrefix-after, AppendsPrefix-more, BenchFault, Bool, Err, Event, Excerpt, IfErr, IfErr-at_err, IfOk, IsErr, IsErrOf, IsFaultOfScript, IsLinearizableSession, IsScriptRun, IsToldBy, Language, List, MatchResult-from_err, Moves, Ok, OnErr, OnOk, Opening, Option, PlacedRemark, Range, Recording, Result, Scene, ScriptSession, Sequential, Some, SpokenObject, Start, Trace, Version, Wording, WorldOf, WritesSuch, WritesText, [], ap, append-nil, append_assoc, arith, count_in, drop, events-run, events_of_record, events_shown, excerpt_of, flat_map, inl, inr, length, length-drop, opened_world, opening, refl, remark_told, scenes_from, session_of_record, slice_get, spoken, subst, suc, sym, take, text_of_record, told_before, told_from, told_text, trace_of_events, world_after, zero, ℕ, ◌++◌, ◌+◌, ◌-◌, ◌<◌, ◌↔◌, ◌∙◌, ◌∷◌, ◌≡◌, ◌≢◌, ◌≤◌, ◌⊎◌}
+use Rattle.run_tell.proofs.Vocabulary.{Appends, AppendsPrefix, AppendsPrefix-after, AppendsPrefix-more, BenchFault, Bool, Err, Event, Excerpt, IfErr, IfErr-at_err, IfOk, IsErr, IsErrOf, IsFaultOfScript, IsLinearizableSession, IsOfRange, IsScriptRun, IsToldBy, Language, List, MatchResult-from_err, Moves, None, Ok, OnErr, OnOk, Opening, Option, PlacedRemark, Range, RangeFault, Recording, Result, Scene, ScriptSession, Sequential, Some, SpokenObject, Start, Trace, Version, Wording, WorldOf, WritesSuch, WritesText, [], ap, append-nil, append_assoc, arith, count_in, drop, events-run, events_of_record, events_shown, excerpt_of, flat_map, inl, inr, length, length-drop, opened_world, opening, range_fault, refl, remark_told, scenes_from, session_of_record, slice_get, spoken, subst, suc, sym, take, text_of_record, told_before, told_from, told_text, trace_of_events, world_after, zero, ℕ, ◌++◌, ◌+◌, ◌-◌, ◌↔◌, ◌∙◌, ◌∷◌, ◌≡◌, ◌≢◌, ◌≤◌, ◌⊎◌}
 use Rattle.std.proofs.KnownBytes.{Appends-nil, Appends-trans}
 use Rattle.run_layout.specs.declared.subject.PictureFault.{PictureFault}
-use Rattle.run_layout.specs.declared.subject.PictureFault.TheVariants.{Script, TooManyEvents}
+use Rattle.run_layout.specs.declared.subject.PictureFault.TheVariants.{Range as OfRange, Script}
 use Rattle.uni_script.specs.declared.fault.BenchFault.TheVariants.{Memory, Write}
 use Rattle.uni_script.specs.declared.options.Echo.TheVariants.{Off}
 use Rattle.uni_script.specs.declared.script_run.ScriptRecord.{ScriptRecord}
@@ -42,16 +42,31 @@ WritesText-last (Ok u) a b c whole told left so_far moved none part =
     Moves-all a c whole (subst (Moves a c whole) (append-nil left ∙ none (omega arith)) more)
 WritesText-last (Err e) a b c whole told left so_far moved none part = Moves-failed a b c whole told [] (subst (Moves a b whole) (sym (append-nil told)) so_far) part
 
--- not more than 2,000 are as many at most
-few : (n : ℕ) → ¬ (2000 < n) → n ≤ 2000
-few n not = omega (arith, not)
+-- a result tells why these events can't be chosen, if they can't
+abbrev pub TellsRangeFault : {T : Type 0} → Result T PictureFault → (fault : Option RangeFault) → Type 0
+TellsRangeFault r fault = (e : RangeFault) → (IsErrOf r (OfRange e) ↔ (fault ≡ Some e))
 
--- a text of which something holds where it tells few events
-pub WritesSuch-text : {T : Type 0} (r : Result T PictureFault) (Holds : List ℕ → Type 0) (a b : Option (List ℕ)) (text : List ℕ) (n : ℕ) → (IsErrOf r TooManyEvents ↔ (2000 < n)) → (IsErrOf r TooManyEvents → b ≡ a)
-    → WritesText r a b text → (n ≤ 2000 → Holds text) → WritesSuch r Holds a b
-WritesSuch-text (Ok u) Holds a b text n many none writes holds = (text, holds (few n (λ more. let bad : Ok u ≡ Err TooManyEvents = many.1 more in cc)), writes)
-WritesSuch-text (Err TooManyEvents) Holds a b text n many none writes holds = inl (none refl)
-WritesSuch-text (Err f) Holds a b text n many none writes holds = inr (text, holds (few n (λ more. let bad : Err f ≡ Err TooManyEvents = many.1 more in cc)), writes)
+-- one that is that fault does, and one that is another or none does where there is none
+pub tells_fault : {T : Type 0} (r : Result T PictureFault) (fault : Option RangeFault) (f : RangeFault) → r ≡ Err (OfRange f) → fault ≡ Some f → TellsRangeFault r fault
+tells_fault r fault f is there e = (
+  λ told. let same : f ≡ e = cc in there ∙ ap Some same,
+  λ told. let same : f ≡ e = cc in is ∙ ap (λ g. Err (OfRange g)) same,
+)
+
+pub tells_none : {T : Type 0} (r : Result T PictureFault) (fault : Option RangeFault) → fault ≡ None → ((e : RangeFault) → IsErrOf r (OfRange e) → ⊥) → TellsRangeFault r fault
+tells_none r fault none other e = (λ told. absurd (other e told), λ told. absurd (let bad : None ≡ Some e = sym none ∙ told in cc))
+
+-- there is none where the result is another or none
+pub fits_other : {T : Type 0} (r : Result T PictureFault) (fault : Option RangeFault) → TellsRangeFault r fault → ((e : RangeFault) → IsErrOf r (OfRange e) → ⊥) → fault ≡ None
+fits_other r None tells other = refl
+fits_other r (Some e) tells other = absurd (other e ((tells e).1 refl))
+
+-- a text of which something holds where these events can be chosen
+pub WritesSuch-text : {T : Type 0} (r : Result T PictureFault) (Holds : List ℕ → Type 0) (a b : Option (List ℕ)) (text : List ℕ) (fault : Option RangeFault) → TellsRangeFault r fault → ((e : RangeFault) → IsErrOf r (OfRange e) → b ≡ a)
+    → WritesText r a b text → (fault ≡ None → Holds text) → WritesSuch r Holds a b
+WritesSuch-text (Ok u) Holds a b text fault tells none writes holds = (text, holds (fits_other (Ok u) fault tells (λ e is. cc)), writes)
+WritesSuch-text (Err (OfRange e)) Holds a b text fault tells none writes holds = inl (none e refl)
+WritesSuch-text (Err f) Holds a b text fault tells none writes holds = inr (text, holds (fits_other (Err f) fault tells (λ e is. cc)), writes)
 
 -- and of which something else holds then
 pub WritesSuch-weaker : {T E : Type 0} (r : Result T E) (P Q : List ℕ → Type 0) (a b : Option (List ℕ)) → ((text : List ℕ) → P text → Q text) → WritesSuch r P a b → WritesSuch r Q a b
@@ -59,18 +74,19 @@ WritesSuch-weaker (Ok u) P Q a b f writes = (writes.0, f writes.0 writes.1, writ
 WritesSuch-weaker (Err e) P Q a b f (inl same) = inl same
 WritesSuch-weaker (Err e) P Q a b f (inr part) = inr (part.0, f part.0 part.1, part.2)
 
--- what holds of too many events holds of each error but refused memory and a failed output, and none is a fault of a script
-pub else_many : {T : Type 0} (r : Result T PictureFault) (P : Type 0) → IfErr r (λ e. (e ≡ TooManyEvents) ⊎ (e ≡ Script Memory) ⊎ (e ≡ Script Write)) → (IsErrOf r TooManyEvents → P)
+-- what holds where events can't be chosen holds of each error but refused memory and a failed output, and none is a fault of a script
+pub else_range : {T : Type 0} (r : Result T PictureFault) (P : Type 0) → IfErr r (λ e. IsOfRange e ⊎ (e ≡ Script Memory) ⊎ (e ≡ Script Write)) → ((e : RangeFault) → IsErrOf r (OfRange e) → P)
     → (e : PictureFault) → IsErrOf r e → e ≢ Script Memory → e ≢ Script Write → P
-else_many r P faults many e is memory write =
-    elim (IfErr-at_err (λ e. (e ≡ TooManyEvents) ⊎ (e ≡ Script Memory) ⊎ (e ≡ Script Write)) is faults) [
-      | inl too_many ↦ many (is ∙ ap Err too_many)
-      | inr other ↦ absurd (elim other [ inl m ↦ memory m | inr w ↦ write w ])
-    ]
+else_range r P faults range (OfRange e) is memory write = range e is
+else_range r P faults range e is memory write =
+    absurd (elim (IfErr-at_err (λ e. IsOfRange e ⊎ (e ≡ Script Memory) ⊎ (e ≡ Script Write)) is faults) [
+      | inl of_range ↦ of_range
+      | inr other ↦ elim other [ inl m ↦ memory m | inr w ↦ write w ]
+    ])
 
-pub no_fault_of_script : {T : Type 0} (r : Result T PictureFault) → IfErr r (λ e. (e ≡ TooManyEvents) ⊎ (e ≡ Script Memory) ⊎ (e ≡ Script Write)) → (e : BenchFault) → IsErrOf r (Script e) → ¬ (IsFaultOfScript e)
+pub no_fault_of_script : {T : Type 0} (r : Result T PictureFault) → IfErr r (λ e. IsOfRange e ⊎ (e ≡ Script Memory) ⊎ (e ≡ Script Write)) → (e : BenchFault) → IsErrOf r (Script e) → ¬ (IsFaultOfScript e)
 no_fault_of_script r faults e is fault =
-    else_many r ⊥ faults (λ many. let bad : Script e ≡ TooManyEvents = cc in cc) (Script e) is (λ same. let m : e ≡ Memory = cc in subst IsFaultOfScript m fault) (λ same. let w : e ≡ Write = cc in subst IsFaultOfScript w fault)
+    else_range r ⊥ faults (λ f range. let bad : Script e ≡ OfRange f = cc in cc) (Script e) is (λ same. let m : e ≡ Memory = cc in subst IsFaultOfScript m fault) (λ same. let w : e ≡ Write = cc in subst IsFaultOfScript w fault)
 
 -- what is gathered and still to be told, after one more event is gathered with what is told before it
 pub Moves-told_on : (words : Wording) (range : Range) (lines : List ℕ) (a b : Option (List ℕ)) (whole : List ℕ) (k : ℕ) (scenes rest : List (Option Scene)) (scene : Scene) (remarks left : List PlacedRemark) (text told : List ℕ)
@@ -128,10 +144,10 @@ scenes_few object l text is_whole from most w events scenes is =
     let rest : length (drop from events) ≡ length events - from = length-drop from events in
     omega (arith, made, few, rest)
 
-pub IsToldBy-run : (tell : ScriptSession → (lines : List ℕ) → List PlacedRemark → List ℕ) (range : Range) (left : Option (List ℕ)) (run : ScriptRun ScriptRecord) (is : IsScriptRun (record { history = 1048576; echo = Off }) left run) (text : List ℕ) → count_in range (events_of_record run.record) ≤ 2000
+pub IsToldBy-run : (tell : ScriptSession → (lines : List ℕ) → List PlacedRemark → List ℕ) (range : Range) (left : Option (List ℕ)) (run : ScriptRun ScriptRecord) (is : IsScriptRun (record { history = 1048576; echo = Off }) left run) (text : List ℕ) → range_fault range (events_of_record run.record) ≡ None
     → text ≡ tell (session_of_record is.3.2.version run.record) run.lines.items run.remarks.items
     → ((version : Version) → IsLinearizableSession (session_of_record version run.record)) → IsToldBy tell range left text
-IsToldBy-run tell range left run is text few same linearizable =
+IsToldBy-run tell range left run is text fits same linearizable =
     let b = is.3.0 in
     let of = is.3.2 in
     let events = events-run b of.version run.record of.session in record {
@@ -140,7 +156,7 @@ IsToldBy-run tell range left run is text few same linearizable =
       good = is.2;
       session = b;
       session_is = is.3.1;
-      few = subst (λ n. count_in range n ≤ 2000) (sym events) few;
+      fits = subst (λ n. range_fault range n ≡ None) (sym events) fits;
       lines = run.lines.items;
       lines_are = of.lines_are;
       remarks = run.remarks.items;

@@ -1,10 +1,10 @@
 -- The names that the proofs of this crate share.
-pub use Rattle.run_tell.specs.Vocabulary.{Act, AllByRecursion, Appends, AppendsPrefix, AreAccepted, BenchFault, Event, HasTooManyEvents, IsFaultOfScript, Language, Moves, PlacedRemark, Range, Recording, Respond, Scene, ScriptSession, Sequential, SpokenObject, Start, Steps, Version, all_events, change_shown, count_in, events_of_record, events_shown, excerpt_of, held_shown, is_told_in, observed_in, opened_world, option_map_or, scene_shown, session_of_record, spoken, spoken_of, start_shown, state_text_of, word_of_object}
+pub use Rattle.run_tell.specs.Vocabulary.{Act, AllByRecursion, Appends, AppendsPrefix, AreAccepted, BenchFault, Event, HasRangeFault, IsFaultOfScript, IsOfRange, Language, Moves, PlacedRemark, Range, RangeFault, Recording, Respond, Scene, ScriptSession, Sequential, SpokenObject, Start, Steps, Version, all_events, change_shown, count_in, events_of_record, events_shown, excerpt_of, held_shown, is_told_in, observed_in, opened_world, option_map_or, range_fault, scene_shown, session_of_record, spoken, spoken_of, start_shown, state_text_of, word_of_object}
 pub use Rattle.std.proofs.Common.{Bool, Err, IfErr, IfOk, IsErr, IsErrOf, List, None, Ok, OnErr, OnOk, Option, Result, Some, [], ap, append-nil, append_assoc, arith, codes, drop, false, flat_map, if◌then◌else◌, inl, inr, length, length-drop, map, option_and_then, option_map, refl, rules, slice_get, subst, suc, sym, take, true, zero, ℕ, ◌++◌, ◌+◌, ◌-◌, ◌<◌, ◌↔◌, ◌∙◌, ◌∷◌, ◌≡◌, ◌≢◌, ◌≤◌, ◌⊎◌}
 pub use Rattle.std.proofs.lemmas.List.{length-map, map-append, take_all}
 pub use Rattle.std.proofs.lemmas.List.Concat.{flat_map-append}
 pub use Rattle.std.proofs.lemmas.Result.{IfErr-at_err, IfErr-weaker, MatchResult-from_err, err_from_is_err_and, on_ok_weaker}
-pub use Rattle.run_layout.proofs.Scripts.{more_run, default_run, events-run}
+pub use Rattle.run_layout.proofs.Scripts.{fault_run, default_run, events-run}
 pub use Rattle.run_replay.specs.Scenes.{Excerpt, scene_of, scenes_from}
 pub use Rattle.uni_model.specs.Worlds.{WorldOf, world_after}
 pub use Rattle.uni_record.specs.Event.{event_shown}

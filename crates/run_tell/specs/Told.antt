@@ -1,6 +1,6 @@
 -- The run of a script, told: how it opened, in which order its pieces are told, and what is written of a text that comes piece by piece.
 use Rattle.std.specs.Prelude.{Bool, List, MatchResult, None, Option, Result, Some, Vec, [], drop, flat_map, if◌then◌else◌, length, map, nat_le, option_map, refl, slice_get, take, ℕ, ◌++◌, ◌+◌, ◌∷◌, ◌≡◌, ◌≤◌, ◌⊎◌}
-use Rattle.run_tell.specs.Vocabulary.{Appends, AppendsPrefix, AreAccepted, Event, IsInput, IsLinearizableHistory, PlacedRemark, Range, Recording, Refused, Scene, ScriptSession, Sequence, Sequential, SpokenObject, Start, count_in, events_shown, excerpt_of, fault_of_script, is_told_in, observed_in, opened_world, prefix_len, scripts_of, spoken_of, start_shown, state_text_of, word_of_object}
+use Rattle.run_tell.specs.Vocabulary.{Appends, AppendsPrefix, AreAccepted, Event, IsInput, IsLinearizableHistory, PlacedRemark, Range, Recording, Refused, Scene, ScriptSession, Sequence, Sequential, SpokenObject, Start, count_in, events_shown, excerpt_of, fault_of_script, is_told_in, observed_in, opened_world, prefix_len, range_fault, scripts_of, spoken_of, start_shown, state_text_of, word_of_object}
 use Rattle.std.specs.declared.alloc.Global.{Global}
 use Rattle.uni_script.specs.Outcome.{outcome_of_script}
 use Rattle.uni_script.specs.Remarks.{event_lines_of_script, remark_at, remarks_of_script}
@@ -113,7 +113,7 @@ pub record IsLinearizableRun {S I R : Type 0} (object : Sequential S I R) (n fir
 abbrev pub IsLinearizableSession : ScriptSession → Type 0
 IsLinearizableSession b = IsLinearizableRun (spoken_of b.object).object b.session.processes b.session.first b.session.events
 
--- the reader had a script without a fault of which at most 2,000 events are chosen, and these are told so: of a linearizable run
+-- the reader had a script without a fault, of which these events can be chosen, and they are told so: of a linearizable run
 pub record IsToldBy (tell : ScriptSession → (lines : List ℕ) → List PlacedRemark → List ℕ) (range : Range)
     (left : Option (List ℕ)) (text : List ℕ) : Type 0 where
   pub script : List ℕ
@@ -121,7 +121,7 @@ pub record IsToldBy (tell : ScriptSession → (lines : List ℕ) → List Placed
   pub good : fault_of_script (scripts_of 1048576) script ≡ None
   pub session : ScriptSession
   pub session_is : (outcome_of_script (scripts_of 1048576) script).session ≡ Some session
-  pub few : count_in range ((scripts_of 1048576).events session) ≤ 2000
+  pub fits : range_fault range ((scripts_of 1048576).events session) ≡ None
   pub lines : List ℕ
   pub lines_are : event_lines_of_script (scripts_of 1048576) script ≡ lines
   pub remarks : List PlacedRemark

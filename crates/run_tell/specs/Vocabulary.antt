@@ -4,10 +4,11 @@ pub use Rattle.std.specs.Io.KnownBytes.{Appends}
 pub use Rattle.std.specs.List.{AllByRecursion, prefix_len}
 pub use Rattle.std.specs.Option.{option_map_or}
 pub use Rattle.ready_objects.specs.Spoken.{Language}
-pub use Rattle.run_layout.specs.Choice.{all_events, count_in, is_told_in}
-pub use Rattle.run_layout.specs.Subject.{HasTooManyEvents, events_of_record, state_text_of}
+pub use Rattle.run_layout.specs.Choice.{all_events, count_in, is_told_in, range_fault}
+pub use Rattle.run_layout.specs.Subject.{HasRangeFault, IsOfRange, events_of_record, state_text_of}
 pub use Rattle.run_layout.specs.Wording.{counted_text, lane_of, letter_of, meaning_of, name_text, refusal_words}
 pub use Rattle.run_layout.specs.declared.choice.Range.{Range}
+pub use Rattle.run_layout.specs.declared.choice.RangeFault.{RangeFault}
 pub use Rattle.run_replay.specs.Scenes.{Begins, Begun, Ended, Ends, Frame, Stepped, Steps}
 pub use Rattle.run_replay.specs.Held.{Change, Field, Held, alone, cell_text, changes_between}
 pub use Rattle.run_replay.specs.Scenes.{Scene, Start, excerpt_of}

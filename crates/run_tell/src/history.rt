@@ -1,8 +1,8 @@
 //! From the bytes of a script to the history of its run.
 
 ghost use Rattle.std.specs.Prelude.{◌≡◌, ◌≢◌, IsErrOf, false, true};
-ghost use Rattle.run_tell.specs.Vocabulary.{BenchFault as Fault, HasFault, HasTooManyEvents, IsFaultOfScript};
-ghost use Rattle.run_tell.specs.Vocabulary.{all_events, scripts_of};
+ghost use Rattle.run_tell.specs.Vocabulary.{BenchFault as Fault, HasFault, HasRangeFault, IsFaultOfScript};
+ghost use Rattle.run_tell.specs.Vocabulary.{RangeFault, all_events, scripts_of};
 ghost use Rattle.run_tell.specs.History.{IsHistory};
 ghost use Rattle.run_tell.specs.Told.{WritesSuch};
 
@@ -47,9 +47,9 @@ impl Telling for InHistory {
 }
 
 /// Writes the history of the run of the script that a reader has: lines of JSON. It is linearizable. An `Err` is the
-/// first fault of the script; `Read` where the reader failed; `Memory` where memory was refused; `TooManyEvents` of a
-/// good script that has more than 2,000 events; or `Write` where the output failed. With `Memory` and `Write` a prefix
-/// may be written, else nothing is.
+/// first fault of the script; `Read` where the reader failed; `Memory` where memory was refused; `Range` of a good
+/// script that has more than 2,000 events; or `Write` where the output failed. With `Memory` and `Write` a prefix may be
+/// written, else nothing is.
 pub fn tell_history<I: TextIn, W: TextOut>(
     alloc: Global,
     reader: &mut I,
@@ -60,7 +60,8 @@ pub fn tell_history<I: TextIn, W: TextOut>(
     ensures told { WritesSuch result (IsHistory (I.remaining reader.old)) (W.contents out.old) (W.contents out.new) }
     ensures unwritten { (e : PictureFault) → IsErrOf result e → e ≢ PictureFault.Script Fault.Memory
         → e ≢ PictureFault.Script Fault.Write → out.new ≡ out.old }
-    ensures many { IsErrOf result PictureFault.TooManyEvents → HasTooManyEvents all_events (I.remaining reader.old) }
+    ensures range { (e : RangeFault) → IsErrOf result (PictureFault.Range e)
+        → HasRangeFault all_events e (I.remaining reader.old) }
     ensures fault { (e : Fault) → IsErrOf result (PictureFault.Script e) → IsFaultOfScript e
         → HasFault (scripts_of 1048576) (I.remaining reader.old) e }
     ensures out { W.has_failed out.new ≡ true → IsErrOf result (PictureFault.Script Fault.Write) }

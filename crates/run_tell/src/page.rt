@@ -1,9 +1,9 @@
 //! From the bytes of a script to the page that shows its run.
 
-ghost use Rattle.std.specs.Prelude.{◌++◌, ◌<◌, ◌≡◌, ◌≤◌, IfOk, IsErrOf, List, OnOk, false, ℕ};
-ghost use Rattle.run_tell.specs.Vocabulary.{AllByRecursion, BenchFault as Fault, HasFault, HasTooManyEvents};
-ghost use Rattle.run_tell.specs.Vocabulary.{IsFaultOfScript, Version, count_in, events_of_record, scripts_of};
-ghost use Rattle.run_tell.specs.Vocabulary.{session_of_record};
+ghost use Rattle.std.specs.Prelude.{◌++◌, ◌≡◌, IfOk, IsErrOf, List, None, OnOk, Some, false, ℕ};
+ghost use Rattle.run_tell.specs.Vocabulary.{AllByRecursion, BenchFault as Fault, HasFault, HasRangeFault};
+ghost use Rattle.run_tell.specs.Vocabulary.{IsFaultOfScript, RangeFault, Version, events_of_record, range_fault};
+ghost use Rattle.run_tell.specs.Vocabulary.{scripts_of, session_of_record};
 ghost use Rattle.run_tell.specs.Page.{IsPage, IsPlain, escaped, escaped_byte, page_between, page_text};
 ghost use Rattle.run_tell.specs.Told.{IsLinearizableSession, text_of_session};
 
@@ -59,43 +59,42 @@ pub fn page_text(
     Ok(text)
 }
 
-/// These events of the run of a script, told. Errors: `TooManyEvents` where more than 2,000 are chosen; else `Memory`.
+/// These events of the run of a script, told. Errors: `Range` where they can't be chosen; else `Memory`.
 fn text_of_run<T: Telling>(
     alloc: Global,
     range: Range,
     run: &ScriptRun<ScriptRecord>,
 ) -> Result<Checked<Vec<u8>>, PictureFault>
-    ensures few { OnOk result (count_in range (events_of_record run.now.record) ≤ 2000) }
+    ensures fits { OnOk result (range_fault range (events_of_record run.now.record) ≡ None) }
     ensures text { IfOk result (λ text. (version : Version) → text.end.items
         ≡ text_of_session T.wording range (session_of_record version run.now.record)
         run.now.lines.items run.now.remarks.items) }
     ensures linearizable { (version : Version) → IsLinearizableSession (session_of_record version run.now.record) }
-    ensures many { IsErrOf result PictureFault.TooManyEvents
-        → 2000 < count_in range (events_of_record run.now.record) }
+    ensures range { (e : RangeFault) → IsErrOf result (PictureFault.Range e)
+        → range_fault range (events_of_record run.now.record) ≡ Some e }
     ensures memory { (e : Fault) → IsErrOf result (PictureFault.Script e) → e ≡ Fault.Memory }
 {
     let mut text = Checked::new(Vec::new(alloc));
     match tell_run::<T, _>(alloc, range, run, &mut text) {
         Ok(()) => Ok(text),
-        Err(PictureFault::TooManyEvents) => Err(PictureFault::TooManyEvents),
+        Err(PictureFault::Range(fault)) => Err(PictureFault::Range(fault)),
         Err(_) => Err(PictureFault::Script(BenchFault::Memory)),
     }
 }
 
-/// The page of these events of the run of a script. Errors: `TooManyEvents` where more than 2,000 are chosen; else
-/// `Memory`.
+/// The page of these events of the run of a script. Errors: `Range` where they can't be chosen; else `Memory`.
 fn page_of_run(
     alloc: Global,
     range: Range,
     run: &ScriptRun<ScriptRecord>,
 ) -> Result<Vec<u8>, PictureFault>
-    ensures few { OnOk result (count_in range (events_of_record run.now.record) ≤ 2000) }
+    ensures fits { OnOk result (range_fault range (events_of_record run.now.record) ≡ None) }
     ensures page { IfOk result (λ text. (version : Version) → text.items
         ≡ page_between START.now MIDDLE.now END.now range (session_of_record version run.now.record)
         run.now.lines.items run.now.remarks.items) }
     ensures linearizable { (version : Version) → IsLinearizableSession (session_of_record version run.now.record) }
-    ensures many { IsErrOf result PictureFault.TooManyEvents
-        → 2000 < count_in range (events_of_record run.now.record) }
+    ensures range { (e : RangeFault) → IsErrOf result (PictureFault.Range e)
+        → range_fault range (events_of_record run.now.record) ≡ Some e }
     ensures memory { (e : Fault) → IsErrOf result (PictureFault.Script e) → e ≡ Fault.Memory }
 {
     let rows = text_of_run::<InRows>(alloc, range, run)?;
@@ -104,8 +103,8 @@ fn page_of_run(
 }
 
 /// The page that shows these events of the run of the script that a reader has. An `Err` is the first fault of the
-/// script; `Read` where the reader failed; `Memory` where memory was refused; or `TooManyEvents` of a good script of
-/// which more than 2,000 events are chosen.
+/// script; `Read` where the reader failed; `Memory` where memory was refused; or `Range` of a good script of which these
+/// events can't be chosen.
 pub fn page_of<I: TextIn>(
     alloc: Global,
     range: Range,
@@ -113,7 +112,8 @@ pub fn page_of<I: TextIn>(
 ) -> Result<Vec<u8>, PictureFault>
     requires { I.has_failed reader.old ≡ false }
     ensures page { IfOk result (λ text. IsPage range (I.remaining reader.old) text.items) }
-    ensures many { IsErrOf result PictureFault.TooManyEvents → HasTooManyEvents range (I.remaining reader.old) }
+    ensures range { (e : RangeFault) → IsErrOf result (PictureFault.Range e)
+        → HasRangeFault range e (I.remaining reader.old) }
     ensures fault { (e : Fault) → IsErrOf result (PictureFault.Script e) → IsFaultOfScript e
         → HasFault (scripts_of 1048576) (I.remaining reader.old) e }
 {

@@ -1,17 +1,17 @@
 //! From the bytes of a script to its run, told.
 
-ghost use Rattle.std.specs.Prelude.{◌<◌, ◌↔◌, ◌≡◌, ◌≢◌, ◌⊎◌, IfErr, IfOk, IsErrOf, false};
+ghost use Rattle.std.specs.Prelude.{◌↔◌, ◌≡◌, ◌≢◌, ◌⊎◌, IfErr, IfOk, IsErrOf, Some, false};
 ghost use Rattle.std.specs.Prelude.{length, option_map, true};
-ghost use Rattle.run_tell.specs.Vocabulary.{BenchFault as Fault, HasFault, HasTooManyEvents, IsFaultOfScript, Version};
-ghost use Rattle.run_tell.specs.Vocabulary.{count_in, events_of_record, events_shown, scripts_of, session_of_record};
-ghost use Rattle.run_tell.specs.Vocabulary.{spoken, start_shown};
+ghost use Rattle.run_tell.specs.Vocabulary.{BenchFault as Fault, HasFault, HasRangeFault, IsFaultOfScript, IsOfRange};
+ghost use Rattle.run_tell.specs.Vocabulary.{RangeFault, Version, events_of_record, events_shown, range_fault};
+ghost use Rattle.run_tell.specs.Vocabulary.{scripts_of, session_of_record, spoken, start_shown};
 ghost use Rattle.run_tell.specs.Told.{IsLinearizableRun, IsLinearizableSession, IsTold, WritesSuch, WritesText};
 ghost use Rattle.run_tell.specs.Told.{opening, opening_shown, text_of_record, text_of_session};
 
 use crate::opened::Opened;
 use crate::order::{Telling, tell_events};
 use ready_objects::Spoken;
-use run_layout::{MOST_EVENTS, PictureFault, Range};
+use run_layout::{PictureFault, Range};
 use run_replay::{Start, excerpt_of};
 use std::alloc::{AllocError, Global};
 use uni_record::Recorded;
@@ -52,9 +52,9 @@ fn opened_of<'a, O: Spoken>(
 
 /// Writes these events of the run that a record has stored, told, on an object of this name: of a linearizable run.
 /// `lines` has the number of the script's line that stored each event of the run, where there was a script; `remarks`
-/// is what is told beside the run, of which that is told which belongs to these events. Errors: `TooManyEvents` where
-/// more than 2,000 are chosen, and nothing is written; else `Memory`, or `Write` where the output failed, and a prefix
-/// is written.
+/// is what is told beside the run, of which that is told which belongs to these events. Errors: `Range` where these
+/// events can't be chosen, and nothing is written; else `Memory`, or `Write` where the output failed, and a prefix is
+/// written.
 pub fn tell_record<T: Telling, O: Spoken + Copy, W: TextOut>(
     alloc: Global,
     range: Range,
@@ -70,18 +70,19 @@ pub fn tell_record<T: Telling, O: Spoken + Copy, W: TextOut>(
         recorded.now lines.now remarks.now) }
     ensures linearizable { IsLinearizableRun (O.sequential recorded.now.world.object) recorded.now.processes
         recorded.now.first (events_shown recorded.now.events) }
-    ensures many { IsErrOf result PictureFault.TooManyEvents
-        ↔ (2000 < count_in range (length (events_shown recorded.now.events))) }
-    ensures unwritten { IsErrOf result PictureFault.TooManyEvents → out.new ≡ out.old }
-    ensures fault { IfErr result (λ e. (e ≡ PictureFault.TooManyEvents)
+    ensures range { (e : RangeFault) → (IsErrOf result (PictureFault.Range e)
+        ↔ (range_fault range (length (events_shown recorded.now.events)) ≡ Some e)) }
+    ensures unwritten { (e : RangeFault) → IsErrOf result (PictureFault.Range e) → out.new ≡ out.old }
+    ensures fault { IfErr result (λ e. IsOfRange e
         ⊎ (e ≡ PictureFault.Script Fault.Memory) ⊎ (e ≡ PictureFault.Script Fault.Write)) }
     ensures out { IsErrOf result (PictureFault.Script Fault.Write) ↔ (W.has_failed out.new ≡ true) }
 {
     recorded.promise();
-    let count = range.count(recorded.events().len() as u64);
-    if count > MOST_EVENTS {
-        return Err(PictureFault::TooManyEvents);
+    let events = recorded.events().len() as u64;
+    if let Some(fault) = range.fault(events) {
+        return Err(PictureFault::Range(fault));
     }
+    let count = range.count(events);
     let object = *recorded.world().object();
     let (start, scenes) = excerpt_of(alloc, object, recorded, range.from, count, T::is_whole())?;
     let opened = opened_of(alloc, name, recorded, start)?;
@@ -101,10 +102,10 @@ pub(crate) fn tell_run<T: Telling, W: TextOut>(
         (text_of_session T.wording range (session_of_record version run.now.record) run.now.lines.items
         run.now.remarks.items) }
     ensures linearizable { (version : Version) → IsLinearizableSession (session_of_record version run.now.record) }
-    ensures many { IsErrOf result PictureFault.TooManyEvents
-        ↔ (2000 < count_in range (events_of_record run.now.record)) }
-    ensures unwritten { IsErrOf result PictureFault.TooManyEvents → out.new ≡ out.old }
-    ensures fault { IfErr result (λ e. (e ≡ PictureFault.TooManyEvents)
+    ensures range { (e : RangeFault) → (IsErrOf result (PictureFault.Range e)
+        ↔ (range_fault range (events_of_record run.now.record) ≡ Some e)) }
+    ensures unwritten { (e : RangeFault) → IsErrOf result (PictureFault.Range e) → out.new ≡ out.old }
+    ensures fault { IfErr result (λ e. IsOfRange e
         ⊎ (e ≡ PictureFault.Script Fault.Memory) ⊎ (e ≡ PictureFault.Script Fault.Write)) }
     ensures out { IsErrOf result (PictureFault.Script Fault.Write) ↔ (W.has_failed out.new ≡ true) }
 {
@@ -133,8 +134,8 @@ pub(crate) fn tell_run<T: Telling, W: TextOut>(
 /// Writes these events of the run of the script that a reader has, told: of a linearizable run. `T` is how: `InWords`
 /// in a sentence for each, `InJson` and `InWholeJson` in lines of JSON, without or with the whole memory after each. An
 /// `Err` is the first fault of the script; `Read` where the reader failed; `Memory` where memory was refused;
-/// `TooManyEvents` of a good script of which more than 2,000 events are chosen; or `Write` where the output failed.
-/// With `Memory` and `Write` a prefix may be written, else nothing is.
+/// `Range` of a good script of which these events can't be chosen; or `Write` where the output failed. With `Memory` and
+/// `Write` a prefix may be written, else nothing is.
 pub fn tell_script<T: Telling, I: TextIn, W: TextOut>(
     alloc: Global,
     range: Range,
@@ -147,7 +148,8 @@ pub fn tell_script<T: Telling, I: TextIn, W: TextOut>(
         (W.contents out.old) (W.contents out.new) }
     ensures unwritten { (e : PictureFault) → IsErrOf result e → e ≢ PictureFault.Script Fault.Memory
         → e ≢ PictureFault.Script Fault.Write → out.new ≡ out.old }
-    ensures many { IsErrOf result PictureFault.TooManyEvents → HasTooManyEvents range (I.remaining reader.old) }
+    ensures range { (e : RangeFault) → IsErrOf result (PictureFault.Range e)
+        → HasRangeFault range e (I.remaining reader.old) }
     ensures fault { (e : Fault) → IsErrOf result (PictureFault.Script e) → IsFaultOfScript e
         → HasFault (scripts_of 1048576) (I.remaining reader.old) e }
     ensures out { W.has_failed out.new ≡ true → IsErrOf result (PictureFault.Script Fault.Write) }

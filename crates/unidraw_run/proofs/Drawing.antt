@@ -1,5 +1,5 @@
 -- What a run of the program has drawn, by its fault.
-use Rattle.unidraw_run.proofs.Vocabulary.{BenchFault, Err, Form, HasFault, HasNoPicture, HasTooManyEvents, IsDrawn, IsErrOf, IsFaultOfScript, IsPictureIn, IsStatusOfPicture, List, MatchResult-at_err, MatchResult-at_ok, Memory, Misdrawn, Ok, Option, PictureFault, Result, Script, TooManyEvents, Write, WritesSuch, ap, arith, false, inl, inr, is_streamed, may_write_before, range_of, refl, scripts_of, status_of, status_of_picture, subst, sym, true, ℕ, ◌∙◌, ◌≡◌, ◌≢◌, ◌≤◌}
+use Rattle.unidraw_run.proofs.Vocabulary.{BenchFault, Err, Form, HasFault, HasNoPicture, HasRangeFault, IsDrawn, IsErrOf, IsFaultOfScript, IsPictureIn, IsStatusOfPicture, List, MatchResult-at_err, MatchResult-at_ok, Memory, Misdrawn, OfRange, Ok, Option, PictureFault, RangeFault, Result, Script, Write, WritesSuch, ap, arith, false, inl, inr, is_streamed, may_write_before, range_of, refl, scripts_of, status_of, status_of_picture, subst, sym, true, ℕ, ◌∙◌, ◌≡◌, ◌≢◌, ◌≤◌}
 use Rattle.uni_script.specs.declared.fault.BenchFault.TheVariants.{Audit, Read}
 
 -- no fault ends with 0, nor does refused memory for its text
@@ -8,7 +8,7 @@ least_status Write = omega arith
 least_status f = omega arith
 
 status_not_0 : (f : PictureFault) (status : ℕ) → IsStatusOfPicture f status → status ≢ 0
-status_not_0 TooManyEvents status is zero = omega arith
+status_not_0 (OfRange f) status is zero = omega arith
 status_not_0 Misdrawn status is zero = omega arith
 status_not_0 (Script f) status is zero = elim is [
   | inl same ↦ let least = least_status f in omega arith
@@ -17,23 +17,23 @@ status_not_0 (Script f) status is zero = elim is [
 
 -- a status of 2 is that of the fault
 status_2 : (f : PictureFault) (status : ℕ) → IsStatusOfPicture f status → status ≡ 2 → status_of_picture f ≡ 2
-status_2 TooManyEvents status is two = refl
+status_2 (OfRange f) status is two = refl
 status_2 Misdrawn status is two = absurd (omega arith)
 status_2 (Script f) status is two = elim is [
   | inl same ↦ sym same ∙ two
   | inr other ↦ let four = other.1 in absurd (omega arith)
 ]
 
--- a fault that ends with 2 is one of a script, or that there are too many events
-no_picture : (form : Form) (left : Option (List ℕ)) (f : PictureFault) → status_of_picture f ≡ 2 → (f ≡ TooManyEvents → HasTooManyEvents (range_of form) left)
+-- a fault that ends with 2 is one of a script, or of the choice of events
+no_picture : (form : Form) (left : Option (List ℕ)) (f : PictureFault) → status_of_picture f ≡ 2 → ((e : RangeFault) → f ≡ OfRange e → HasRangeFault (range_of form) e left)
     → ((e : BenchFault) → f ≡ Script e → IsFaultOfScript e → HasFault (scripts_of 1048576) left e) → HasNoPicture form left
-no_picture form left TooManyEvents two many fault = inl (many refl)
-no_picture form left Misdrawn two many fault = absurd (omega arith)
-no_picture form left (Script Read) two many fault = absurd (omega arith)
-no_picture form left (Script Write) two many fault = absurd (omega arith)
-no_picture form left (Script Memory) two many fault = absurd (omega arith)
-no_picture form left (Script (Audit verdict)) two many fault = absurd (omega arith)
-no_picture form left (Script e) two many fault = inr (e, tt, fault e refl tt)
+no_picture form left (OfRange e) two range fault = inl (e, range e refl)
+no_picture form left Misdrawn two range fault = absurd (omega arith)
+no_picture form left (Script Read) two range fault = absurd (omega arith)
+no_picture form left (Script Write) two range fault = absurd (omega arith)
+no_picture form left (Script Memory) two range fault = absurd (omega arith)
+no_picture form left (Script (Audit verdict)) two range fault = absurd (omega arith)
+no_picture form left (Script e) two range fault = inr (e, tt, fault e refl tt)
 
 -- nothing is written before a fault, but before a failure of the output, and refused memory where the form is streamed
 may_not_write : (form : Form) (f : PictureFault) → f ≢ Script Write → (f ≡ Script Memory → is_streamed form ≡ false) → may_write_before form f ≡ false
@@ -73,14 +73,14 @@ IsDrawn-all form left old new r a is writes = record {
 -- and one that ends with a fault
 pub IsDrawn-fault : {A : Type 0} (form : Form) (left old new : Option (List ℕ)) (status : ℕ) (r : Result A PictureFault) (f : PictureFault) → r ≡ Err f → WritesSuch r (IsPictureIn form left) old new
     → ((e : PictureFault) → IsErrOf r e → may_write_before form e ≡ false → new ≡ old)
-    → (IsErrOf r TooManyEvents → HasTooManyEvents (range_of form) left) → ((e : BenchFault) → IsErrOf r (Script e) → IsFaultOfScript e → HasFault (scripts_of 1048576) left e)
+    → ((e : RangeFault) → IsErrOf r (OfRange e) → HasRangeFault (range_of form) e left) → ((e : BenchFault) → IsErrOf r (Script e) → IsFaultOfScript e → HasFault (scripts_of 1048576) left e)
     → IsStatusOfPicture f status → IsDrawn form left old new status
-IsDrawn-fault {A} form left old new status r f is writes unwritten many fault ends =
+IsDrawn-fault {A} form left old new status r f is writes unwritten range fault ends =
     let told : (g : PictureFault) → f ≡ g → IsErrOf r g = λ g same. is ∙ ap Err same in record {
       drawn = λ zero. absurd (status_not_0 f status ends zero);
       bad = λ two.
           let own = status_2 f status ends two in (
-            no_picture form left f own (λ same. many (told TooManyEvents same)) (λ e same. fault e (told (Script e) same)),
+            no_picture form left f own (λ e same. range e (told (OfRange e) same)) (λ e same. fault e (told (Script e) same)),
             unwritten f is (may_not_write form f (λ same. let three = status_of_write f status ends same in omega arith)
                 (λ same. absurd (let four : status_of_picture (Script Memory) ≡ 2 = subst (λ g. status_of_picture g ≡ 2) same own in omega arith))),
           );

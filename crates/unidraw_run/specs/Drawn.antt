@@ -1,6 +1,6 @@
 -- What a run of the program has done when it ends, and the statuses with which it ends.
 use Rattle.std.specs.Prelude.{Bool, List, Ok, Option, Result, Vec, [], codes, false, true, ℕ, ◌++◌, ◌∷◌, ◌≡◌, ◌≢◌, ◌⊎◌}
-use Rattle.unidraw_run.specs.Vocabulary.{BenchFault, HasFault, HasTooManyEvents, IsFaultOfScript, IsLines, IsPage, IsPicture, IsStatusOf, IsTold, Memory, Misdrawn, PictureFault, Range, Script, TellsLine, TooManyEvents, Write, Writes, WritesPart, all_events, picture_fault_text, scripts_of, status_of, too_many_text}
+use Rattle.unidraw_run.specs.Vocabulary.{BenchFault, HasFault, HasRangeFault, IsFaultOfScript, IsLines, IsPage, IsPicture, IsStatusOf, IsTold, Memory, Misdrawn, OfRange, PastEnd, PictureFault, Range, RangeFault, Script, TellsLine, TooManyEvents, Write, Writes, WritesPart, all_events, picture_fault_text, scripts_of, status_of, too_many_text}
 use Rattle.std.specs.declared.alloc.Global.{Global}
 use Rattle.run_tell.specs.History.{IsHistory}
 use Rattle.run_tell.specs.Sentences.{steps_wording}
@@ -34,9 +34,11 @@ range_of (Full range) = range
 range_of (Html range) = range
 range_of History = all_events
 
--- the reader had a script with a fault, or with too many events that a form shows
+-- the reader had a script with a fault, or one of which the events can't be chosen that a form shows
 abbrev pub HasNoPicture : Form → (left : Option (List ℕ)) → Type 0
-HasNoPicture form left = HasTooManyEvents (range_of form) left ⊎ ((e : BenchFault) × IsFaultOfScript e × HasFault (scripts_of 1048576) left e)
+HasNoPicture form left =
+    ((e : RangeFault) × HasRangeFault (range_of form) e left)
+    ⊎ ((e : BenchFault) × IsFaultOfScript e × HasFault (scripts_of 1048576) left e)
 
 -- whether a form is written while it is told, and not made whole first
 abbrev pub is_streamed : Form → Bool
@@ -66,13 +68,13 @@ pub record IsDrawn (form : Form) (left old new : Option (List ℕ)) (status : �
 -- the status that a fault ends with
 abbrev pub status_of_picture : PictureFault → ℕ
 status_of_picture (Script fault) = status_of fault
-status_of_picture TooManyEvents = 2
+status_of_picture (OfRange fault) = 2
 status_of_picture Misdrawn = 5
 
 -- the status of a fault, or that of refused memory for its text
 abbrev pub IsStatusOfPicture : PictureFault → (status : ℕ) → Type 0
 IsStatusOfPicture (Script fault) status = IsStatusOf fault status
-IsStatusOfPicture TooManyEvents status = status ≡ 2
+IsStatusOfPicture (OfRange fault) status = status ≡ 2
 IsStatusOfPicture Misdrawn status = status ≡ 5
 
 -- what a form is called
@@ -88,7 +90,8 @@ form_name History = codes "--history"
 -- the text of a fault, where a form was asked for
 abbrev pub fault_text_in : Form → PictureFault → List ℕ
 fault_text_in form (Script fault) = picture_fault_text (Script fault)
-fault_text_in form TooManyEvents = too_many_text (form_name form)
+fault_text_in form (OfRange PastEnd) = codes "--from is past the last event"
+fault_text_in form (OfRange TooManyEvents) = too_many_text (form_name form)
 fault_text_in form Misdrawn = picture_fault_text Misdrawn
 
 -- the line that tells it

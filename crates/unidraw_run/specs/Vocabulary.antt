@@ -5,10 +5,12 @@ pub use Rattle.clap.specs.declared.builder.command.Command.TheViews.{out-Command
 pub use Rattle.clap.specs.declared.error.kind.ErrorKind.TheVariants.{ArgumentConflict, DisplayHelp, DisplayVersion}
 pub use Rattle.command_line.specs.Flags.{flag, is_set, versioned}
 pub use Rattle.run_layout.specs.Choice.{all_events}
-pub use Rattle.run_layout.specs.Subject.{HasTooManyEvents, picture_fault_text, too_many_text}
+pub use Rattle.run_layout.specs.Subject.{HasRangeFault, picture_fault_text, too_many_text}
 pub use Rattle.run_layout.specs.declared.choice.Range.{Range}
+pub use Rattle.run_layout.specs.declared.choice.RangeFault.{RangeFault}
+pub use Rattle.run_layout.specs.declared.choice.RangeFault.TheVariants.{PastEnd, TooManyEvents}
 pub use Rattle.run_layout.specs.declared.subject.PictureFault.{PictureFault}
-pub use Rattle.run_layout.specs.declared.subject.PictureFault.TheVariants.{Misdrawn, Script, TooManyEvents}
+pub use Rattle.run_layout.specs.declared.subject.PictureFault.TheVariants.{Misdrawn, Range as OfRange, Script}
 pub use Rattle.run_lines.specs.Lines.{IsLines}
 pub use Rattle.run_picture.specs.Picture.{IsPicture}
 pub use Rattle.run_tell.specs.Page.{IsPage}

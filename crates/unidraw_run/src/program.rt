@@ -1,7 +1,7 @@
 //! The program over its ends, and its statuses.
 
 ghost use Rattle.std.specs.Prelude.{◌≡◌, ◌≢◌, ◌⊎◌, IsErrOf, None, Some, false, is_some, map, true};
-ghost use Rattle.unidraw_run.specs.Vocabulary.{BenchFault as Fault, HasFault, HasTooManyEvents, IsFaultOfScript};
+ghost use Rattle.unidraw_run.specs.Vocabulary.{BenchFault as Fault, HasFault, HasRangeFault, IsFaultOfScript};
 ghost use Rattle.unidraw_run.specs.Vocabulary.{WritesSuch, scripts_of};
 ghost use Rattle.unidraw_run.specs.CommandLine.{IsRefused, form_of_words, request_of_words};
 ghost use Rattle.unidraw_run.specs.Drawn.{IsDrawn, IsPictureIn, IsStatusOfPicture, IsTextOf, TellsPictureFault};
@@ -9,7 +9,7 @@ ghost use Rattle.unidraw_run.specs.Drawn.{may_write_before, picture_fault_line, 
 
 use crate::words::{read_words, tip_for};
 use command_line::answer_words;
-use run_layout::{PictureFault, Range};
+use run_layout::{PictureFault, Range, RangeFault};
 use run_lines::lines_of;
 use run_picture::picture_of;
 use run_tell::{InJson, InWholeJson, InWords, page_of, tell_history, tell_script};
@@ -54,9 +54,9 @@ pub struct Request {
 /// `--columns` says how long lines are at most. With `--explain` the text of a bad line says why it is bad.
 ///
 /// The status is 0 where all went well, also for help or the version, which go to `output`; 2 for a bad script, for
-/// more than 2,000 events, or for words that ask for nothing that there is; 3 where `input` or `output` failed; 4 where
-/// memory was refused; and 5 where the drawing does not show its run, of which no script is known. The text that says
-/// so goes to `faults`, as far as that takes it.
+/// more than 2,000 events, where `--from` is past the last one, or for words that ask for nothing that there is; 3 where
+/// `input` or `output` failed; 4 where memory was refused; and 5 where the drawing does not show its run, of which no
+/// script is known. The text that says so goes to `faults`, as far as that takes it.
 pub fn run<S: AsStr, I: KeepsText, O: TextOut, F: TextOut>(
     alloc: Global,
     words: &[S],
@@ -146,10 +146,9 @@ fn write_picture<O: TextOut>(
 }
 
 /// Writes the picture of the script that a reader has, in a form. An `Err` is the first fault of the script; `Read`
-/// where the reader failed; `Memory` where memory was refused; `TooManyEvents` of a good script of which more than
-/// 2,000 events are chosen; `Misdrawn` where the drawing of its run does not show it; or `Write` where the output
-/// failed. With `Write` a prefix may be written, with `Memory` too where the form is written while it is told; else
-/// nothing is.
+/// where the reader failed; `Memory` where memory was refused; `Range` of a good script of which these events can't be
+/// chosen; `Misdrawn` where the drawing of its run does not show it; or `Write` where the output failed. With `Write` a
+/// prefix may be written, with `Memory` too where the form is written while it is told; else nothing is.
 fn draw_form<I: TextIn, O: TextOut>(
     alloc: Global,
     form: Form,
@@ -162,8 +161,8 @@ fn draw_form<I: TextIn, O: TextOut>(
         (O.contents output.old) (O.contents output.new) }
     ensures unwritten { (e : PictureFault) → IsErrOf result e → may_write_before form e ≡ false
         → output.new ≡ output.old }
-    ensures many { IsErrOf result PictureFault.TooManyEvents
-        → HasTooManyEvents (range_of form) (I.remaining input.old) }
+    ensures range { (e : RangeFault) → IsErrOf result (PictureFault.Range e)
+        → HasRangeFault (range_of form) e (I.remaining input.old) }
     ensures fault { (e : Fault) → IsErrOf result (PictureFault.Script e) → IsFaultOfScript e
         → HasFault (scripts_of 1048576) (I.remaining input.old) e }
     ensures written { O.has_failed output.new ≡ true → IsErrOf result (PictureFault.Script Fault.Write) }
@@ -183,7 +182,7 @@ fn draw_form<I: TextIn, O: TextOut>(
 
 /// The line that says that there are too many events for a form.
 fn too_many_line(form: Form) -> &'static str
-    ensures { result.now ≡ picture_fault_line form PictureFault.TooManyEvents }
+    ensures { result.now ≡ picture_fault_line form (PictureFault.Range RangeFault.TooManyEvents) }
 {
     match form {
         Form::Svg(_) => "too many events for an SVG: at most 2000\n",
@@ -193,6 +192,16 @@ fn too_many_line(form: Form) -> &'static str
         Form::Full(_) => "too many events for --json --full: at most 2000\n",
         Form::Html(_) => "too many events for --html: at most 2000\n",
         Form::History => "too many events for --history: at most 2000\n",
+    }
+}
+
+/// The line that says why events can't be chosen for a form.
+fn range_fault_line(form: Form, fault: RangeFault) -> &'static str
+    ensures { result.now ≡ picture_fault_line form (PictureFault.Range fault) }
+{
+    match fault {
+        RangeFault::PastEnd => "--from is past the last event\n",
+        RangeFault::TooManyEvents => too_many_line(form),
     }
 }
 
@@ -212,8 +221,8 @@ fn report<F: TextOut>(
 {
     match fault {
         PictureFault::Script(fault) => report_explained(alloc, fault, script, faults),
-        PictureFault::TooManyEvents => {
-            tell(faults, too_many_line(form).as_bytes());
+        PictureFault::Range(fault) => {
+            tell(faults, range_fault_line(form, fault).as_bytes());
             2
         }
         PictureFault::Misdrawn => {

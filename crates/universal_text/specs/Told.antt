@@ -7,9 +7,9 @@ use Rattle.uni_script.specs.Scripts.{scripts_of}
 use Rattle.uni_script.specs.Fault.{fault_line}
 use Rattle.uni_script.specs.Replay.{IsFaultOfScript, fault_of_script, text_of_script}
 use Rattle.uni_script.specs.declared.fault.BenchFault.{BenchFault}
-use Rattle.run_layout.specs.Subject.{HasTooManyEvents, picture_fault_text}
+use Rattle.run_layout.specs.Subject.{HasRangeFault, picture_fault_text}
 use Rattle.run_layout.specs.declared.subject.PictureFault.{PictureFault}
-use Rattle.run_layout.specs.declared.subject.PictureFault.TheVariants.{Script, TooManyEvents, Misdrawn}
+use Rattle.run_layout.specs.declared.subject.PictureFault.TheVariants.{Script, Range as OfRange, Misdrawn}
 use Rattle.run_layout.specs.Choice.{all_events}
 use Rattle.run_picture.specs.Picture.{IsPicture}
 use Rattle.run_lines.specs.Lines.{IsLines}
@@ -45,7 +45,7 @@ answer_to history script = line_or (fault_of_script (scripts_of history) script)
 -- a fault that a script has, and not its run
 abbrev pub IsFaultOfPicture : PictureFault → Type 0
 IsFaultOfPicture (Script fault) = IsFaultOfScript fault
-IsFaultOfPicture TooManyEvents = Unit {0}
+IsFaultOfPicture (OfRange fault) = Unit {0}
 IsFaultOfPicture Misdrawn = ⊥
 
 -- the line that says why a script has no picture
@@ -55,7 +55,7 @@ line_of fault = picture_fault_text fault ++ 10 ∷ []
 -- why a script has no picture: its first fault, or more than 2,000 events
 abbrev pub HasNoPicture : (script : List ℕ) → PictureFault → Type 0
 HasNoPicture script (Script fault) = fault_of_script (scripts_of 1048576) script ≡ Some fault
-HasNoPicture script TooManyEvents = HasTooManyEvents all_events (Some script)
+HasNoPicture script (OfRange fault) = HasRangeFault all_events fault (Some script)
 HasNoPicture script Misdrawn = ⊥
 
 -- the script's picture as an SVG, its picture as lines, or the line that says why it has neither, is like this

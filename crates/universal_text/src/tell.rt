@@ -32,7 +32,7 @@ fn status_of(fault: PictureFault) -> u32
     ensures misdrawn { result ≡ 5 → fault ≡ PictureFault.Misdrawn }
 {
     match fault {
-        PictureFault::TooManyEvents => BAD_SCRIPT,
+        PictureFault::Range(_) => BAD_SCRIPT,
         PictureFault::Misdrawn => MISDRAWN,
         PictureFault::Script(fault) => match fault {
             BenchFault::Read | BenchFault::Write | BenchFault::Memory | BenchFault::Audit(_) =>

@@ -1,4 +1,4 @@
-use Rattle.unidraw_run.proofs.Vocabulary.{HasTooManyEvents, IfOk-at_ok, IsLines, IsPage, IsPicture, IsPictureIn, Script, TooManyEvents, WritesSuch, ap, is_streamed, range_of, subst, sym}
+use Rattle.unidraw_run.proofs.Vocabulary.{HasRangeFault, IfOk-at_ok, IsLines, IsPage, IsPicture, IsPictureIn, OfRange, Script, WritesSuch, ap, is_streamed, range_of, subst, sym}
 use Rattle.run_tell.proofs.Tellings.{WritesSuch-weaker}
 use Rattle.unidraw_run.proofs.Drawing.{no_script_write, not_memory, not_write}
 use Rattle.unidraw_run.proofs.program.draw_form.Goals as goal
@@ -12,10 +12,10 @@ returns-in-Svg-clause-drawn g c =
 pub returns-in-Svg-clause-unwritten : goal.returns-in-Svg-clause-unwritten
 returns-in-Svg-clause-unwritten g c = λ e is before. (c.write_picture.ensures.fault e is (not_write c.args.form e before)).1
 
-pub returns-in-Svg-clause-many : goal.returns-in-Svg-clause-many
-returns-in-Svg-clause-many g c = λ many.
-    subst (λ form. HasTooManyEvents (range_of form) (g.I.TextIn.remaining c.args.input.now)) (sym c.in-Svg.is)
-    (c.picture_of.ensures.many (c.write_picture.ensures.fault TooManyEvents many (λ same. cc)).0)
+pub returns-in-Svg-clause-range : goal.returns-in-Svg-clause-range
+returns-in-Svg-clause-range g c = λ e is.
+    subst (λ form. HasRangeFault (range_of form) e (g.I.TextIn.remaining c.args.input.now)) (sym c.in-Svg.is)
+    (c.picture_of.ensures.range e (c.write_picture.ensures.fault (OfRange e) is (λ same. cc)).0)
 
 pub returns-in-Svg-clause-fault : goal.returns-in-Svg-clause-fault
 returns-in-Svg-clause-fault g c = λ e is fault. c.picture_of.ensures.fault e (c.write_picture.ensures.fault (Script e) is (no_script_write e fault)).0 fault
@@ -29,10 +29,10 @@ returns-in-Lines-clause-drawn g c =
 pub returns-in-Lines-clause-unwritten : goal.returns-in-Lines-clause-unwritten
 returns-in-Lines-clause-unwritten g c = λ e is before. (c.write_picture-in-Lines.ensures.fault e is (not_write c.args.form e before)).1
 
-pub returns-in-Lines-clause-many : goal.returns-in-Lines-clause-many
-returns-in-Lines-clause-many g c = λ many.
-    subst (λ form. HasTooManyEvents (range_of form) (g.I.TextIn.remaining c.args.input.now)) (sym c.in-Lines.is)
-    (c.lines_of.ensures.many (c.write_picture-in-Lines.ensures.fault TooManyEvents many (λ same. cc)).0)
+pub returns-in-Lines-clause-range : goal.returns-in-Lines-clause-range
+returns-in-Lines-clause-range g c = λ e is.
+    subst (λ form. HasRangeFault (range_of form) e (g.I.TextIn.remaining c.args.input.now)) (sym c.in-Lines.is)
+    (c.lines_of.ensures.range e (c.write_picture-in-Lines.ensures.fault (OfRange e) is (λ same. cc)).0)
 
 pub returns-in-Lines-clause-fault : goal.returns-in-Lines-clause-fault
 returns-in-Lines-clause-fault g c = λ e is fault. c.lines_of.ensures.fault e (c.write_picture-in-Lines.ensures.fault (Script e) is (no_script_write e fault)).0 fault
@@ -46,10 +46,10 @@ returns-in-Html-clause-drawn g c =
 pub returns-in-Html-clause-unwritten : goal.returns-in-Html-clause-unwritten
 returns-in-Html-clause-unwritten g c = λ e is before. (c.write_picture-in-Html.ensures.fault e is (not_write c.args.form e before)).1
 
-pub returns-in-Html-clause-many : goal.returns-in-Html-clause-many
-returns-in-Html-clause-many g c = λ many.
-    subst (λ form. HasTooManyEvents (range_of form) (g.I.TextIn.remaining c.args.input.now)) (sym c.in-Html.is)
-    (c.page_of.ensures.many (c.write_picture-in-Html.ensures.fault TooManyEvents many (λ same. cc)).0)
+pub returns-in-Html-clause-range : goal.returns-in-Html-clause-range
+returns-in-Html-clause-range g c = λ e is.
+    subst (λ form. HasRangeFault (range_of form) e (g.I.TextIn.remaining c.args.input.now)) (sym c.in-Html.is)
+    (c.page_of.ensures.range e (c.write_picture-in-Html.ensures.fault (OfRange e) is (λ same. cc)).0)
 
 pub returns-in-Html-clause-fault : goal.returns-in-Html-clause-fault
 returns-in-Html-clause-fault g c = λ e is fault. c.page_of.ensures.fault e (c.write_picture-in-Html.ensures.fault (Script e) is (no_script_write e fault)).0 fault
@@ -60,8 +60,8 @@ returns-in-Steps-clause-drawn g c = subst (λ form. WritesSuch c.tell_script.res
 pub returns-in-Steps-clause-unwritten : goal.returns-in-Steps-clause-unwritten
 returns-in-Steps-clause-unwritten g c = λ e is before. c.tell_script.ensures.unwritten e is (not_memory c.args.form e (ap is_streamed c.in-Steps.is) before) (not_write c.args.form e before)
 
-pub returns-in-Steps-clause-many : goal.returns-in-Steps-clause-many
-returns-in-Steps-clause-many g c = λ many. subst (λ form. HasTooManyEvents (range_of form) (g.I.TextIn.remaining c.args.input.now)) (sym c.in-Steps.is) (c.tell_script.ensures.many many)
+pub returns-in-Steps-clause-range : goal.returns-in-Steps-clause-range
+returns-in-Steps-clause-range g c = λ e is. subst (λ form. HasRangeFault (range_of form) e (g.I.TextIn.remaining c.args.input.now)) (sym c.in-Steps.is) (c.tell_script.ensures.range e is)
 
 pub returns-in-Json-clause-drawn : goal.returns-in-Json-clause-drawn
 returns-in-Json-clause-drawn g c = subst (λ form. WritesSuch c.tell_script-in-Json.result (IsPictureIn form (g.I.TextIn.remaining c.args.input.now)) (g.O.TextOut.contents c.args.output.now) (g.O.TextOut.contents c.tell_script-in-Json.new.out)) (sym c.in-Json.is) c.tell_script-in-Json.ensures.told
@@ -69,8 +69,8 @@ returns-in-Json-clause-drawn g c = subst (λ form. WritesSuch c.tell_script-in-J
 pub returns-in-Json-clause-unwritten : goal.returns-in-Json-clause-unwritten
 returns-in-Json-clause-unwritten g c = λ e is before. c.tell_script-in-Json.ensures.unwritten e is (not_memory c.args.form e (ap is_streamed c.in-Json.is) before) (not_write c.args.form e before)
 
-pub returns-in-Json-clause-many : goal.returns-in-Json-clause-many
-returns-in-Json-clause-many g c = λ many. subst (λ form. HasTooManyEvents (range_of form) (g.I.TextIn.remaining c.args.input.now)) (sym c.in-Json.is) (c.tell_script-in-Json.ensures.many many)
+pub returns-in-Json-clause-range : goal.returns-in-Json-clause-range
+returns-in-Json-clause-range g c = λ e is. subst (λ form. HasRangeFault (range_of form) e (g.I.TextIn.remaining c.args.input.now)) (sym c.in-Json.is) (c.tell_script-in-Json.ensures.range e is)
 
 pub returns-in-Full-clause-drawn : goal.returns-in-Full-clause-drawn
 returns-in-Full-clause-drawn g c = subst (λ form. WritesSuch c.tell_script-in-Full.result (IsPictureIn form (g.I.TextIn.remaining c.args.input.now)) (g.O.TextOut.contents c.args.output.now) (g.O.TextOut.contents c.tell_script-in-Full.new.out)) (sym c.in-Full.is) c.tell_script-in-Full.ensures.told
@@ -78,8 +78,8 @@ returns-in-Full-clause-drawn g c = subst (λ form. WritesSuch c.tell_script-in-F
 pub returns-in-Full-clause-unwritten : goal.returns-in-Full-clause-unwritten
 returns-in-Full-clause-unwritten g c = λ e is before. c.tell_script-in-Full.ensures.unwritten e is (not_memory c.args.form e (ap is_streamed c.in-Full.is) before) (not_write c.args.form e before)
 
-pub returns-in-Full-clause-many : goal.returns-in-Full-clause-many
-returns-in-Full-clause-many g c = λ many. subst (λ form. HasTooManyEvents (range_of form) (g.I.TextIn.remaining c.args.input.now)) (sym c.in-Full.is) (c.tell_script-in-Full.ensures.many many)
+pub returns-in-Full-clause-range : goal.returns-in-Full-clause-range
+returns-in-Full-clause-range g c = λ e is. subst (λ form. HasRangeFault (range_of form) e (g.I.TextIn.remaining c.args.input.now)) (sym c.in-Full.is) (c.tell_script-in-Full.ensures.range e is)
 
 pub returns-in-History-clause-drawn : goal.returns-in-History-clause-drawn
 returns-in-History-clause-drawn g c = subst (λ form. WritesSuch c.tell_history.result (IsPictureIn form (g.I.TextIn.remaining c.args.input.now)) (g.O.TextOut.contents c.args.output.now) (g.O.TextOut.contents c.tell_history.new.out)) (sym c.in-History.is) c.tell_history.ensures.told
@@ -87,5 +87,5 @@ returns-in-History-clause-drawn g c = subst (λ form. WritesSuch c.tell_history.
 pub returns-in-History-clause-unwritten : goal.returns-in-History-clause-unwritten
 returns-in-History-clause-unwritten g c = λ e is before. c.tell_history.ensures.unwritten e is (not_memory c.args.form e (ap is_streamed c.in-History.is) before) (not_write c.args.form e before)
 
-pub returns-in-History-clause-many : goal.returns-in-History-clause-many
-returns-in-History-clause-many g c = λ many. subst (λ form. HasTooManyEvents (range_of form) (g.I.TextIn.remaining c.args.input.now)) (sym c.in-History.is) (c.tell_history.ensures.many many)
+pub returns-in-History-clause-range : goal.returns-in-History-clause-range
+returns-in-History-clause-range g c = λ e is. subst (λ form. HasRangeFault (range_of form) e (g.I.TextIn.remaining c.args.input.now)) (sym c.in-History.is) (c.tell_history.ensures.range e is)
