@@ -129,10 +129,10 @@ static inline const char *universal_strerror(uint32_t status) {
  *
  * Where a state has W words, an invocation I and a reply R, a call takes at most 6W + (9 + 3I + 6R)n + I + R + 11 steps on
  * shared words. It copies the whole state, so its time is that of the capacity, also while the object is empty. Of one thread, in
- * microseconds of processor time, by a build that checks each index (docs/measured.md):
+ * microseconds of processor time (docs/measured.md):
  *
  * words        1            64      1,024         65,535
- * call         0.3          0.7     6.5           390
+ * call         0.07         0.16    1.2           90
  * ------------------------------------------------------------------------------------------------------------------ */
 
 /* Opens a counter modulo 2^64, 0 at the start, for n processes. A call adds its number, and is answered the sum before.

@@ -11,8 +11,8 @@ A call comes with a version: a number of the object's state, in which the call i
 `version`. Who is told a version, by whatever means, can follow it. A seat makes up to 2^50 calls; a further one raises
 `Refused`, with `SPENT`.
 
-A call copies the whole state, so its time is that of the capacity, also while the object is empty: in C 0.3 microseconds of
-processor time with 1 word, 0.7 with 64, 6.5 with 1,024 and 390 with 65,535 (docs/measured.md), and here some 8 more.
+A call copies the whole state, so its time is that of the capacity, also while the object is empty: in C 0.07 microseconds of
+processor time with 1 word, 0.16 with 64, 1.2 with 1,024 and 90 with 65,535 (docs/measured.md), and here some 8 more.
 """
 
 from __future__ import annotations

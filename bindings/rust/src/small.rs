@@ -4,8 +4,8 @@
 //! gives a [`Small`], the object with its seats. A call comes with a version: a number of the object's state, in which the
 //! call is ([`SmallSeat::version`]). Who is told a version, by whatever means, can follow it ([`SmallSeat::follows`]).
 //!
-//! A call copies the whole state, so its time is that of the capacity, also while the object is empty: of one thread in C 0.3
-//! microseconds of processor time with 1 word, 0.7 with 64, 6.5 with 1,024 and 390 with 65,535 (docs/measured.md).
+//! A call copies the whole state, so its time is that of the capacity, also while the object is empty: of one thread in C 0.07
+//! microseconds of processor time with 1 word, 0.16 with 64, 1.2 with 1,024 and 90 with 65,535 (docs/measured.md).
 //!
 //! ```
 //! use std::num::NonZeroU64;

@@ -24,8 +24,8 @@ import fednayup.universal.Universal.Handle;
  * <p>A call takes no lock of the library and no memory. It comes with a version: a number of the object's state, in which the
  * call is. Who is told a version, by whatever means, can follow it.
  *
- * <p>A call copies the whole state, so its time is that of the capacity, also while the object is empty: of one thread in C 0.3
- * microseconds of processor time with 1 word, 0.7 with 64, 6.5 with 1,024 and 390 with 65,535 (docs/measured.md).
+ * <p>A call copies the whole state, so its time is that of the capacity, also while the object is empty: of one thread in C 0.07
+ * microseconds of processor time with 1 word, 0.16 with 64, 1.2 with 1,024 and 90 with 65,535 (docs/measured.md).
  */
 public final class Small<S extends Small.Seat> implements AutoCloseable {
     private final Handle handle = new Handle();
