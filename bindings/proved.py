@@ -2,7 +2,8 @@
 
 `rt ci` leaves the libraries of crates in their folders, but not the sum by which other commands know them. This writes the
 sum where a crate's library is younger than each source of the crate and of those below it. Where the variable GATE names another
-checkout, in which `rt ci` has run, it first copies the libraries of those crates that have the same sources there.
+checkout, in which `rt ci` has run, it first copies the libraries of those crates that have the same sources there; those with the
+sum already, too.
 """
 
 import os
@@ -26,6 +27,12 @@ def youngest(folder):
     return max((file.stat().st_mtime for file in folder.rglob("*") if file.is_file()), default=0)
 
 
+def has_sum(crate):
+    """Whether a crate's library has the sum of its sources."""
+    stamp = pathlib.Path(crate.rlib).parent / "stamp"
+    return stamp.exists() and stamp.read_text() == crate.stamp()
+
+
 def take(crate, library):
     """Has a crate's library, with its sum."""
     own = pathlib.Path(crate.rlib)
@@ -40,9 +47,8 @@ for name in sys.argv[1:]:
     for proved in below(GATE, name):
         folder, library, crate = pathlib.Path(proved.folder), pathlib.Path(proved.rlib), here.get(proved.name)
         changed = max([changed] + [youngest(folder / part) for part in ("src", "specs", "proofs")])
-        if crate is None or not library.is_dir() or youngest(library) <= changed or crate.stamp() != proved.stamp():
+        if crate is None or crate.stamp() != proved.stamp() or has_sum(crate):
             continue
-        stamp = pathlib.Path(crate.rlib).parent / "stamp"
-        if not stamp.exists() or stamp.read_text() != crate.stamp():
+        if library.is_dir() and (has_sum(proved) or youngest(library) > changed):
             take(crate, library)
             print(f"        {crate.name}: as rt ci has proved it")
