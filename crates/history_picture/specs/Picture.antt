@@ -1,5 +1,5 @@
 -- What a picture of a history is.
-use Rattle.std.specs.Prelude.{◌≡◌, ℕ, ◌++◌, ◌<◌, List, [], ◌∷◌, map, Option, Some, None, IfSome, codes}
+use Rattle.std.specs.Prelude.{◌≡◌, ℕ, ◌++◌, ◌<◌, List, [], ◌∷◌, map, Option, Some, None, IfSome, codes, length}
 use Rattle.std.specs.List.{All}
 use Rattle.signs.specs.Signs.{Places, AreApart, AreInSight, AreShown, AreWithin, Outline, look_of, outline_of, text_of, corners_of}
 use Rattle.signs.specs.declared.sign.Look.{Look}
@@ -23,13 +23,18 @@ pub record IsOrderly (lanes : ℕ) (bar : Bar) : Type 0 where
   pub before : IfSome bar.point (λ point. IfSome bar.end (λ end. point < end))
 
 -- a call of the same process begins later only after this one returned
-abbrev pub IsOver : (bar later : Bar) → Type 0
-IsOver bar later = later.lane ≡ bar.lane → (end : ℕ) × (bar.end ≡ Some end) × (end < later.begin)
+pub record IsOver (bar later : Bar) : Type 0 where
+  pub over : later.lane ≡ bar.lane → (end : ℕ) × (bar.end ≡ Some end) × (end < later.begin)
 
 -- the calls of a process are one after the other
 abbrev pub AreInTurn : List Bar → Type 0
 AreInTurn [] = Unit {0}
 AreInTurn (bar ∷ bars) = All (IsOver bar) bars × AreInTurn bars
+
+-- a scene is in order: each of its calls, and those of a process one after the other
+pub record IsInOrder (scene : Scene) : Type 0 where
+  pub each : All (IsOrderly (length scene.names.items)) scene.bars.items
+  pub in_turn : AreInTurn scene.bars.items
 
 -- ---- the picture of it
 

@@ -1,9 +1,9 @@
 //! A drawing is looked at before it becomes a picture.
 
-ghost use Rattle.std.specs.Prelude.{◌≡◌, ◌<◌, ◌≤◌, All, IfOk, IsErrOf, IsTrue, length, map};
+ghost use Rattle.std.specs.Prelude.{◌≡◌, ◌<◌, ◌≤◌, IfOk, IsErrOf, IsTrue, length, map};
 ghost use Rattle.signs.specs.Signs.{AreShown, outline_of, places_shown};
 ghost use Rattle.history_picture.specs.Parts.{red_parts, scene_parts};
-ghost use Rattle.history_picture.specs.Picture.{AreInTurn, IsDrawingOf, IsOrderly, IsPageOf, IsPictureOf, red_outline};
+ghost use Rattle.history_picture.specs.Picture.{IsDrawingOf, IsInOrder, IsPageOf, IsPictureOf, red_outline};
 
 use crate::drawing::draw;
 use crate::orderly::is_orderly;
@@ -112,8 +112,8 @@ fn drawn(alloc: Global, scene: &Scene) -> Result<Drawing, PictureError>
 /// order, `Misdrawn` where the drawing doesn't show the scene, of which no scene is known, or `Memory`.
 pub fn svg_of_scene(alloc: Global, scene: &Scene) -> Result<Vec<u8>, PictureError>
     ensures picture { IfOk result (λ svg. IsPictureOf scene.now svg.items) }
-    ensures orderly { IfOk result (λ _. All (IsOrderly (length scene.now.names.items)) scene.now.bars.items) }
-    ensures in_turn { IfOk result (λ _. AreInTurn scene.now.bars.items) }
+    ensures in_order { IfOk result (λ _. IsInOrder scene.now) }
+    ensures disorder { IsErrOf result PictureError.Disorderly → ¬ (IsInOrder scene.now) }
     ensures many { IsErrOf result PictureError.TooManyCalls → 400 < length scene.now.bars.items }
     ensures few { IfOk result (λ _. length scene.now.bars.items ≤ 400) }
 {
@@ -131,6 +131,8 @@ pub fn svg_of_scene(alloc: Global, scene: &Scene) -> Result<Vec<u8>, PictureErro
 /// `svg_of_scene`.
 pub fn page_of_scene(alloc: Global, scene: &Scene) -> Result<Vec<u8>, PictureError>
     ensures page { IfOk result (λ page. IsPageOf scene.now page.items) }
+    ensures in_order { IfOk result (λ _. IsInOrder scene.now) }
+    ensures disorder { IsErrOf result PictureError.Disorderly → ¬ (IsInOrder scene.now) }
     ensures many { IsErrOf result PictureError.TooManyCalls → 400 < length scene.now.bars.items }
     ensures few { IfOk result (λ _. length scene.now.bars.items ≤ 400) }
 {
