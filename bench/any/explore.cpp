@@ -59,7 +59,7 @@ struct Process {
     At at;
     Byte made, tries, r, j, x;
     Byte s_version, s_process;       // S as the attempt found it
-    Byte held_version, held_process; // the word of the block at hand
+    Byte held_version;               // the version of the block at hand
     Log held, draft;
     std::array<Byte, n> seen;        // the number of the invocation at hand, of each
     std::array<Byte, n> sees;        // announcements, as the attempt found them
@@ -188,7 +188,7 @@ void step(State &m, int p) {
     case At::Give: {
         Slot &slot = m.slot[me.s_process][p][me.j];
         if (slot.owner != p) throw Fault{"moved out by who hasn't it"};
-        me.held = slot.log; me.held_version = me.s_version; me.held_process = me.s_process;
+        me.held = slot.log; me.held_version = me.s_version;
         if (!is_prefix(me.held, m.log)) throw Fault{"a block that isn't a version"};
         slot.log = {}; slot.word = empty; slot.owner = nobody;
         has_block(me, p, m);
@@ -282,7 +282,7 @@ void step(State &m, int p) {
         for (int r = 0; r < n; r++) if (applied(me.draft, r) > m.announced[r]) throw Fault{"a call that isn't announced"};
         if (!is_prefix(m.log, me.draft) || me.draft.count == m.log.count) throw Fault{"no further version"};
         m.version++; m.current = Byte(p); m.log = me.draft;
-        me.held = me.draft; me.held_version = m.version; me.held_process = Byte(p);
+        me.held = me.draft; me.held_version = m.version;
         for (int r = 0; r < n; r++) me.replied[r] = me.sees[r];
         returns(m, me, p, me.held);
         return;
@@ -339,7 +339,6 @@ int main() {
             m.reply[p][r].owner = nobody;
         }
         m.process[p].at = At::Between;
-        m.process[p].held_process = nobody;
     }
     std::unordered_set<Key, Hash> known;
     std::vector<State> open{m};

@@ -55,7 +55,8 @@ class _Seat(Calls, _Held, Generic[_State]):
     def follows(self, version: int) -> bool:
         """Whether a version has come: all later calls of this seat come after all calls that are in it then.
 
-        By a law one that a call was answered has come, but no clause of this call says so: be ready for False. Raises `Refused`: the seat is busy.
+        By a law one that a call was answered has come, but no clause of this call says so: be ready for False. Raises
+        `Refused`: the seat is busy.
         """
         has_come = c_uint32()
         self._call(_LIBRARY.universal_small_follows, _number(version, 64), byref(has_come))

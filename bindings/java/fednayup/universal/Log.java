@@ -11,8 +11,8 @@ import fednayup.universal.Universal.Handle;
 /**
  * An object that n processes share, with the seats that are still to be given out. Each process makes up to k calls.
  *
- * <p>A call takes no lock of the library and no memory, as tests see, and ends within {@code 12n + 15} steps on shared words, whatever
- * the other threads do. The functions behind this class are proved; this class is not.
+ * <p>A call takes no lock of the library and no memory, as tests see, and ends within {@code 12n + 15} steps on shared
+ * words, whatever the other threads do. The functions behind this class are proved; this class is not.
  */
 public final class Log implements AutoCloseable {
     private final Handle handle = new Handle();
