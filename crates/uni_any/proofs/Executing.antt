@@ -1,5 +1,5 @@
 -- Each step of an execution is one of the table's steps, and so keeps a board whose history is that of the execution.
-use Rattle.uni_any.proofs.Vocabulary.{Act, AreFew, AreSlots, AreWords, Asked, Block, Board, HasAnnounced, HasAsked, HasBrought, HasClosed, HasLaid, HasLaidOpen, HasLooked, HasOpened, HasStarted, HasStartedAs, Gives, Image, IsLeft, Takes, IsOf, IsShown, IsSound, Linearize, List, Local, Made, Mail, Mine, Posting, Reading, Ready, Sequential, Sizes, Some, State, Tells, Valid, View, Writing, [], ap, append-nil, append_assoc, applied_in, arith, block_frame, call_frame, carried_after, either, eqb, exchanged, false, get_elem?, gives, goes, has_block, homes_after, inl, inr, keeps, knows, length, map, none, number_cases, refl, rest, returns, row_in, set_at, slice_index, slice_set, slot_of, some, some-injective, some-ne-none, span, step, subst, suc, sym, taken_in, takes, told, took, true, version_in, word_of, zero, ℕ, ◌*◌, ◌++◌, ◌+◌, ◌-◌, ◌/◌, ◌<◌, ◌∙◌, ◌∷◌, ◌≡◌}
+use Rattle.uni_any.proofs.Vocabulary.{Act, AreFew, AreSlots, AreWords, Asked, Block, Board, HasAnnounced, HasAsked, HasBrought, HasClosed, HasLaid, HasLaidOpen, HasLooked, HasOpened, HasStarted, HasStartedAs, Gives, Image, IsLeft, Takes, IsOf, IsShown, IsSound, Linearize, List, Local, Made, Mail, Mine, Posting, Reading, Ready, Sequential, Sizes, Some, State, Tells, Valid, View, Writing, [], ap, append-nil, append_assoc, applied_in, arith, block_frame, call_frame, carried_after, either, eqb, exchanged, false, get_elem?, gives, goes, has_block, homes_after, inl, inr, keeps, knows, length, map, none, number_cases, refl, rest, returns, row_in, set_at, slice_index, slice_set, slot_of, some, some-injective, span, step, subst, sym, taken_in, takes, told, took, true, version_in, word_of, ℕ, ◌*◌, ◌++◌, ◌+◌, ◌-◌, ◌/◌, ◌<◌, ◌∙◌, ◌∷◌, ◌≡◌}
 use Rattle.atomic_table.specs.Table.{chain}
 use Rattle.atomic_table.specs.Table.{Act as Handling}
 use mathlib.Core.Option.{Option as Maybe}
@@ -16,21 +16,7 @@ use Rattle.uni_any.proofs.Laying.{lays, lays_open}
 use Rattle.uni_any.proofs.Looking.{looks}
 use Rattle.uni_any.proofs.Posting.{closes, opens}
 use Rattle.uni_any.proofs.Starting.{starts}
-
--- the values of a function below a number
-abbrev pub each_of : {A : Type 0} → (ℕ → A) → ℕ → List A
-each_of f zero = []
-each_of f (suc n) = f zero ∷ each_of (λ k. f (suc k)) n
-
-at_each : {A : Type 0} (f : ℕ → A) (n k : ℕ) → k < n → get_elem? (each_of f n) k ≡ some (f k)
-at_each f zero k below = absurd (omega arith)
-at_each f (suc n) zero below = refl
-at_each f (suc n) (suc k) below = at_each (λ j. f (suc j)) n k (omega arith)
-
-from_each : {A : Type 0} (f : ℕ → A) (n k : ℕ) (a : A) → get_elem? (each_of f n) k ≡ some a → (k < n) × (f k ≡ a)
-from_each f zero k a e = absurd (some-ne-none a (sym e))
-from_each f (suc n) zero a e = (omega arith, some-injective (f zero) a e)
-from_each f (suc n) (suc k) a e = let h = from_each (λ j. f (suc j)) n k a e in (let b = h.0 in omega arith, h.1)
+use Rattle.uni_model.proofs.Each.{at_each, each_of, from_each}
 
 -- the first slot that a seat has, and what it holds
 abbrev slot_first : {X : Type 0} → ℕ → List (ℕ × X) → ℕ

@@ -1,29 +1,14 @@
 -- Every execution from the opening is linearizable, in one order that only grows.
-use Rattle.uni_any.proofs.Vocabulary.{AcceptsAll, Act, AreFew, Atomic, Invoke, Linearize, List, Respond, Sequential, Sizes, [], ap, append-nil, append_assoc, at_start, opened, refl, subst, sym, ◌++◌, ◌∙◌, ◌∷◌, ◌≡◌}
+use Rattle.uni_any.proofs.Vocabulary.{AcceptsAll, AreFew, Atomic, Sequential, Sizes, [], ap, at_start, opened, refl, subst, ◌∙◌, ◌≡◌}
 use Rattle.uni_model.proofs.Placed.{AgreesInOrder-holds}
+use Rattle.uni_model.proofs.Points.{agreed-along, points-append}
+use Rattle.uni_model.specs.AtomicObject.{points}
 use Rattle.uni_model.specs.Linearizable.{observed}
-use Rattle.uni_any.specs.Execution.{Execution, Moment, history, last_moment, opened_moment, points}
+use Rattle.uni_any.specs.Execution.{Execution, Moment, history, last_moment, opened_moment}
 use Rattle.uni_any.specs.Linearized.{IsLinearizedInTime, KeepsOrder}
 use Rattle.uni_any.proofs.Executing.{Holds, history_holds}
 use Rattle.uni_any.proofs.Opening as Opening
 use Rattle.uni_any.proofs.Running.{history-goes_on}
-
-points-append : {I R : Type 0} (xs ys : List (Act I R)) → points (xs ++ ys) ≡ points xs ++ points ys
-points-append [] ys = refl
-points-append (Linearize c ∷ xs) ys = ap (λ l. c ∷ l) (points-append xs ys)
-points-append (Invoke p k i ∷ xs) ys = points-append xs ys
-points-append (Respond p k r ∷ xs) ys = points-append xs ys
-
--- the atomic object agrees on the calls that take effect, in their order
-agreed_points : {S I R : Type 0} (object : Sequential S I R) (a : Atomic S I) (acts : List (Act I R)) (b : Atomic S I) → AcceptsAll object a acts b
-    → b.agreed ≡ a.agreed ++ points acts
-agreed_points {S} {I} {R} object a [] b e = ap (λ (x : Atomic S I). x.agreed) e ∙ sym (append-nil a.agreed)
-agreed_points {S} {I} {R} object a (Invoke p k i ∷ acts) b h =
-    agreed_points object h.0 acts b h.2 ∙ ap (λ (x : Atomic S I). x.agreed ++ points acts) h.1.2
-agreed_points {S} {I} {R} object a (Linearize c ∷ acts) b h =
-    agreed_points object h.0 acts b h.2 ∙ ap (λ (x : Atomic S I). x.agreed ++ points acts) h.1.2 ∙ append_assoc a.agreed (c ∷ []) (points acts)
-agreed_points {S} {I} {R} object a (Respond p k r ∷ acts) b h =
-    agreed_points object h.0 acts b h.2 ∙ ap (λ (x : Atomic S I). x.agreed ++ points acts) h.1.1
 
 module _ {S I R : Type 0} (object : Sequential S I R) (sizes : Sizes) where
   pub keeps_order : {m : Moment I S R} (e : Execution object sizes m) (more : Execution object sizes (last_moment object sizes e)) → KeepsOrder object sizes e more
@@ -34,7 +19,7 @@ module _ {S I R : Type 0} (object : Sequential S I R) (sizes : Sizes) where
       → IsLinearizedInTime object sizes e
   linearized_by e atomic accepted =
       let acts = history object sizes e in
-      let agreed : atomic.agreed ≡ points acts = agreed_points object (at_start object.initial) acts atomic accepted in
+      let agreed : atomic.agreed ≡ points acts = agreed-along object (at_start object.initial) atomic acts accepted in
       let both = (AgreesInOrder-holds object object.initial (observed acts) (points acts)).0 (acts, atomic, refl, accepted, agreed) in
       record { atomic = atomic; accepted = accepted; agreed = agreed; well_formed = both.0; completed = both.1 }
 

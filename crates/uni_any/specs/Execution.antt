@@ -235,12 +235,6 @@ module _ {S I R : Type 0} (object : Sequential S I R) (sizes : Sizes) where
     local = λ p. at_rest object sizes;
   }
 
--- the calls that take effect in a history, in their order
-abbrev pub points : {I R : Type 0} → List (Act I R) → List (Invoked I)
-points [] = []
-points (Linearize c ∷ acts) = c ∷ points acts
-points (act ∷ acts) = points acts
-
 -- two processes, each with a pending call; the second of them is in
 abbrev sample_local : ℕ → Local ℕ ℕ ℕ
 sample_local p = record {

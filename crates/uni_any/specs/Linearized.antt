@@ -1,10 +1,10 @@
 -- What is said of every execution.
 use Rattle.std.specs.Prelude.{◌≡◌, ◌++◌}
 use Rattle.seq_object.specs.Sequential.{Sequential}
-use Rattle.uni_model.specs.AtomicObject.{Atomic, AcceptsAll, at_start}
+use Rattle.uni_model.specs.AtomicObject.{Atomic, AcceptsAll, at_start, points}
 use Rattle.uni_model.specs.HerlihyWing.{IsWellFormed, IsLinearizedByCompletion}
 use Rattle.uni_model.specs.Linearizable.{observed}
-use Rattle.uni_any.specs.Execution.{Execution, Moment, last_moment, goes_on, history, opened_moment, points}
+use Rattle.uni_any.specs.Execution.{Execution, Moment, last_moment, goes_on, history, opened_moment}
 use Rattle.uni_any.specs.declared.sizes.Sizes.{Sizes}
 
 module _ {S I R : Type 0} (object : Sequential S I R) (sizes : Sizes) where

@@ -5,12 +5,7 @@ use Rattle.uni_model.proofs.Written.{number_cases, set_at-cases}
 use Rattle.uni_model.proofs.LawProofs.{set_at_elsewhere}
 use Rattle.uni_model.proofs.Appended.{slice_get-append_left, slice_get-append_right, slice_get-append_cases}
 use Rattle.uni_model.proofs.Members.{member}
-
--- the calls that take effect among these acts
-abbrev pub points : {I R : Type 0} → List (Act I R) → List (Invoked I)
-points [] = []
-points (Linearize c ∷ acts) = c ∷ points acts
-points (act ∷ acts) = points acts
+use Rattle.uni_model.specs.AtomicObject.{points}
 
 -- p has no call open, and its calls that took effect have smaller numbers than its next one
 pub record Idle {S I : Type 0} (p : ℕ) (a : Atomic S I) : Type 0 where

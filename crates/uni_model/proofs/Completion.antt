@@ -1,10 +1,12 @@
 -- What is linearizable with linearization points put in has a completion in the sense of Herlihy and Wing, and is well-formed.
-use Rattle.uni_model.proofs.Vocabulary.{Accepts, AcceptsAll, Act, AllByRecursion, AreInTurn, Atomic, Bool, Contains, Invoke, Invoked, IsLinearizedAs, IsLinearizedByCompletion, IsResponse, IsWellFormed, Linearize, List, None, Option, Precedes, Respond, Sequential, Some, [], ap, append-nil, append_assoc, arith, at_start, cond, false, filter, filter-append, inl, inr, is_by, is_kept, length, list_any, nat_eq, observed, of_process, one_by_one, refl, response_at, slice_get, slice_get_within, subst, suc, sym, true, zero, ℕ, ◌&&◌, ◌++◌, ◌+◌, ◌<◌, ◌==◌, ◌||◌, ◌∙◌, ◌∷◌, ◌≡◌, ◌≢◌}
+use Rattle.uni_model.proofs.Vocabulary.{Accepts, AcceptsAll, Act, AllByRecursion, AreInTurn, Atomic, Bool, Contains, Invoke, Invoked, IsLinearizedAs, IsLinearizedByCompletion, IsResponse, IsWellFormed, Linearize, List, None, Option, Precedes, Respond, Sequential, Some, [], ap, append_assoc, arith, at_start, cond, false, filter, filter-append, inl, inr, is_by, is_kept, length, list_any, nat_eq, observed, of_process, one_by_one, refl, response_at, slice_get, slice_get_within, subst, suc, sym, true, zero, ℕ, ◌&&◌, ◌++◌, ◌+◌, ◌<◌, ◌==◌, ◌||◌, ◌∙◌, ◌∷◌, ◌≡◌, ◌≢◌}
 use Rattle.uni_model.proofs.Written.{number_cases, set_at-cases}
 use Rattle.uni_model.proofs.LawProofs.{set_at_elsewhere}
 use Rattle.uni_model.proofs.Appended.{slice_get-append_cases, slice_get-append_left, slice_get-append_right}
 use Rattle.uni_model.proofs.Members.{member, place_of_member, split_at}
-use Rattle.uni_model.proofs.Completed.{points, Situation, invs, PointIsKept, front, back, leads_all}
+use Rattle.uni_model.proofs.Points.{agreed-along}
+use Rattle.uni_model.specs.AtomicObject.{points}
+use Rattle.uni_model.proofs.Completed.{Situation, invs, PointIsKept, front, back, leads_all}
 use Rattle.uni_model.proofs.Completed.Situation.{IsIdle, IsWaiting, IsDone}
 
 or_true : (b : Bool) → (b || true) ≡ true
@@ -81,12 +83,6 @@ module _ {S I R : Type 0} (object : Sequential S I R) where
   start-along : (a b : Atomic S I) (acts : List (Act I R)) → AcceptsAll object a acts b → b.start ≡ a.start
   start-along a b [] h = ap (λ (x : Atomic S I). x.start) h
   start-along a b (act ∷ acts) h = start-along h.0 b acts h.2 ∙ start-accepts a h.0 act h.1
-
-  agreed-along : (a b : Atomic S I) (acts : List (Act I R)) → AcceptsAll object a acts b → b.agreed ≡ a.agreed ++ points acts
-  agreed-along a b [] h = ap (λ (x : Atomic S I). x.agreed) h ∙ sym (append-nil a.agreed)
-  agreed-along a b (Invoke p k i ∷ acts) h = agreed-along h.0 b acts h.2 ∙ ap (λ (x : Atomic S I). x.agreed ++ points acts) h.1.2
-  agreed-along a b (Linearize c ∷ acts) h = agreed-along h.0 b acts h.2 ∙ ap (λ (x : Atomic S I). x.agreed ++ points acts) h.1.2 ∙ append_assoc a.agreed (c ∷ []) (points acts)
-  agreed-along a b (Respond p k r ∷ acts) h = agreed-along h.0 b acts h.2 ∙ ap (λ (x : Atomic S I). x.agreed ++ points acts) h.1.1
 
   pub at_opening : (p : ℕ) (start : S) → Situation object p (at_start start)
   at_opening p start = IsIdle (record { is_open = refl; below = λ j d at own. absurd (let e : None ≡ Some d = at in cc) })
@@ -308,7 +304,7 @@ module _ {S I R : Type 0} (object : Sequential S I R) where
     responses = missing b.open_call start b.agreed
 
     all_points : b.agreed ≡ points acts
-    all_points = agreed-along (at_start start) b acts h
+    all_points = agreed-along object (at_start start) b acts h
 
     -- every point is that of a call in the order
     points_kept : (p : ℕ) (rs : List (Act I R)) (before : List (Invoked I)) (some : List (Act I R)) → b.agreed ≡ before ++ points some → AllByRecursion (PointIsKept object p keeps rs) some
@@ -352,7 +348,7 @@ module _ {S I R : Type 0} (object : Sequential S I R) where
         let here = observed_split acts split.0 (Respond p k r) split.1 split.2 in
         let run = AcceptsAll-split (at_start start) b here.0 (Respond p k r ∷ here.1) (subst (λ l. AcceptsAll object (at_start start) l b) here.2 h) in
         let ok = run.2.1 in
-        let grown : b.agreed ≡ run.0.agreed ++ points here.1 = agreed-along run.0 b (Respond p k r ∷ here.1) run.2 in
+        let grown : b.agreed ≡ run.0.agreed ++ points here.1 = agreed-along object run.0 b (Respond p k r ∷ here.1) run.2 in
         let c : Invoked I = record { process = p; nth = k; inv = ok.0.0 } in
         let found : slice_get b.agreed ok.0.1 ≡ Some c = ap (λ l. slice_get l ok.0.1) grown ∙ slice_get-append_left run.0.agreed (points here.1) ok.0.1 c ok.0.3 in
         let kept : keeps p k ≡ true = is_in-true b.agreed ok.0.1 c found in
@@ -371,8 +367,8 @@ module _ {S I R : Type 0} (object : Sequential S I R) where
         let more = AcceptsAll-split run.2.0 b later.0 (Invoke q m precedes.inv ∷ later.1) (subst (λ l. AcceptsAll object run.2.0 l b) later.2 run.2.2) in
         let mid : Atomic S I = more.0 in
         let next : mid.next_nth q ≡ m = more.2.1.1 in
-        let grown : mid.agreed ≡ run.0.agreed ++ points later.0 = agreed-along run.0 mid (Respond p k precedes.response ∷ later.0) (run.2.0, run.2.1, more.1) in
-        let all : b.agreed ≡ mid.agreed ++ points later.1 = agreed-along mid b (Invoke q m precedes.inv ∷ later.1) more.2 in
+        let grown : mid.agreed ≡ run.0.agreed ++ points later.0 = agreed-along object run.0 mid (Respond p k precedes.response ∷ later.0) (run.2.0, run.2.1, more.1) in
+        let all : b.agreed ≡ mid.agreed ++ points later.1 = agreed-along object mid b (Invoke q m precedes.inv ∷ later.1) more.2 in
         let e : Invoked I = record { process = p; nth = k; inv = ok.0.0 } in
         let found : slice_get mid.agreed ok.0.1 ≡ Some e = ap (λ l. slice_get l ok.0.1) grown ∙ slice_get-append_left run.0.agreed (points later.0) ok.0.1 e ok.0.3 in
         let same : x ≡ ok.0.1 = unique-along (at_start start) b acts h (λ r. at_opening r start) (none_twice start) x ok.0.1 c e at_c (ap (λ l. slice_get l ok.0.1) all ∙ slice_get-append_left mid.agreed (points later.1) ok.0.1 e found) refl refl in

@@ -62,6 +62,8 @@ pub mod Tight
 pub mod BoundMet
 pub mod Strong
 pub mod Members
+pub mod Each
+pub mod Points
 pub mod Completed
 pub mod Completion
 pub mod Placed

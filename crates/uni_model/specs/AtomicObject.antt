@@ -57,3 +57,9 @@ Accepts {S} {I} {R} object a (Respond p k r) b =
 abbrev pub AcceptsAll : {S I R : Type 0} → Sequential S I R → Atomic S I → List (Act I R) → Atomic S I → Type 0
 AcceptsAll object a [] b = b ≡ a
 AcceptsAll {S} {I} {R} object a (act ∷ acts) b = (c : Atomic S I) × Accepts object a act c × AcceptsAll object c acts b
+
+-- the calls that take effect among these acts, in their order
+abbrev pub points : {I R : Type 0} → List (Act I R) → List (Invoked I)
+points [] = []
+points (Linearize c ∷ acts) = c ∷ points acts
+points (act ∷ acts) = points acts

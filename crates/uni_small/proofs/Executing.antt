@@ -1,5 +1,5 @@
 -- Each step of an execution is one of the table's steps, and so keeps a board whose history is that of the execution.
-use Rattle.uni_small.proofs.Vocabulary.{Act, AreWidths, AreWords, Board, IsShown, IsSound, Image, IsSteady, Last, Linearize, List, Local, Me, Meaning, Moves, Option, Reading, Ready, Sequential, Sizes, Some, Stage, State, Tells, View, Writing, [], ap, append-nil, append_assoc, brought, brought_own, Seen, Idle, Invoke, IsLeft, slice_set, takes_effect_own, buffer_in, calls_seen, current_word, eqb, false, get_elem?, if◌then◌else◌, length, map, nothing, refl, set_at, set_at-cases, slice_index, slice_set, some, some-injective, some-ne-none, step, subst, suc, sym, takes_effect, true, version_in, with_local, zero, ℕ, either, ◌*◌, ◌++◌, ◌+◌, ◌<◌, ◌==◌, ◌∙◌, ◌∷◌, ◌≡◌, ◌≤◌, written_to}
+use Rattle.uni_small.proofs.Vocabulary.{Act, AreWidths, AreWords, Board, IsShown, IsSound, Image, IsSteady, Last, Linearize, List, Local, Me, Meaning, Moves, Option, Reading, Ready, Sequential, Sizes, Some, Stage, State, Tells, View, Writing, [], ap, append-nil, append_assoc, brought, brought_own, Seen, Idle, Invoke, IsLeft, slice_set, takes_effect_own, buffer_in, calls_seen, current_word, eqb, false, get_elem?, if◌then◌else◌, length, map, nothing, refl, set_at, set_at-cases, slice_index, slice_set, some, step, subst, sym, takes_effect, true, version_in, with_local, ℕ, either, ◌*◌, ◌++◌, ◌+◌, ◌<◌, ◌==◌, ◌∙◌, ◌∷◌, ◌≡◌, ◌≤◌, written_to}
 use Rattle.uni_small.proofs.Vocabulary.{HasAnnounced, HasAsked, HasBegun, HasBrought, HasChecked, HasCheckedOwn, HasCopied, HasFollowed, HasLoaded, HasLooked, HasReplied, HasStarted, HasStored, HasTurned, HasWritten, arith, buffer_word, begins, ends, number_cases, IsAttemptAt, none, read_image, spell, with_seen, ⊎_elim}
 use Rattle.uni_small.proofs.Vocabulary.{Bool, HasRecounted, HasReread, HasRestarted, false, has_begun}
 use Rattle.uni_small.specs.Execution.{Access, Execution, Moment, Next, access_of, acts_at, after_access, last_moment, history}
@@ -11,21 +11,7 @@ use Rattle.uni_small.proofs.Exchange.{brings_in, brings_in_left}
 use Rattle.uni_small.proofs.Reply.{loads, replies}
 use Rattle.uni_small.proofs.Rejoining.{recounts, rereads, restarts}
 use Rattle.uni_small.proofs.Loads.{begins_own, checks_own, starts, copies, looks, asks, checks, turns, follows_on}
-
--- the values of a function below a number
-abbrev each_of : {A : Type 0} → (ℕ → A) → ℕ → List A
-each_of f zero = []
-each_of f (suc n) = f zero ∷ each_of (λ k. f (suc k)) n
-
-at_each : {A : Type 0} (f : ℕ → A) (n k : ℕ) → k < n → get_elem? (each_of f n) k ≡ some (f k)
-at_each f zero k below = absurd (omega arith)
-at_each f (suc n) zero below = refl
-at_each f (suc n) (suc k) below = at_each (λ j. f (suc j)) n k (omega arith)
-
-from_each : {A : Type 0} (f : ℕ → A) (n k : ℕ) (a : A) → get_elem? (each_of f n) k ≡ some a → (k < n) × (f k ≡ a)
-from_each f zero k a e = absurd (some-ne-none a (sym e))
-from_each f (suc n) zero a e = (omega arith, some-injective (f zero) a e)
-from_each f (suc n) (suc k) a e = let h = from_each (λ j. f (suc j)) n k a e in (let b = h.0 in omega arith, h.1)
+use Rattle.uni_model.proofs.Each.{at_each, each_of, from_each}
 
 -- the buffer that an attempt copies is one of the buffers
 abbrev pub IsCopyingOne : Sizes → Stage → Type 0

@@ -1,29 +1,14 @@
 -- Every execution from the opening is linearizable, in one order that only grows.
-use Rattle.uni_small.proofs.Vocabulary.{AcceptsAll, Act, Atomic, IsSteady, Invoke, Linearize, List, Meaning, Respond, Sequential, Sizes, [], ap, append-nil, append_assoc, at_start, opened, refl, subst, sym, ℕ, ◌++◌, ◌∙◌, ◌∷◌, ◌≡◌}
+use Rattle.uni_small.proofs.Vocabulary.{AcceptsAll, Atomic, IsSteady, List, Meaning, Sequential, Sizes, [], ap, at_start, opened, refl, subst, ℕ, ◌∙◌, ◌≡◌}
 use Rattle.uni_model.proofs.Placed.{AgreesInOrder-holds}
+use Rattle.uni_model.proofs.Points.{agreed-along, points-append}
+use Rattle.uni_model.specs.AtomicObject.{points}
 use Rattle.uni_model.specs.Linearizable.{observed}
-use Rattle.uni_small.specs.Execution.{Execution, Moment, last_moment, history, opened_moment, points}
+use Rattle.uni_small.specs.Execution.{Execution, Moment, last_moment, history, opened_moment}
 use Rattle.uni_small.specs.Linearized.{AreSizesOf, IsLinearized, KeepsOrder}
 use Rattle.uni_small.proofs.Running.{history-goes_on}
 use Rattle.uni_small.proofs.Executing.{Holds, history_holds}
 use Rattle.uni_small.proofs.Opening as Opening
-
-points-append : {I R : Type 0} (xs ys : List (Act I R)) → points (xs ++ ys) ≡ points xs ++ points ys
-points-append [] ys = refl
-points-append (Linearize c ∷ xs) ys = ap (λ l. c ∷ l) (points-append xs ys)
-points-append (Invoke p k i ∷ xs) ys = points-append xs ys
-points-append (Respond p k r ∷ xs) ys = points-append xs ys
-
--- the atomic object agrees on the calls that take effect, in their order
-agreed_points : {S I R : Type 0} (object : Sequential S I R) (a : Atomic S I) (acts : List (Act I R)) (b : Atomic S I) → AcceptsAll object a acts b
-    → b.agreed ≡ a.agreed ++ points acts
-agreed_points {S} {I} {R} object a [] b e = ap (λ (x : Atomic S I). x.agreed) e ∙ sym (append-nil a.agreed)
-agreed_points {S} {I} {R} object a (Invoke p k i ∷ acts) b h =
-    agreed_points object h.0 acts b h.2 ∙ ap (λ (x : Atomic S I). x.agreed ++ points acts) h.1.2
-agreed_points {S} {I} {R} object a (Linearize c ∷ acts) b h =
-    agreed_points object h.0 acts b h.2 ∙ ap (λ (x : Atomic S I). x.agreed ++ points acts) h.1.2 ∙ append_assoc a.agreed (c ∷ []) (points acts)
-agreed_points {S} {I} {R} object a (Respond p k r ∷ acts) b h =
-    agreed_points object h.0 acts b h.2 ∙ ap (λ (x : Atomic S I). x.agreed ++ points acts) h.1.1
 
 pub keeps_order : (object : Sequential (List ℕ) (List ℕ) (List ℕ)) (sizes : Sizes) {m : Moment} (e : Execution object sizes m) (more : Execution object sizes (last_moment object sizes e))
     → KeepsOrder object sizes e more
@@ -34,7 +19,7 @@ pub linearized_by : (object : Sequential (List ℕ) (List ℕ) (List ℕ)) (size
     → AcceptsAll object (at_start object.initial) (history object sizes e) atomic → IsLinearized object sizes e
 linearized_by object sizes e atomic accepted =
     let acts = history object sizes e in
-    let agreed : atomic.agreed ≡ points acts = agreed_points object (at_start object.initial) acts atomic accepted in
+    let agreed : atomic.agreed ≡ points acts = agreed-along object (at_start object.initial) atomic acts accepted in
     let both = (AgreesInOrder-holds object object.initial (observed acts) (points acts)).0 (acts, atomic, refl, accepted, agreed) in
     record { atomic = atomic; accepted = accepted; agreed = agreed; well_formed = both.0; completed = both.1 }
 

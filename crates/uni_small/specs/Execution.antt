@@ -2,7 +2,7 @@
 use Rattle.std.specs.Prelude.{◌≡◌, ℕ, ◌+◌, ◌*◌, ◌<◌, ◌≤◌, ◌==◌, List, [], ◌∷◌, ◌++◌, Option, Some, if◌then◌else◌}
 use Rattle.std.specs.Prelude.{false, true, length, map, replicate, slice_index, slice_set}
 use Rattle.seq_object.specs.Sequential.{Sequential}
-use Rattle.uni_model.specs.AtomicObject.{Act, Invoked, set_at}
+use Rattle.uni_model.specs.AtomicObject.{Act, set_at}
 use Rattle.uni_model.specs.AtomicObject.Act.{Invoke, Linearize, Respond}
 use Rattle.uni_small.specs.Image.{AreWhole, Image, buffer_words, calls_seen, first_held, first_image, held_place, joined, reply_place, spell, with_seen}
 use Rattle.uni_small.specs.View.{Local, announces, at_rest, begins_directly, goes, knows, returns, wrote}
@@ -173,9 +173,3 @@ module _ (object : Sequential (List ℕ) (List ℕ) (List ℕ)) (sizes : Sizes) 
     words = replicate (words_before sizes) 0 ++ joined (replicate (2 * sizes.processes) (spell (first_image object sizes)));
     local = λ p. at_rest (first_held object sizes);
   }
-
--- the calls that take effect in a history, in their order
-abbrev pub points : {I R : Type 0} → List (Act I R) → List (Invoked I)
-points [] = []
-points (Linearize c ∷ acts) = c ∷ points acts
-points (act ∷ acts) = points acts

@@ -1,12 +1,12 @@
 -- What is said of every execution.
 use Rattle.std.specs.Prelude.{◌≡◌, ℕ, List, ◌++◌, length}
 use Rattle.seq_object.specs.Sequential.{Sequential}
-use Rattle.uni_model.specs.AtomicObject.{Atomic, AcceptsAll, at_start}
+use Rattle.uni_model.specs.AtomicObject.{Atomic, AcceptsAll, at_start, points}
 use Rattle.uni_model.specs.HerlihyWing.{IsWellFormed, IsLinearizedByCompletion}
 use Rattle.uni_model.specs.Linearizable.{observed}
 use Rattle.uni_small.specs.Image.{AreWidths, Meaning}
 use Rattle.uni_small.specs.Board.{AreFew}
-use Rattle.uni_small.specs.Execution.{Execution, Moment, last_moment, goes_on, history, opened_moment, points}
+use Rattle.uni_small.specs.Execution.{Execution, Moment, last_moment, goes_on, history, opened_moment}
 use Rattle.uni_small.specs.declared.sizes.Sizes.{Sizes}
 
 -- these are sizes of the object

@@ -185,8 +185,8 @@ pub fn every_call_is_wait_free<O: SmallObject>()
 {}
 
 /// Whether a process that stopped has loaded the last word of a reply leaves no trace: what goes on after that load
-/// goes on without it as well, with the same words. So a call whose reply was not kept may be taken as pending. That who
-/// takes it over is told the same reply is argued by hand, and is in no clause.
+/// goes on without it as well, with the same words. So a call whose reply was not kept may be taken as pending. That
+/// who takes it over is told the same reply is argued by hand, and is in no clause.
 pub fn last_load_leaves_no_trace<O: SmallObject>()
     ensures { (o : O) (sizes : Sizes)
         → (e : Execution (O.meaning o).object sizes (opened_moment (O.meaning o).object sizes))
