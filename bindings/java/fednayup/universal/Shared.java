@@ -33,10 +33,12 @@ public final class Shared<S extends Small.Seat> implements AutoCloseable {
     private static final MethodHandle ATTACH = told("universal_shared_attach_named", ADDRESS, ADDRESS, JAVA_LONG, ADDRESS);
     private static final MethodHandle UNLINK = told("universal_shared_unlink", ADDRESS);
     private static final MethodHandle CLAIM = told("universal_shared_claim", ADDRESS, JAVA_LONG, ADDRESS, ADDRESS);
-    private static final MethodHandle APPLY = function("universal_shared_apply",
+    private static final MethodHandle APPLY = Universal.function(LIBRARY, "universal_shared_apply",
             FunctionDescriptor.of(JAVA_INT, ADDRESS, ADDRESS, JAVA_LONG, ADDRESS, JAVA_LONG, ADDRESS));
-    private static final MethodHandle DETACH = function("universal_shared_detach", FunctionDescriptor.ofVoid(ADDRESS));
-    private static final MethodHandle RELEASE = function("universal_shared_release", FunctionDescriptor.ofVoid(ADDRESS));
+    private static final MethodHandle DETACH = Universal.function(LIBRARY, "universal_shared_detach",
+            FunctionDescriptor.ofVoid(ADDRESS));
+    private static final MethodHandle RELEASE = Universal.function(LIBRARY, "universal_shared_release",
+            FunctionDescriptor.ofVoid(ADDRESS));
     private static final int SYSTEM = 24;
 
     private final Handle handle;
@@ -244,13 +246,9 @@ public final class Shared<S extends Small.Seat> implements AutoCloseable {
         handle.close();
     }
 
-    private static MethodHandle function(String name, FunctionDescriptor of, Linker.Option... options) {
-        return Linker.nativeLinker().downcallHandle(LIBRARY.find(name).orElseThrow(), of, options);
-    }
-
     /** A function that may tell by errno why the system refused. */
     private static MethodHandle told(String name, MemoryLayout... takes) {
-        return function(name, FunctionDescriptor.of(JAVA_INT, takes), Linker.Option.captureCallState("errno"));
+        return Universal.function(LIBRARY, name, FunctionDescriptor.of(JAVA_INT, takes), Linker.Option.captureCallState("errno"));
     }
 
     private static void done(String name, Universal.With call) throws Refused, IOException {

@@ -50,11 +50,12 @@ final class Universal {
     static final MethodHandle CLOSE = status("universal_close", ADDRESS);
     static final MethodHandle READ = status("universal_read", ADDRESS, ADDRESS, JAVA_LONG, ADDRESS);
     static final MethodHandle COMPARE = status("universal_compare", ADDRESS, JAVA_LONG, ADDRESS, JAVA_LONG, ADDRESS);
-    static final MethodHandle DROP = Linker.nativeLinker().downcallHandle(LIBRARY.find("universal_drop").orElseThrow(), FunctionDescriptor.ofVoid(ADDRESS));
+    static final MethodHandle DROP = function(LIBRARY, "universal_drop", FunctionDescriptor.ofVoid(ADDRESS));
 
     private Universal() {}
 
     /** The library whose path the property tells, else the one that lies in the jar. */
+    @SuppressWarnings("restricted")
     static SymbolLookup library(String name, String property) {
         String path = System.getProperty(property);
         if (path != null) {
@@ -76,8 +77,14 @@ final class Universal {
         }
     }
 
+    /** A function of a library. Nothing but the header tells what it takes. */
+    @SuppressWarnings("restricted")
+    static MethodHandle function(SymbolLookup library, String name, FunctionDescriptor of, Linker.Option... options) {
+        return Linker.nativeLinker().downcallHandle(library.find(name).orElseThrow(), of, options);
+    }
+
     private static MethodHandle status(String name, MemoryLayout... takes) {
-        return Linker.nativeLinker().downcallHandle(LIBRARY.find(name).orElseThrow(), FunctionDescriptor.of(JAVA_INT, takes));
+        return function(LIBRARY, name, FunctionDescriptor.of(JAVA_INT, takes));
     }
 
     /** A function of the library, which answers a status. */
