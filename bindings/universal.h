@@ -46,12 +46,12 @@ typedef struct universal_handle {
     void *at; /* null where it has nothing; else of no use to a caller */
 } universal_handle;
 
-/* What a handle is at the start: a value, which a handle can be set to as long as it has nothing. A handle of static storage
- * begins so by itself. */
+/* What a handle is initialized with, also one of static storage. As a value, which a handle can be set to as long as it has
+ * nothing, it is (universal_handle)UNIVERSAL_NONE. */
 #ifdef __cplusplus
 #define UNIVERSAL_NONE (universal_handle{nullptr})
 #else
-#define UNIVERSAL_NONE ((universal_handle){0})
+#define UNIVERSAL_NONE {0}
 #endif
 
 /* What a call answers. */

@@ -97,7 +97,8 @@ static void plain_limiter(uint64_t *state, const uint64_t *call, uint64_t *reply
     if (call[0] >= CLIENTS) return;
     uint64_t *tokens = &state[1 + 2 * call[0]], *last = &state[2 + 2 * call[0]];
     if (call[1] >= *last) {
-        unsigned __int128 more = (unsigned __int128)(call[1] - *last) * RATE + *tokens;
+        __extension__ typedef unsigned __int128 wide;
+        wide more = (wide)(call[1] - *last) * RATE + *tokens;
         *tokens = more > TOKENS ? TOKENS : (uint64_t)more;
         *last = call[1];
     }

@@ -265,7 +265,8 @@ static void refuses(universal_handle *handle) {
 }
 
 static void misuse(void) {
-    universal_handle none = UNIVERSAL_NONE, log = UNIVERSAL_NONE, seat = UNIVERSAL_NONE, object = UNIVERSAL_NONE;
+    static universal_handle none = UNIVERSAL_NONE; /* by -Wpedantic, too */
+    universal_handle log = UNIVERSAL_NONE, seat = UNIVERSAL_NONE, object = UNIVERSAL_NONE;
     refuses(&none);
 
     /* a log, its seat, and its entries */

@@ -96,6 +96,27 @@ public final class SmallCalls extends Checks {
         throwsA(IllegalStateException.class, () -> first.add(1));
     }
 
+    /** An object and a seat that nothing names any more are let go, so that the seat that is left closes. */
+    private static void forgotten() throws Exception {
+        Small.Counter left = left(Small.Counter.open(2));
+        for (int i = 0; i < 1000; i++) {
+            System.gc();
+            try {
+                state(left.finish(), 5);
+                return;
+            } catch (Refused refused) {
+                is(refused.fault, Fault.BUSY);
+                Thread.sleep(10);
+            }
+        }
+        throw new AssertionError("what was forgotten is kept");
+    }
+
+    private static Small.Counter left(Small<Small.Counter> object) throws Refused {
+        object.seat().add(5);
+        return object.seat();
+    }
+
     /** Each seat's work in a thread of its own; then the last state. */
     private static <S extends Small.Seat> long[] shared(Small<S> object, Small.Work<S> work) throws Exception {
         List<S> seats;
@@ -180,6 +201,7 @@ public final class SmallCalls extends Checks {
         machine();
         refusals();
         seats();
+        forgotten();
         thrown();
         for (int i = 1; i < arguments.length; i++) {
             threads(Integer.parseInt(arguments[i]), Integer.parseInt(arguments[0]));
