@@ -6,7 +6,7 @@ use Rattle.small_objects.specs.Map.{before, bounded_map, call_in, flat, insert_a
 use Rattle.small_objects.specs.declared.map.MapCall.{MapCall}
 use Rattle.small_objects.specs.declared.map.MapCall.TheVariants.{Get, Insert, Remove}
 use Rattle.small_objects.proofs.Reached.{reached_is}
-use Rattle.small_objects.proofs.Rows.{IsTakenOut, index-padded, pushed, reached_few, taken_out}
+use Rattle.small_objects.proofs.Rows.{IsTakenOut, index-padded, index_beyond, pushed, reached_few, taken_out}
 
 -- the place of a pair's key among the words
 abbrev pub double : ℕ → ℕ
@@ -135,6 +135,18 @@ module _ (capacity : ℕ) where
   map_few pairs (Insert key value) few = insert_few pairs key value few
   map_few pairs (Remove key) few = (let h = fewer key pairs in omega arith)
 
+  -- a call adds a pair at most
+  one_more : (pairs : List (ℕ × ℕ)) (call : MapCall) → length (map_next capacity pairs call) ≤ suc (length pairs)
+  one_more pairs (Get key) = omega arith
+  one_more pairs (Insert key value) = by_value (value_of pairs key) refl where
+    by_value : (before : Option ℕ) → value_of pairs key ≡ before → length (map_next capacity pairs (Insert key value)) ≤ suc (length pairs)
+    by_value (Some v) is = rw is (let same = length-set_value (nat_eq key) pairs value in omega arith)
+    by_value None is = rw is (elim (lt_cases (length pairs) capacity) [
+      | inl less ↦ rw less.1 (let a = length-append pairs ((key, value) ∷ []) in omega arith)
+      | inr more ↦ rw more.1 (omega arith)
+    ])
+  one_more pairs (Remove key) = (let h = fewer key pairs in omega arith)
+
   reached_map : (pairs : List (ℕ × ℕ)) → IsStateOf (bounded_map capacity) call_in pairs → length pairs ≤ capacity
   reached_map pairs was = reached_few (bounded_map capacity) call_in capacity map_few refl pairs was
 
@@ -212,6 +224,21 @@ module _ (capacity : ℕ) where
 
     pub told_absent : (key : ℕ) → IsAbsent pairs key → Absent ≡ before (value_of (pairs_in words) key)
     told_absent key absent = sym (ap before (none_here key absent))
+
+    -- the words behind a pair more than there are stay
+    pub map_alike : (call : MapCall) (i : ℕ) → 2 * slice_index words 0 + 3 ≤ i → i < length words → slice_index ((map capacity).next words call) i ≡ slice_index words i
+    map_alike call zero far below = absurd (omega arith)
+    map_alike call (suc k) far below =
+        let w = wide in
+        let c = count_is in
+        let more = one_more pairs call in
+        let l = length-flat (map_next capacity pairs call) in
+        let d = double_is (length (map_next capacity pairs call)) in
+        let m = length-flat pairs in
+        let e = double_is (length pairs) in
+        ap (λ ps. slice_index (map_words capacity (map_next capacity ps call)) (suc k)) h.read
+        ∙ index-padded (2 * capacity) (flat (map_next capacity pairs call)) k (omega arith) ∙ index_beyond (flat (map_next capacity pairs call)) k (omega arith)
+        ∙ sym (ap (λ ws. slice_index ws (suc k)) h.words_are ∙ index-padded (2 * capacity) (flat pairs) k (omega arith) ∙ index_beyond (flat pairs) k (omega arith))
 
     pub asked : (key : ℕ) → words ≡ map_words capacity (map_next capacity (pairs_in words) (Get key))
     asked key = h.words_are ∙ ap (map_words capacity) (sym h.read)

@@ -1,5 +1,7 @@
 -- Values in a row of words: what the steps on the words do to the values.
-use Rattle.small_objects.proofs.Vocabulary.{Fits, IsStateOf, List, Sequential, [], ap, arith, bounded_queue, bounded_stack, drop, encoded, first_word, get_or-remove_above, get_or-remove_below, if◌then◌else◌, inl, inr, length, length-append, length-padded, length-remove, length-set, lt_cases, map, nat_lt, number_cases, padded, queue, queue_next, refl, remove, replicate, row_of, same_list, slice_index, slice_set, stack, stack_next, state_after, subst, suc, sym, take, values_in, zero, ℕ, ◌++◌, ◌+◌, ◌-◌, ◌<◌, ◌∙◌, ◌∷◌, ◌≡◌, ◌≢◌, ◌≤◌}
+use Rattle.small_objects.proofs.Vocabulary.{Fits, IsStateOf, List, Sequential, [], ap, arith, bounded_queue, bounded_stack, drop, encoded, first_word, get_or-remove_above, get_or-remove_below, if◌then◌else◌, inl, inr, length, length-append, length-padded, length-remove, length-set, lt_cases, map, nat_lt, number_cases, padded, queue, queue_next, refl, remove, replicate, row_of, same_list, slice_index, slice_set, stack, stack_next, state_after, subst, suc, sym, take, values_in, zero, ℕ, ◌++◌, ◌+◌, ◌-◌, ◌<◌, ◌∙◌, ◌∷◌, ◌≡◌, ◌≢◌, ◌≤◌, ◌⊎◌}
+use Rattle.std.specs.Prelude.{false, true}
+use Rattle.std.proofs.lemmas.List.{get_or-take, get_or_append_left}
 use Rattle.small_objects.proofs.Reached.{reached_is}
 
 -- a row of zeros has no values
@@ -62,6 +64,28 @@ zero_row room state long each = same_list state (row_of room []) (long ∙ ap su
 pub zeros_are : (state : List ℕ) → ((j : ℕ) → j < length state → slice_index state j ≡ 0) → state ≡ replicate (length state) 0
 zeros_are [] each = refl
 zeros_are (x ∷ state) each = (let first : x ≡ 0 = each 0 (omega arith) in let rest : state ≡ replicate (length state) 0 = zeros_are state (λ j below. each (suc j) (omega arith)) in cc)
+
+-- a word of a row is the same where its value is, or where neither row has one there
+pub row_same : (room : ℕ) (values more : List ℕ) (i : ℕ) → 1 ≤ i → i < suc room → ((k : ℕ) → i ≡ suc k → slice_index more k ≡ slice_index values k)
+    → slice_index (row_of room more) i ≡ slice_index (row_of room values) i
+row_same room values more zero one below same = absurd (omega arith)
+row_same room values more (suc k) one below same =
+    index-padded room more k (omega arith) ∙ same k refl ∙ sym (index-padded room values k (omega arith))
+
+-- one more value changes the value behind the others alone, the first or the last one out those from its place on
+pub more_same : (b : _) (values : List ℕ) (v k : ℕ) → k ≢ length values → slice_index (if b then values ++ v ∷ [] else values) k ≡ slice_index values k
+more_same false values v k other = refl
+more_same true values v k other = elim (lt_cases k (length values)) [
+  | inl less ↦ get_or_append_left values (v ∷ []) 0 k less.0
+  | inr more ↦ index_beyond (values ++ v ∷ []) k (let l = length-append values (v ∷ []) in let m = more.0 in omega (arith, other, l, m)) ∙ sym (index_beyond values k more.0)
+]
+
+pub first_out_same : (values : List ℕ) (k : ℕ) → length values ≤ k → slice_index (drop 1 values) k ≡ slice_index values k
+first_out_same values k beyond = index_beyond (drop 1 values) k (let l = length-drop_less values in omega arith) ∙ sym (index_beyond values k beyond)
+
+pub last_out_same : (values : List ℕ) (k : ℕ) → (k < length values - 1) ⊎ (length values ≤ k) → slice_index (take (length values - 1) values) k ≡ slice_index values k
+last_out_same values k (inl before) = get_or-take (length values - 1) values k 0 before
+last_out_same values k (inr beyond) = index_beyond (take (length values - 1) values) k (let l = length-take_less (length values - 1) values in omega arith) ∙ sym (index_beyond values k beyond)
 
 -- states that are lists of no more elements than so many
 module _ {A I R : Type 0} (object : Sequential (List A) I R) (call_in : List ℕ → I) (most : ℕ)
@@ -167,6 +191,40 @@ module _ (capacity : ℕ) where
 
     pub word_is : (k : ℕ) → k < capacity → slice_index words (suc k) ≡ slice_index values k
     word_is k below = ap (λ w. slice_index w (suc k)) h.words_are ∙ index-padded capacity values k below
+
+    -- the words that an invocation of a queue doesn't touch
+    pub queue_alike : (inv i : ℕ) → 1 ≤ i → i < length words → ((inv ≡ 0) × (1 + length values ≤ i)) ⊎ ((inv ≢ 0) × (i ≢ 1 + length values))
+        → slice_index ((queue capacity).next words inv) i ≡ slice_index words i
+    queue_alike zero i one below (inl far) =
+        let w = wide in
+        ap (λ vs. slice_index (row_of capacity (drop 1 vs)) i) h.read
+        ∙ row_same capacity values (drop 1 values) i one (omega arith) (λ k e. first_out_same values k (let f = far.1 in omega arith)) ∙ ap (λ ws. slice_index ws i) (sym h.words_are)
+    queue_alike zero i one below (inr other) = absurd (other.0 refl)
+    queue_alike (suc v) i one below (inl far) = absurd (let f = far.0 in omega arith)
+    queue_alike (suc v) i one below (inr other) =
+        let w = wide in
+        ap (λ vs. slice_index (row_of capacity (if nat_lt (length vs) capacity then vs ++ suc v ∷ [] else vs)) i) h.read
+        ∙ row_same capacity values (if nat_lt (length values) capacity then values ++ suc v ∷ [] else values) i one (omega arith)
+        (λ k e. more_same (nat_lt (length values) capacity) values (suc v) k (let o = other.1 in omega (arith, o))) ∙ ap (λ ws. slice_index ws i) (sym h.words_are)
+
+    -- and those that one of a stack doesn't
+    pub stack_alike : (inv i : ℕ) → 1 ≤ i → i < length words
+        → ((inv ≡ 0) × ((i < length values) ⊎ (1 + length values ≤ i))) ⊎ ((inv ≢ 0) × (i ≢ 1 + length values))
+        → slice_index ((stack capacity).next words inv) i ≡ slice_index words i
+    stack_alike zero i one below (inl far) =
+        let w = wide in
+        ap (λ vs. slice_index (row_of capacity (take (length vs - 1) vs)) i) h.read
+        ∙ row_same capacity values (take (length values - 1) values) i one (omega arith) (λ k e. last_out_same values k (elim far.1 [
+          | inl before ↦ inl (omega (arith, before))
+          | inr beyond ↦ inr (omega (arith, beyond))
+        ])) ∙ ap (λ ws. slice_index ws i) (sym h.words_are)
+    stack_alike zero i one below (inr other) = absurd (other.0 refl)
+    stack_alike (suc v) i one below (inl far) = absurd (let f = far.0 in omega arith)
+    stack_alike (suc v) i one below (inr other) =
+        let w = wide in
+        ap (λ vs. slice_index (row_of capacity (if nat_lt (length vs) capacity then vs ++ suc v ∷ [] else vs)) i) h.read
+        ∙ row_same capacity values (if nat_lt (length values) capacity then values ++ suc v ∷ [] else values) i one (omega arith)
+        (λ k e. more_same (nat_lt (length values) capacity) values (suc v) k (let o = other.1 in omega (arith, o))) ∙ ap (λ ws. slice_index ws i) (sym h.words_are)
 
     -- a value goes in behind the others
     pub put_row : (v : ℕ) → slice_index words 0 < capacity

@@ -6,7 +6,7 @@ ghost use Rattle.small_objects.specs.Encoding.{in_words, one_word};
 
 use crate::row::clear;
 use crate::words::Words;
-use uni_small::SmallObject;
+use uni_small::{SmallObject, Touched};
 
 /// A call of an array of counters.
 #[derive(Clone, Copy, Debug, PartialEq, Eq, Drop)]
@@ -84,6 +84,15 @@ impl SmallObject for SmallCounters {
         let before = state[i];
         state[i] = before.wrapping_add(operand);
         reply[0] = before;
+    }
+
+    fn touches(&self, _state: &[u64], invocation: &[u64]) -> Touched {
+        let counter = invocation[0];
+        Touched {
+            head: 0,
+            from: counter,
+            to: counter.saturating_add(1),
+        }
     }
 
     ghost steady = { λ o state inv long. (length-set state _ _ ∙ long, refl) };

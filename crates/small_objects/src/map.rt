@@ -6,7 +6,7 @@ ghost use Rattle.small_objects.specs.Map.{reply_fits, reply_in, reply_long, repl
 
 use crate::row::{clear, take_out};
 use crate::words::Words;
-use uni_small::SmallObject;
+use uni_small::{SmallObject, Touched};
 
 /// A call of a map.
 #[derive(Clone, Copy, Debug, PartialEq, Eq, Drop)]
@@ -207,6 +207,18 @@ impl SmallObject for SmallMap {
             MapCall::Remove(key) => self.remove(state, key),
         };
         told.store(reply);
+    }
+
+    fn touches(&self, state: &[u64], invocation: &[u64]) -> Touched {
+        let head = match MapCall::load(invocation) {
+            MapCall::Get(_) => 0,
+            _ => 2 * state[0] + 3,
+        };
+        Touched {
+            head,
+            from: 0,
+            to: 0,
+        }
     }
 
     ghost steady = { λ o. map_steady o.capacity };

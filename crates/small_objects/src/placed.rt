@@ -2,7 +2,7 @@
 ghost use Rattle.std.specs.Prelude.{◌≡◌, ◌<◌, ◌^◌, length};
 ghost use Rattle.small_objects.specs.Placed.{placed, placed_steady};
 
-use uni_small::SmallObject;
+use uni_small::{SmallObject, Touched};
 
 /// A reply, with the place of its call in the order of all calls, from 0.
 #[derive(Debug, Clone, Copy, PartialEq, Eq, Drop)]
@@ -57,6 +57,15 @@ impl<O: SmallObject> SmallObject for Placed<O> {
         reply[0] = place;
         self.object
             .apply(&mut state[1..], invocation, &mut reply[1..]);
+    }
+
+    fn touches(&self, state: &[u64], invocation: &[u64]) -> Touched {
+        let Touched { head, from, to } = self.object.touches(&state[1..], invocation);
+        Touched {
+            head: head.saturating_add(1),
+            from: from.saturating_add(1),
+            to: to.saturating_add(1),
+        }
     }
 
     ghost steady = { λ o. placed_steady (O.meaning o.object) (O.steady o.object) };

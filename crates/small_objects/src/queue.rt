@@ -4,7 +4,7 @@ ghost use Rattle.small_objects.specs.Queue.{queue, queue_steady};
 ghost use Rattle.small_objects.specs.Encoding.{IsStateOf, first_word, of_one_word};
 
 use crate::row::{clear, take_out};
-use uni_small::SmallObject;
+use uni_small::{SmallObject, Touched};
 
 /// A queue of numbers that aren't 0, at most so many. An invocation that isn't 0 puts its number in, and is
 /// answered 1, or 0 where the queue is full; 0 takes the oldest number out, and is answered it, or 0 where
@@ -63,6 +63,16 @@ impl SmallObject for SmallQueue {
 
     fn apply(&self, state: &mut [u64], invocation: &[u64], reply: &mut [u64]) {
         reply[0] = self.step(state, invocation[0]);
+    }
+
+    fn touches(&self, state: &[u64], invocation: &[u64]) -> Touched {
+        let end = state[0] + 1;
+        let (from, to) = if invocation[0] == 0 {
+            (1, end)
+        } else {
+            (end, end + 1)
+        };
+        Touched { head: 1, from, to }
     }
 
     ghost steady = { λ o state inv long. (queue_steady o.capacity state (first_word inv) long, refl) };

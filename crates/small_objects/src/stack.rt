@@ -4,7 +4,7 @@ ghost use Rattle.small_objects.specs.Stack.{stack, stack_steady};
 ghost use Rattle.small_objects.specs.Encoding.{IsStateOf, first_word, of_one_word};
 
 use crate::row::clear;
-use uni_small::SmallObject;
+use uni_small::{SmallObject, Touched};
 
 /// A stack of numbers that aren't 0, at most so many. An invocation that isn't 0 puts its number on, and is
 /// answered 1, or 0 where the stack is full; 0 takes the newest number off, and is answered it, or 0 where
@@ -64,6 +64,16 @@ impl SmallObject for SmallStack {
 
     fn apply(&self, state: &mut [u64], invocation: &[u64], reply: &mut [u64]) {
         reply[0] = self.step(state, invocation[0]);
+    }
+
+    fn touches(&self, state: &[u64], invocation: &[u64]) -> Touched {
+        let end = state[0] + 1;
+        let from = if invocation[0] == 0 { end - 1 } else { end };
+        Touched {
+            head: 1,
+            from,
+            to: from + 1,
+        }
     }
 
     ghost steady = { λ o state inv long. (stack_steady o.capacity state (first_word inv) long, refl) };

@@ -3,6 +3,7 @@ pub mod Frame
 pub mod Lists
 pub mod Rows
 pub mod Rooms
+pub mod Kept
 pub mod Acts
 pub mod Images
 pub mod Loads

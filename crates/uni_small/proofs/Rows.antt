@@ -1,5 +1,5 @@
 -- Rows of words, and the first words of a list.
-use Rattle.uni_small.proofs.Vocabulary.{IsBeginning, List, [], ap, append_assoc, arith, drop, drop-append-le, drop-drop, drop-take, drop_at, get_or-append-add, get_or-set_other, get_or-set_same, get_or_append_left, joined, length, length-append, length-drop, length-set, mul-le-mul_right, nil_from_length, put_mid, refl, rows, set-get_or, slice_index, slice_index_or, slice_set, suc, suc-mul, sym, take, take-append-drop, take_all, take_at, take_more, take_more_set, with_row, zero, ℕ, ◌*◌, ◌++◌, ◌+◌, ◌<◌, ◌∙◌, ◌∷◌, ◌≡◌, ◌≤◌}
+use Rattle.uni_small.proofs.Vocabulary.{IsBeginning, List, [], ap, append_assoc, arith, drop, drop-append-le, drop-drop, drop-take, drop_at, get_or-append-add, get_or-set_other, get_or-set_same, get_or_append_left, joined, length, length-append, length-drop, length-set, lt_cases, mul-le-mul_right, nil_from_length, inl, inr, put_mid, refl, rows, set-get_or, slice_index, slice_index_or, slice_set, suc, suc-mul, sym, take, take-append-drop, take_all, take_at, take_more, take_more_set, with_row, zero, ℕ, ◌*◌, ◌++◌, ◌+◌, ◌<◌, ◌∙◌, ◌∷◌, ◌≡◌, ◌≤◌}
 use Rattle.std.proofs.lemmas.List.{length-take-le}
 use Rattle.std.proofs.lemmas.Slice.{take-put_mid_below}
 
@@ -148,3 +148,30 @@ pub with_row-same : (words : List ℕ) (from : ℕ) (row : List ℕ) (i : ℕ) �
     → with_row words from (take i row) ≡ with_row words from (take (i + 1) row)
 with_row-same words from row i below same =
     sym (set-get_or (with_row words from (take i row)) (from + i) 0) ∙ ap (slice_set (with_row words from (take i row)) (from + i)) same ∙ with_row-more words from row i below
+
+-- the words after it stay
+pub with_row-after : (words : List ℕ) (from : ℕ) (row : List ℕ) (j : ℕ) → from + length row ≤ j → slice_index (with_row words from row) j ≡ slice_index words j
+with_row-after words from [] j after = refl
+with_row-after words from (x ∷ row) j after =
+    with_row-after (slice_set words from x) (from + 1) row j (omega arith) ∙ get_or-set_other words from j x 0 (λ (e : j ≡ from). omega arith)
+
+-- where more of its words were there before, nothing is to do
+pub with_row-skip : (words : List ℕ) (from : ℕ) (row : List ℕ) (i d : ℕ) → ((k : ℕ) → i ≤ k → k < i + d → k < length row → slice_index words (from + k) ≡ slice_index row k)
+    → with_row words from (take i row) ≡ with_row words from (take (i + d) row)
+with_row-skip words from row i zero alike = ap (λ k. with_row words from (take k row)) (let e : i ≡ i + zero = omega arith in e)
+with_row-skip words from row i (suc d) alike =
+    let before = with_row-skip words from row i d (λ k a b within. alike k a (omega arith) within) in
+    let last : with_row words from (take (i + d) row) ≡ with_row words from (take (i + d + 1) row)
+    = elim (lt_cases (i + d) (length row)) [
+      | inl less ↦ with_row-same words from row (i + d) less.0
+          (with_row-after words from (take (i + d) row) (from + (i + d)) (let l = length-take-le (i + d) row (let b = less.0 in omega arith) in omega arith) ∙ alike (i + d) (omega arith) (omega arith) less.0)
+      | inr more ↦ ap (with_row words from) (take_all (i + d) row more.0 ∙ sym (take_all (i + d + 1) row (let b = more.0 in omega arith)))
+    ] in
+    before ∙ last ∙ ap (λ k. with_row words from (take k row)) (let e : i + d + 1 ≡ i + suc d = omega arith in e)
+
+-- so many of the first words are more than one before them
+pub take_reaches : (i n : ℕ) (row : List ℕ) → i < length row → i < n → i + 1 ≤ length (take n row)
+take_reaches i n [] below less = absurd (omega arith)
+take_reaches i zero (x ∷ row) below less = absurd (omega arith)
+take_reaches zero (suc n) (x ∷ row) below less = omega arith
+take_reaches (suc i) (suc n) (x ∷ row) below less = let h = take_reaches i n row (omega arith) (omega arith) in omega arith

@@ -1,6 +1,9 @@
 -- Which seats are an object's, and what they have.
 use Rattle.std.specs.Prelude.{All, None, Option, Some, if◌then◌else◌, ◌≡◌, ℕ, ◌*◌, ◌<◌, ◌≤◌, List, [], ◌∷◌, length, map, slice_get}
-use Rattle.uni_small.specs.Image.{Image, buffer_words, rows}
+use Rattle.std.specs.Prelude.{slice_index}
+use Rattle.uni_small.specs.Image.{Image, buffer_words, held_place, rows, spell, state_place}
+use Rattle.uni_small.specs.Plays.{words_held}
+use Rattle.uni_small.specs.Touched.{IsUntouched}
 use Rattle.uni_small.specs.View.{Local, Returned, ProcessReturned}
 use Rattle.uni_small.specs.declared.log.SmallShared.{SmallShared}
 use Rattle.uni_small.specs.declared.seat.SmallSeat.{SmallSeat}
@@ -78,6 +81,16 @@ image_of_rows sizes applied replies state =
 abbrev pub image_in : Sizes → Room → Image
 image_in sizes room = image_of_rows sizes room.applied.items room.reply.items room.state.items
 
+-- word i of the state that the first or second one of a process's buffers has
+abbrev pub state_held : Sizes → Buffers → (which i : ℕ) → ℕ
+state_held sizes own which i = slice_index own.held.items (held_place sizes which (state_place sizes i))
+
+-- What a process keeps is as it is told: its copy is that of the one of its buffers that `of` names, and its two buffers have the
+-- same words of the state but for those that may be apart.
+pub record IsKept (sizes : Sizes) (own : Buffers) (room : Room) : Type 0 where
+  pub copy : room.of ≤ 1 → spell (image_in sizes room) ≡ words_held sizes own.held.items room.of
+  pub apart : (i : ℕ) → i < sizes.state → IsUntouched own.apart i → state_held sizes own 0 i ≡ state_held sizes own 1 i
+
 -- what is seen of a process
 abbrev pub seen_in : Seen → Option (List ℕ)
 seen_in seen = if seen.due then Some seen.invocation.items else None
@@ -94,6 +107,7 @@ pub record IsSeatOf {O : Type 0} (shared : SmallShared O) (seat : SmallSeat O) :
   pub inside : seat.p < shared.setup.sizes.processes
   pub room : HasRoom shared.setup.sizes seat.room
   pub buffers : AreBuffers shared.setup.sizes seat.seat.me.0.known.local seat.own
+  pub kept : IsKept shared.setup.sizes seat.own seat.room
 
 -- a seat's process with its calls
 abbrev pub calls_of : {O : Type 0} → SmallSeat O → ProcessReturned

@@ -1,5 +1,6 @@
 pub mod Image
 pub mod TooWide
+pub mod Touched
 pub mod View
 pub mod Board
 pub mod Order

@@ -9,9 +9,9 @@ ghost use Rattle.uni_small.specs.View.Stage.{Last};
 ghost use Rattle.uni_small.specs.Board.{buffer_in, version_in};
 ghost use Rattle.uni_small.specs.Standing.{CallEnds, GoesBy, IsAnnounced, IsOf, ReplyEnds, announced_steps};
 ghost use Rattle.uni_small.specs.Standing.{call_steps, local_of};
-ghost use Rattle.uni_small.specs.Belongs.{AreBuffers, IsSeatOf, HasRoom, calls_made, calls_of, own_calls, process_of};
-ghost use Rattle.uni_small.specs.Belongs.{invocation_width_of, reply_width_of, sizes_of, taken_calls, version_of};
-ghost use Rattle.uni_small.specs.Belongs.{announced_by, word_steps_of};
+ghost use Rattle.uni_small.specs.Belongs.{AreBuffers, IsKept, IsSeatOf, HasRoom, calls_made, calls_of, own_calls};
+ghost use Rattle.uni_small.specs.Belongs.{invocation_width_of, process_of, reply_width_of, sizes_of, taken_calls};
+ghost use Rattle.uni_small.specs.Belongs.{announced_by, version_of, word_steps_of};
 
 use crate::log::SmallShared;
 use crate::object::SmallObject;
@@ -100,11 +100,13 @@ impl<O: SmallObject> SmallShared<O> {
         requires number { (number ≡ length (local_of seat.old.me).own + 1) × (number ≤ most_calls) }
         requires own { AreBuffers self.now.setup.sizes (local_of seat.old.me) own.old }
         requires room { HasRoom self.now.setup.sizes room.old }
+        requires kept { IsKept self.now.setup.sizes own.old room.old }
         ensures same { (seat.new.table_id ≡ seat.old.table_id) × (seat.new.id ≡ seat.old.id) }
         ensures ends { CallEnds (announced_steps self.now.setup.sizes) (length (local_of seat.old.me).own + 1)
             seat.old.me invocation.now reply.new result own.new seat.new.me }
         ensures own { AreBuffers self.now.setup.sizes (local_of seat.new.me) own.new }
         ensures room { HasRoom self.now.setup.sizes room.new }
+        ensures kept { IsKept self.now.setup.sizes own.new room.new }
     {
         self.store_argument(seat, p, invocation);
         self.announce(seat, p, number);
@@ -139,11 +141,13 @@ impl<O: SmallObject> SmallShared<O> {
         requires number { (number ≡ length (local_of seat.old.me).own + 1) × (number ≤ most_calls) }
         requires own { AreBuffers self.now.setup.sizes (local_of seat.old.me) own.old }
         requires room { HasRoom self.now.setup.sizes room.old }
+        requires kept { IsKept self.now.setup.sizes own.old room.old }
         ensures same { (seat.new.table_id ≡ seat.old.table_id) × (seat.new.id ≡ seat.old.id) }
         ensures ends { (told : ℕ) × CallEnds (call_steps self.now.setup.sizes) told
             seat.old.me invocation.now reply.new result own.new seat.new.me }
         ensures own { AreBuffers self.now.setup.sizes (local_of seat.new.me) own.new }
         ensures room { HasRoom self.now.setup.sizes room.new }
+        ensures kept { IsKept self.now.setup.sizes own.new room.new }
     {
         if let Some(s) = self.attempt_directly(seat, p, own, room, invocation) {
             return self.load_reply(seat, p, s, reply);

@@ -10,13 +10,15 @@ ghost use Rattle.uni_small.specs.Plays.{stage_of, IsNamed, IsGood, begun, words_
 ghost use Rattle.uni_small.specs.Standing.{GoesBy, GoesWithin, IsAsking, IsCopying, IsLooking, IsOf};
 ghost use Rattle.uni_small.specs.Standing.{EndsWithin, HasCopy, HasRow, IsAnnounced, IsDirect, TriesWithin};
 ghost use Rattle.uni_small.specs.Standing.{WritesWithin, attempt_steps, local_of};
-ghost use Rattle.uni_small.specs.Belongs.{AreBuffers, HasInvocation, HasRoom};
+ghost use Rattle.uni_small.specs.Belongs.{AreBuffers, HasInvocation, HasRoom, IsKept};
+ghost use Rattle.uni_small.specs.Touched.{AreAlikeBeside, IsUntouched};
 ghost use Rattle.uni_small.specs.declared.seat.Seen.{Seen};
-ghost use Rattle.uni_small.specs.Belongs.{all_seen, image_in, image_of_rows, seen_in};
+ghost use Rattle.uni_small.specs.Belongs.{all_seen, image_in, image_of_rows, seen_in, state_held};
 
 use crate::log::SmallShared;
 use crate::object::SmallObject;
 use crate::seat::{Buffers, Room, Seen};
+use crate::touched::Touched;
 use crate::view::View;
 use atomic_table::Seat;
 
@@ -142,7 +144,7 @@ impl<O: SmallObject> SmallShared<O> {
         }
     }
 
-    /// Applies what was seen of process r to the copy.
+    /// Applies what was seen of process r to the copy, and adds the words that this may change to those before.
     fn apply_one(
         &self,
         applied: &mut [u64],
@@ -150,6 +152,7 @@ impl<O: SmallObject> SmallShared<O> {
         state: &mut [u64],
         r: usize,
         seen: &Seen,
+        touched: &mut Touched,
     )
         requires rows { (r < self.now.setup.sizes.processes) × (length applied.old ≡ self.now.setup.sizes.processes)
             × (length reply.old ≡ self.now.setup.sizes.processes * self.now.setup.sizes.reply) }
@@ -161,6 +164,8 @@ impl<O: SmallObject> SmallShared<O> {
             ≡ with_seen (O.meaning self.now.setup.object).object
             (image_of_rows self.now.setup.sizes applied.old reply.old state.old) r (seen_in seen.now ∷ []) }
         ensures reached { IsReached (O.meaning self.now.setup.object).object state.new }
+        ensures touched { (first : List ℕ) → length first ≡ length state.old
+            → AreAlikeBeside touched.old first state.old → AreAlikeBeside touched.new first state.new }
     {
         if !seen.due {
             return;
@@ -168,13 +173,21 @@ impl<O: SmallObject> SmallShared<O> {
         applied[r] += 1;
         let words = self.setup.sizes.reply as usize;
         let from = r * words;
+        let more = self.setup.object.touches(state, &seen.invocation);
+        *touched = touched.with(more);
         self.setup
             .object
             .apply(state, &seen.invocation, &mut reply[from..from + words]);
     }
 
-    /// Applies what was seen to the copy.
-    fn apply_seen(&self, applied: &mut [u64], reply: &mut [u64], state: &mut [u64], seen: &[Seen])
+    /// Applies what was seen to the copy: which words of the state this may change.
+    fn apply_seen(
+        &self,
+        applied: &mut [u64],
+        reply: &mut [u64],
+        state: &mut [u64],
+        seen: &[Seen],
+    ) -> Touched
         requires rows { (length applied.old ≡ self.now.setup.sizes.processes)
             × (length reply.old ≡ self.now.setup.sizes.processes * self.now.setup.sizes.reply)
             × (length seen.now ≡ self.now.setup.sizes.processes) }
@@ -184,13 +197,17 @@ impl<O: SmallObject> SmallShared<O> {
         ensures image { image_of_rows self.now.setup.sizes applied.new reply.new state.new
             ≡ with_seen (O.meaning self.now.setup.object).object
             (image_of_rows self.now.setup.sizes applied.old reply.old state.old) 0 (map seen_in seen.now) }
+        ensures touched { AreAlikeBeside result state.old state.new }
     {
+        let mut touched = Touched::NONE;
         for r in 0..self.setup.sizes.processes as usize {
-            self.apply_one(applied, reply, state, r, &seen[r]);
+            self.apply_one(applied, reply, state, r, &seen[r], &mut touched);
         }
+        touched
     }
 
-    /// Writes a row of the spare buffer, from its word `from` on: it stores the words that differ.
+    /// Writes a row of the spare buffer, from its word `from` on: of those words that may differ it stores those that
+    /// do.
     fn write_row(
         &self,
         seat: &mut Seat<Seen, View<O>>,
@@ -198,6 +215,8 @@ impl<O: SmallObject> SmallShared<O> {
         own: &mut Buffers,
         from: u64,
         row: &[u64],
+        apart: Touched,
+        touched: Touched,
     )
         requires table { seat.old.table_id ≡ self.now.table.shared.table_id }
         requires inside { (p < self.now.setup.sizes.processes)
@@ -205,6 +224,9 @@ impl<O: SmallObject> SmallShared<O> {
         requires of { IsOf self.now.setup.object self.now.setup.sizes p seat.old.me }
         requires stage { HasRow (O.meaning self.now.setup.object).object self.now.setup.sizes from row.now seat.old.me }
         requires own { AreBuffers self.now.setup.sizes (local_of seat.old.me) own.old }
+        requires alike { (i : ℕ) → i < length row.now → IsUntouched apart i → IsUntouched touched i
+            → slice_index own.old.held.items (held_place self.now.setup.sizes own.old.spare (from + i))
+            ≡ slice_index row.now i }
         ensures same { (seat.new.table_id ≡ seat.old.table_id) × (seat.new.id ≡ seat.old.id) }
         ensures goes { WritesWithin seat.old.me from (length row.now) own.new.held.items seat.new.me }
         ensures spare { own.new.spare ≡ own.old.spare }
@@ -213,12 +235,16 @@ impl<O: SmallObject> SmallShared<O> {
     {
         let spare = own.spare;
         let first = spare * self.buffer_words() + from;
-        for i in 0..row.len() {
-            let place = (first + i as u64) as usize;
-            if own.held[place] != row[i] {
-                self.write_word(seat, p, spare, from + i as u64, row[i]);
-                own.held[place] = row[i];
+        let end = row.len() as u64;
+        let mut i = apart.next_of(touched, 0);
+        while i < end {
+            let place = (first + i) as usize;
+            let word = row[i as usize];
+            if own.held[place] != word {
+                self.write_word(seat, p, spare, from + i, word);
+                own.held[place] = word;
             }
+            i = apart.next_of(touched, i + 1);
         }
     }
 
@@ -234,6 +260,7 @@ impl<O: SmallObject> SmallShared<O> {
         ensures goes { GoesBy seat.old.me (buffer_words self.now.setup.sizes)
             (Reading tries s (spell (image_in self.now.setup.sizes room.new)) []) seat.new.me }
         ensures room { HasRoom self.now.setup.sizes room.new }
+        ensures of { room.new.of ≡ room.old.of }
     {
         let sizes = &self.setup.sizes;
         let n = sizes.processes;
@@ -263,7 +290,8 @@ impl<O: SmallObject> SmallShared<O> {
         room.state.copy_from_slice(&own.held[third..third + state]);
     }
 
-    /// Copies the buffer that s names: where it is one of the process's own, no word of it is loaded.
+    /// Copies the buffer that s names: where it is one of the process's own, no word of it is loaded, and where the
+    /// process has the copy of it, nothing is to do.
     fn copy(
         &self,
         seat: &mut Seat<Seen, View<O>>,
@@ -281,16 +309,20 @@ impl<O: SmallObject> SmallShared<O> {
         requires named { buffer_in s < 2 * self.now.setup.sizes.processes }
         requires held { length own.now.held.items ≡ 2 * buffer_words self.now.setup.sizes }
         requires room { HasRoom self.now.setup.sizes room.old }
+        requires kept { IsKept self.now.setup.sizes own.now room.old }
         ensures same { (seat.new.table_id ≡ seat.old.table_id) × (seat.new.id ≡ seat.old.id) }
         ensures goes { GoesWithin seat.old.me (buffer_words self.now.setup.sizes)
             (Reading tries s (spell (image_in self.now.setup.sizes room.new)) []) seat.new.me }
         ensures room { HasRoom self.now.setup.sizes room.new }
+        ensures kept { IsKept self.now.setup.sizes own.now room.new }
     {
         let b = s % 128;
-        if b / 2 == p {
-            self.take_copy(own, b % 2, room);
-        } else {
+        if b / 2 != p {
+            room.of = 2;
             self.load_copy(seat, p, tries, s, room);
+        } else if room.of != b % 2 {
+            self.take_copy(own, b % 2, room);
+            room.of = b % 2;
         }
     }
 
@@ -312,12 +344,14 @@ impl<O: SmallObject> SmallShared<O> {
         requires named { buffer_in s < 2 * self.now.setup.sizes.processes }
         requires held { length own.now.held.items ≡ 2 * buffer_words self.now.setup.sizes }
         requires room { HasRoom self.now.setup.sizes room.old }
+        requires kept { IsKept self.now.setup.sizes own.now room.old }
         ensures same { (seat.new.table_id ≡ seat.old.table_id) × (seat.new.id ≡ seat.old.id) }
         ensures goes { GoesWithin seat.old.me
             (buffer_words self.now.setup.sizes
             + (self.now.setup.sizes.processes + self.now.setup.sizes.processes * self.now.setup.sizes.invocation))
             (Reading tries s (spell (image_in self.now.setup.sizes room.new)) (all_seen room.new)) seat.new.me }
         ensures room { HasRoom self.now.setup.sizes room.new }
+        ensures kept { IsKept self.now.setup.sizes own.now room.new }
     {
         self.copy(seat, p, tries, s, own, room);
         self.scan(seat, p, tries, s, &room.applied, &mut room.seen);
@@ -339,6 +373,7 @@ impl<O: SmallObject> SmallShared<O> {
         requires stage { stage_of seat.old.me ≡ Ready tries }
         requires own { AreBuffers self.now.setup.sizes (local_of seat.old.me) own.now }
         requires room { HasRoom self.now.setup.sizes room.old }
+        requires kept { IsKept self.now.setup.sizes own.now room.old }
         ensures same { (seat.new.table_id ≡ seat.old.table_id) × (seat.new.id ≡ seat.old.id) }
         ensures goes { GoesWithin seat.old.me
             (1 + buffer_words self.now.setup.sizes
@@ -346,14 +381,22 @@ impl<O: SmallObject> SmallShared<O> {
             (Reading tries result (spell (image_in self.now.setup.sizes room.new)) (all_seen room.new)) seat.new.me }
         ensures named { IsNamed self.now.setup.sizes result }
         ensures room { HasRoom self.now.setup.sizes room.new }
+        ensures kept { IsKept self.now.setup.sizes own.now room.new }
     {
         let s = self.start(seat, p, tries);
         self.survey(seat, p, tries, s, own, room);
         s
     }
 
-    /// Writes an image to the spare buffer.
-    fn write(&self, seat: &mut Seat<Seen, View<O>>, p: u64, own: &mut Buffers, room: &Room)
+    /// Writes an image to the spare buffer, whose state differs from it in these words or those at most.
+    fn write(
+        &self,
+        seat: &mut Seat<Seen, View<O>>,
+        p: u64,
+        own: &mut Buffers,
+        room: &Room,
+        touched: Touched,
+    )
         requires table { seat.old.table_id ≡ self.now.table.shared.table_id }
         requires inside { p < self.now.setup.sizes.processes }
         requires of { IsOf self.now.setup.object self.now.setup.sizes p seat.old.me }
@@ -361,20 +404,59 @@ impl<O: SmallObject> SmallShared<O> {
             (spell (image_in self.now.setup.sizes room.now)) seat.old.me }
         requires own { AreBuffers self.now.setup.sizes (local_of seat.old.me) own.old }
         requires room { HasRoom self.now.setup.sizes room.now }
+        requires alike { (i : ℕ) → i < self.now.setup.sizes.state → IsUntouched own.old.apart i → IsUntouched touched i
+            → state_held self.now.setup.sizes own.old own.old.spare i ≡ slice_index room.now.state.items i }
+        ensures same { (seat.new.table_id ≡ seat.old.table_id) × (seat.new.id ≡ seat.old.id) }
+        ensures goes { WritesWithin seat.old.me 0 (buffer_words self.now.setup.sizes) own.new.held.items seat.new.me }
+        ensures spare { own.new.spare ≡ own.old.spare }
+        ensures written { own.new.held.items ≡ with_row own.old.held.items
+            (held_place self.now.setup.sizes own.old.spare 0) (spell (image_in self.now.setup.sizes room.now)) }
+    {
+        let sizes = &self.setup.sizes;
+        let n = sizes.processes;
+        let at_state = n + n * sizes.reply;
+        let apart = own.apart;
+        self.write_row(seat, p, own, 0, &room.applied, Touched::ALL, Touched::ALL);
+        self.write_row(seat, p, own, n, &room.reply, Touched::ALL, Touched::ALL);
+        self.write_row(seat, p, own, at_state, &room.state, apart, touched);
+    }
+
+    /// Applies what was seen to the copy, and writes it to the spare buffer.
+    fn fill(&self, seat: &mut Seat<Seen, View<O>>, p: u64, own: &mut Buffers, room: &mut Room)
+        requires table { seat.old.table_id ≡ self.now.table.shared.table_id }
+        requires inside { p < self.now.setup.sizes.processes }
+        requires of { IsOf self.now.setup.object self.now.setup.sizes p seat.old.me }
+        requires stage { HasRow (O.meaning self.now.setup.object).object self.now.setup.sizes 0
+            (spell (with_seen (O.meaning self.now.setup.object).object (image_in self.now.setup.sizes room.old) 0
+            (all_seen room.old))) seat.old.me }
+        requires good { IsGood (O.meaning self.now.setup.object) self.now.setup.sizes
+            (image_in self.now.setup.sizes room.old) }
+        requires own { AreBuffers self.now.setup.sizes (local_of seat.old.me) own.old }
+        requires room { HasRoom self.now.setup.sizes room.old }
+        requires kept { IsKept self.now.setup.sizes own.old room.old }
         ensures same { (seat.new.table_id ≡ seat.old.table_id) × (seat.new.id ≡ seat.old.id) }
         ensures goes { WritesWithin seat.old.me 0 (buffer_words self.now.setup.sizes) own.new.held.items seat.new.me }
         ensures spare { own.new.spare ≡ own.old.spare }
         ensures long { length own.new.held.items ≡ length own.old.held.items }
         ensures held { (i : ℕ) → i < buffer_words self.now.setup.sizes
             → slice_index own.new.held.items (held_place self.now.setup.sizes own.old.spare i)
-            ≡ slice_index (spell (image_in self.now.setup.sizes room.now)) i }
+            ≡ slice_index (spell (with_seen (O.meaning self.now.setup.object).object
+            (image_in self.now.setup.sizes room.old) 0 (all_seen room.old))) i }
+        ensures room { HasRoom self.now.setup.sizes room.new }
+        ensures seen { room.new.seen ≡ room.old.seen }
+        ensures kept { IsKept self.now.setup.sizes own.new room.new }
     {
-        let sizes = &self.setup.sizes;
-        let n = sizes.processes;
-        let at_state = n + n * sizes.reply;
-        self.write_row(seat, p, own, 0, &room.applied);
-        self.write_row(seat, p, own, n, &room.reply);
-        self.write_row(seat, p, own, at_state, &room.state);
+        let is_from_other = room.of == 1 - own.spare;
+        let touched = self.apply_seen(
+            &mut room.applied,
+            &mut room.reply,
+            &mut room.state,
+            &room.seen,
+        );
+        let touched = if is_from_other { touched } else { Touched::ALL };
+        self.write(seat, p, own, room, touched);
+        own.apart = touched;
+        room.of = own.spare;
     }
 
     /// Ends an attempt whose copy was good: applies what was seen to the copy, writes it to the spare
@@ -399,19 +481,15 @@ impl<O: SmallObject> SmallShared<O> {
             (image_in self.now.setup.sizes room.old) }
         requires own { AreBuffers self.now.setup.sizes (local_of seat.old.me) own.old }
         requires room { HasRoom self.now.setup.sizes room.old }
+        requires kept { IsKept self.now.setup.sizes own.old room.old }
         ensures same { (seat.new.table_id ≡ seat.old.table_id) × (seat.new.id ≡ seat.old.id) }
         ensures ends { EndsWithin self.now.setup.sizes (buffer_words self.now.setup.sizes + 1) tries
             seat.old.me result own.new seat.new.me }
         ensures own { AreBuffers self.now.setup.sizes (local_of seat.new.me) own.new }
         ensures room { HasRoom self.now.setup.sizes room.new }
+        ensures kept { IsKept self.now.setup.sizes own.new room.new }
     {
-        self.apply_seen(
-            &mut room.applied,
-            &mut room.reply,
-            &mut room.state,
-            &room.seen,
-        );
-        self.write(seat, p, own, room);
+        self.fill(seat, p, own, room);
         let new = 128 * (s / 128 + 1) + (2 * p + own.spare);
         let found = self.bring_in(seat, p, tries, s, own.spare, new);
         if found != s {
@@ -441,11 +519,13 @@ impl<O: SmallObject> SmallShared<O> {
         requires number { number ≡ length (local_of seat.old.me).own + 1 }
         requires own { AreBuffers self.now.setup.sizes (local_of seat.old.me) own.old }
         requires room { HasRoom self.now.setup.sizes room.old }
+        requires kept { IsKept self.now.setup.sizes own.old room.old }
         ensures same { (seat.new.table_id ≡ seat.old.table_id) × (seat.new.id ≡ seat.old.id) }
         ensures ends { EndsWithin self.now.setup.sizes (attempt_steps self.now.setup.sizes) tries
             seat.old.me result own.new seat.new.me }
         ensures own { AreBuffers self.now.setup.sizes (local_of seat.new.me) own.new }
         ensures room { HasRoom self.now.setup.sizes room.new }
+        ensures kept { IsKept self.now.setup.sizes own.new room.new }
     {
         let s = self.gather(seat, p, tries, own, room);
         let again = self.check(seat, p, tries, s);
@@ -497,20 +577,16 @@ impl<O: SmallObject> SmallShared<O> {
             (image_in self.now.setup.sizes room.old) }
         requires own { AreBuffers self.now.setup.sizes (local_of seat.old.me) own.old }
         requires room { HasRoom self.now.setup.sizes room.old }
+        requires kept { IsKept self.now.setup.sizes own.old room.old }
         ensures same { (seat.new.table_id ≡ seat.old.table_id) × (seat.new.id ≡ seat.old.id) }
         ensures ends { TriesWithin self.now.setup.sizes (buffer_words self.now.setup.sizes + 1)
             seat.old.me invocation.now result own.new seat.new.me }
         ensures own { AreBuffers self.now.setup.sizes (local_of seat.new.me) own.new }
         ensures room { HasRoom self.now.setup.sizes room.new }
+        ensures kept { IsKept self.now.setup.sizes own.new room.new }
     {
         self.see_own(&mut room.seen, p, invocation);
-        self.apply_seen(
-            &mut room.applied,
-            &mut room.reply,
-            &mut room.state,
-            &room.seen,
-        );
-        self.write(seat, p, own, room);
+        self.fill(seat, p, own, room);
         let new = 128 * (s / 128 + 1) + (2 * p + own.spare);
         let found = self.bring_in_own(seat, p, s, own.spare, new, &room.seen[p as usize]);
         if found != s {
@@ -539,11 +615,13 @@ impl<O: SmallObject> SmallShared<O> {
         requires calls { length (local_of seat.old.me).own + 1 ≤ most_calls }
         requires own { AreBuffers self.now.setup.sizes (local_of seat.old.me) own.old }
         requires room { HasRoom self.now.setup.sizes room.old }
+        requires kept { IsKept self.now.setup.sizes own.old room.old }
         ensures same { (seat.new.table_id ≡ seat.old.table_id) × (seat.new.id ≡ seat.old.id) }
         ensures ends { TriesWithin self.now.setup.sizes (attempt_steps self.now.setup.sizes)
             seat.old.me invocation.now result own.new seat.new.me }
         ensures own { AreBuffers self.now.setup.sizes (local_of seat.new.me) own.new }
         ensures room { HasRoom self.now.setup.sizes room.new }
+        ensures kept { IsKept self.now.setup.sizes own.new room.new }
     {
         let s = self.begin(seat, p);
         self.survey(seat, p, 0, s, own, room);

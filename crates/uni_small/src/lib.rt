@@ -11,6 +11,7 @@ mod resume;
 mod rule;
 mod seat;
 mod sizes;
+mod touched;
 mod view;
 
 pub use apply::{CallsSpent, MAX_CALLS};
@@ -19,3 +20,4 @@ pub use object::SmallObject;
 pub use orphan::SmallOrphan;
 pub use seat::SmallSeat;
 pub use sizes::MAX_WIDTH;
+pub use touched::Touched;

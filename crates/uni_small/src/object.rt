@@ -1,6 +1,9 @@
 //! What an object of several words is.
 ghost use Rattle.std.specs.Prelude.{◌≡◌, length};
 ghost use Rattle.uni_small.specs.Image.{IsReached, IsSteady, Meaning};
+ghost use Rattle.uni_small.specs.Touched.{AreAlikeBeside};
+
+use crate::touched::Touched;
 
 /// A sequential object whose states, invocations and replies are words, of each so many as the object says.
 ///
@@ -35,6 +38,21 @@ pub trait SmallObject: Drop {
         requires reached { IsReached (meaning self.now).object state.old }
         ensures state { state.new ≡ (meaning self.now).object.next state.old invocation.now }
         ensures reply { reply.new ≡ (meaning self.now).object.answer state.old invocation.now };
+
+    /// Which words of a state that calls lead to an invocation may change: all of them, where an object doesn't say.
+    /// Where no other process's call came since the last one of its own, a call compares and stores no others.
+    fn touches(&self, state: &[u64], invocation: &[u64]) -> Touched
+        requires wide { length state.now ≡ length (meaning self.now).object.initial }
+        requires invocation { length invocation.now ≡ (meaning self.now).invocation }
+        requires reached { IsReached (meaning self.now).object state.now }
+        ensures { AreAlikeBeside result state.now ((meaning self.now).object.next state.now invocation.now) }
+    {
+        Touched {
+            head: self.width(),
+            from: 0,
+            to: 0,
+        }
+    }
 
     /// No invocation changes how many words a state has, and each is answered with a whole reply.
     ghost steady: { (o : Self) → IsSteady (meaning o).object (meaning o).reply };

@@ -3,6 +3,7 @@ ghost use Rattle.std.specs.Prelude.{[], false, ◌≡◌, ◌≤◌, length};
 ghost use Rattle.uni_small.specs.View.Stage.{Idle};
 ghost use Rattle.uni_small.specs.Invariant.{most_calls};
 
+use crate::touched::Touched;
 use crate::view::View;
 use atomic_table::Seat;
 
@@ -16,6 +17,8 @@ pub struct Seen {
 /// A process's copy of a buffer, with the replies one after another, and what it has seen of each process.
 #[derive(Drop)]
 pub(crate) struct Room {
+    /// Which of its own buffers the process knows to have the words of the copy: 0 or 1, or 2 for neither.
+    pub of: u64,
     pub applied: Vec<u64>,
     pub reply: Vec<u64>,
     pub state: Vec<u64>,
@@ -28,6 +31,8 @@ pub(crate) struct Room {
 pub(crate) struct Buffers {
     pub spare: u64,
     pub held: Vec<u64>,
+    /// Of which words of the state the two may differ.
+    pub apart: Touched,
 }
 
 /// A process's place at the object.

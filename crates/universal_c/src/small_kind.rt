@@ -6,7 +6,7 @@ use program_object::Program;
 use small_objects::{
     SmallBook, SmallCounter, SmallCounters, SmallMap, SmallQueue, SmallRegister, SmallStack,
 };
-use uni_small::SmallObject;
+use uni_small::{SmallObject, Touched};
 use word_objects::WordMachine;
 
 /// A small object, by its kind.
@@ -103,6 +103,20 @@ impl SmallObject for SmallKind {
             SmallKind::Book => SmallBook.apply(state, invocation, reply),
             SmallKind::Machine(machine) => machine.apply(state, invocation, reply),
             SmallKind::Program(program) => program.apply(state, invocation, reply),
+        }
+    }
+
+    fn touches(&self, state: &[u64], invocation: &[u64]) -> Touched {
+        match self {
+            SmallKind::Counter => SmallCounter.touches(state, invocation),
+            SmallKind::Register => SmallRegister.touches(state, invocation),
+            SmallKind::Counters(counters) => counters.touches(state, invocation),
+            SmallKind::Queue(queue) => queue.touches(state, invocation),
+            SmallKind::Stack(stack) => stack.touches(state, invocation),
+            SmallKind::Map(map) => map.touches(state, invocation),
+            SmallKind::Book => SmallBook.touches(state, invocation),
+            SmallKind::Machine(machine) => machine.touches(state, invocation),
+            SmallKind::Program(program) => program.touches(state, invocation),
         }
     }
 

@@ -5,6 +5,7 @@ ghost use Rattle.uni_small.specs.Plays.{first_view};
 ghost use Rattle.uni_small.specs.Board.{AreFew};
 ghost use Rattle.uni_small.specs.TooWide.{IsTooWide};
 ghost use Rattle.uni_small.specs.Image.{first_held};
+ghost use Rattle.uni_small.specs.Touched.{everything};
 ghost use Rattle.uni_small.specs.View.{at_rest};
 ghost use Rattle.uni_small.specs.Belongs.{AreBuffers, AreFirstSeats, HasInvocation, HasRoom, IsSeatOf};
 ghost use Rattle.uni_small.specs.Belongs.{object_of, sizes_of};
@@ -14,6 +15,7 @@ use crate::object::SmallObject;
 use crate::rule::First;
 use crate::seat::{Buffers, Room, Seen, SmallSeat};
 use crate::sizes::Sizes;
+use crate::touched::Touched;
 use crate::view::View;
 use atomic_table::Seat;
 use std::alloc::{AllocError, Global};
@@ -37,10 +39,12 @@ fn seen_room(alloc: Global, sizes: &Sizes) -> Result<Vec<Seen>, AllocError>
 /// Room for a process's copy of a buffer, and for what it sees.
 pub(crate) fn room(alloc: Global, sizes: &Sizes) -> Result<Room, AllocError>
     requires { AreFew sizes.now }
-    ensures { IfOk result (λ room. HasRoom sizes.now room) }
+    ensures room { IfOk result (λ room. HasRoom sizes.now room) }
+    ensures of { IfOk result (λ room. room.of ≡ 2) }
 {
     let n = sizes.processes;
     Ok(Room {
+        of: 2,
         applied: vec![in alloc; 0u64; n as usize]?,
         reply: vec![in alloc; 0u64; (n * sizes.reply) as usize]?,
         state: vec![in alloc; 0u64; sizes.state as usize]?,
@@ -52,13 +56,18 @@ pub(crate) fn room(alloc: Global, sizes: &Sizes) -> Result<Room, AllocError>
 fn buffers<O: SmallObject>(alloc: Global, object: &O, sizes: &Sizes) -> Result<Buffers, AllocError>
     requires few { AreFew sizes.now }
     requires wide { length (O.meaning object.now).object.initial ≡ sizes.now.state }
-    ensures { IfOk result (λ own.
+    ensures held { IfOk result (λ own.
         AreBuffers sizes.now (at_rest (first_held (O.meaning object.now).object sizes.now)) own) }
+    ensures apart { IfOk result (λ own. own.apart ≡ everything) }
 {
     let first = first_words(alloc, object, sizes)?;
     let mut held = first_words(alloc, object, sizes)?;
     held.extend_from_slice(&first)?;
-    Ok(Buffers { spare: 1, held })
+    Ok(Buffers {
+        spare: 1,
+        held,
+        apart: Touched::ALL,
+    })
 }
 
 impl<O: SmallObject> SmallShared<O> {

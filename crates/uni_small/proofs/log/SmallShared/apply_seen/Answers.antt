@@ -4,7 +4,7 @@ use Rattle.uni_small.proofs.Images.{applied-later}
 use Rattle.uni_small.proofs.log.SmallShared.apply_seen.Goals as goal
 
 pub loop-r-init : goal.loop-r-init
-loop-r-init g c = (refl, c.requires.good.1, (λ q from inside. c.requires.good.2 q inside))
+loop-r-init g c = (refl, c.requires.good.1, (λ q from inside. c.requires.good.2 q inside), refl, (λ i inside apart. refl))
 
 pub apply_one-requires-clause-few : goal.apply_one-requires-clause-few
 apply_one-requires-clause-few g c = c.loop-r.invariant.2 c.loop-r.r (omega arith) c.loop-r-test.true
@@ -27,6 +27,8 @@ loop-r-preserved g c =
       ap (λ i. with_seen object i (r + 1) (drop (r + 1) (map seen_in c.args.seen.now))) one ∙ sym (with_seen-cons object image r due (drop (r + 1) (map seen_in c.args.seen.now))) ∙ ap (with_seen object image r) (sym rest) ∙ c.loop-r.invariant.0,
       c.apply_one.ensures.reached,
       (λ q from inside. subst (λ k. k ≤ most_calls) (sym (ap (λ (i : Image). slice_index i.applied q) one ∙ applied-later object image r due q (omega (arith, from)))) (c.loop-r.invariant.2 q (omega (arith, from)) inside)),
+      c.apply_one.auto.state ∙ c.loop-r.invariant.3,
+      c.apply_one.ensures.touched c.args.state.now (sym c.loop-r.invariant.3) c.loop-r.invariant.4,
     )
 
 pub returns : goal.returns
@@ -35,4 +37,4 @@ returns g c =
     let seen : List (Option (List ℕ)) = map seen_in c.args.seen.now in
     let end : length (map seen_in c.args.seen.now) ≤ c.loop-r.r = (let t = c.loop-r-test.false in let l = length-map c.args.seen.now seen_in in omega arith) in
     let image : Image = image_of_rows c.args.self.now.setup.sizes c.loop-r.applied c.loop-r.reply c.loop-r.state in
-    record { image = sym (ap (with_seen object image c.loop-r.r) (drop_all c.loop-r.r (map seen_in c.args.seen.now) end)) ∙ c.loop-r.invariant.0 }
+    record { touched = c.loop-r.invariant.4; image = sym (ap (with_seen object image c.loop-r.r) (drop_all c.loop-r.r (map seen_in c.args.seen.now) end)) ∙ c.loop-r.invariant.0 }

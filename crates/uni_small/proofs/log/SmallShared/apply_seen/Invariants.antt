@@ -1,4 +1,5 @@
-use Rattle.uni_small.proofs.Vocabulary.{IsReached, drop, image_of_rows, map, most_calls, seen_in, slice_index, with_seen, ℕ, ◌<◌, ◌≡◌, ◌≤◌}
+use Rattle.uni_small.proofs.Vocabulary.{IsReached, drop, image_of_rows, length, map, most_calls, seen_in, slice_index, with_seen, ℕ, ◌<◌, ◌≡◌, ◌≤◌}
+use Rattle.uni_small.specs.Touched.{AreAlikeBeside}
 use Rattle.uni_small.proofs.log.SmallShared.apply_seen.Given as goal
 
 abbrev pub invariant-loop-r : goal.invariant-loop-r
@@ -9,3 +10,5 @@ invariant-loop-r g l =
     ≡ with_seen object (image_of_rows sizes l.fn.applied l.fn.reply l.fn.state) 0 (map seen_in l.seen))
     × IsReached object l.state
     × ((q : ℕ) → l.r ≤ q → q < sizes.processes → slice_index l.applied q ≤ most_calls)
+    × (length l.state ≡ length l.fn.state)
+    × AreAlikeBeside l.touched l.fn.state l.state

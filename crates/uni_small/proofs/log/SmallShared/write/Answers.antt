@@ -1,9 +1,9 @@
-use Rattle.uni_small.proofs.Vocabulary.{AreBuffers, Buffers, HasComeTo, HasRoom, Image, Me, Option, Seen, Sequential, View, WritesWithin, local_of, subst, ◌≤◌, List, Room, Sizes, ap, arith, buffer_words, held_place, image_in, length, refl, slice_index, spell, sym, with_row, with_seen, ℕ, ◌*◌, ◌++◌, ◌+◌, ◌-◌, ◌<◌, ◌∙◌, ◌≡◌}
+use Rattle.uni_small.proofs.Vocabulary.{state_place, AreBuffers, Buffers, HasComeTo, HasRoom, Image, Me, Option, Seen, Sequential, View, WritesWithin, local_of, subst, ◌≤◌, List, Room, Sizes, ap, arith, buffer_words, held_place, image_in, length, refl, slice_index, spell, sym, with_row, with_seen, ℕ, ◌*◌, ◌++◌, ◌+◌, ◌<◌, ◌∙◌, ◌≡◌}
 use Rattle.uni_small.proofs.Going.{writes_buffers, writes_come, writes_more, writes_of, writes_stage}
 use Rattle.uni_small.proofs.Images.{spell-applied, spell-length}
 use Rattle.uni_small.proofs.Rooms.{room_reply, room_rows, room_spelled, room_state}
-use Rattle.uni_small.proofs.Rows.{with_row-index, with_row-length, with_rows}
-use Rattle.uni_small.proofs.Words.{held_inside, held_room}
+use Rattle.uni_small.proofs.Rows.{with_row-after, with_row-length, with_rows}
+use Rattle.uni_small.proofs.Words.{held_room}
 use Rattle.uni_small.proofs.log.SmallShared.write.Goals as goal
 
 -- the words of a row are the image's
@@ -163,8 +163,33 @@ returns-clause-goes g c =
     (subst (λ k. WritesWithin c.write_row-2.new.seat.me k (length d) c.write_row-3.new.own.held.items c.write_row-3.new.seat.me) at_third c.write_row-3.ensures.goes) in
     (all.0, (let few = all.1 in omega arith), all.2, (let to = all.3 in omega arith), all.4)
 
-pub returns-clause-held : goal.returns-clause-held
-returns-clause-held g c =
+pub write_row-requires-3-clause-alike : goal.write_row-requires-3-clause-alike
+write_row-requires-3-clause-alike g c =
+    let sizes = c.args.self.now.setup.sizes in
+    let own = c.args.own.now in
+    let room = c.args.room.now in
+    let w = buffer_words sizes in
+    let a = c.deref.result.now in
+    let b = c.deref-2.result.now in
+    let la : length a ≡ sizes.processes = ap (λ (xs : List ℕ). length xs) c.deref.ensures.value ∙ c.requires.room.applied in
+    let lb : length b ≡ sizes.processes * sizes.reply = ap (λ (xs : List ℕ). length xs) c.deref-2.ensures.value ∙ c.requires.room.reply in
+    let same1 : c.write_row.new.own.spare ≡ own.spare = c.write_row.ensures.spare in
+    let same2 : c.write_row-2.new.own.spare ≡ own.spare = c.write_row-2.ensures.spare ∙ same1 in
+    λ i within apart touched.
+    let inside : i < sizes.state = (let e : length c.deref-3.result.now ≡ length room.state.items = ap (λ (xs : List ℕ). length xs) c.deref-3.ensures.value in let r = c.requires.room.state in omega arith) in
+    let place = held_place sizes own.spare (state_place sizes i) in
+    let here : held_place sizes c.write_row-2.new.own.spare (sizes.processes + sizes.processes * sizes.reply + i) ≡ place
+    = ap (λ k. k * w + (sizes.processes + sizes.processes * sizes.reply + i)) same2 ∙ (let e : own.spare * w + (sizes.processes + sizes.processes * sizes.reply + i) ≡ place = omega arith in e) in
+    let second : held_place sizes c.write_row.new.own.spare sizes.processes ≡ own.spare * w + sizes.processes = ap (λ k. k * w + sizes.processes) same1 in
+    (λ k. slice_index (c.write_row-2.ensures.held k) (here k))
+    ∙ with_row-after c.write_row.new.own.held.items (held_place sizes c.write_row.new.own.spare sizes.processes) b place (omega (arith, second, lb))
+    ∙ ap (λ (xs : List ℕ). slice_index xs place) c.write_row.ensures.held
+    ∙ with_row-after own.held.items (held_place sizes own.spare 0) a place (omega (arith, la))
+    ∙ c.requires.alike i inside apart touched
+    ∙ ap (λ (xs : List ℕ). slice_index xs i) (sym c.deref-3.ensures.value)
+
+pub returns-clause-written : goal.returns-clause-written
+returns-clause-written g c =
     let sizes = c.args.self.now.setup.sizes in
     let me = c.args.seat.now.me in
     let own = c.args.own.now in
@@ -183,20 +208,4 @@ returns-clause-held g c =
     let words : a ++ (b ++ d) ≡ spell (image_in sizes room) = (λ k. c.deref.ensures.value k ++ (c.deref-2.ensures.value k ++ c.deref-3.ensures.value k)) ∙ sym (room_spelled sizes room c.requires.room) in
     let h1 = c.write_row.ensures.held in
     let h2 = c.write_row-2.ensures.held ∙ (λ k. with_row (h1 k) (second k) b) in
-    let all = c.write_row-3.ensures.held ∙ (λ k. with_row (h2 k) (third k) d) ∙ with_rows own.held.items (own.spare * w + 0) a b d ∙ ap (with_row own.held.items (own.spare * w + 0)) words in
-    let long : length (spell (image_in sizes room)) ≡ w = spell-length sizes (image_in sizes room) (room_rows sizes room c.requires.room) in
-    λ i below.
-    let half = held_inside sizes own.spare (w - 1) c.requires.own.which (omega arith) in
-    let place : held_place sizes own.spare i ≡ own.spare * w + 0 + i = omega arith in
-    (λ k. slice_index (all k) (place k)) ∙ with_row-index own.held.items (own.spare * w + 0) (spell (image_in sizes room)) i (omega arith) (let o = c.requires.own.long in omega arith)
-
-pub returns-clause-long : goal.returns-clause-long
-returns-clause-long g c =
-    let sizes = c.args.self.now.setup.sizes in
-    let own = c.args.own.now in
-    let own1 = c.write_row.new.own in
-    let own2 = c.write_row-2.new.own in
-    let size : List ℕ → ℕ = (λ ws. length ws) in
-    ap size c.write_row-3.ensures.held ∙ with_row-length own2.held.items (held_place sizes own2.spare (sizes.processes + sizes.processes * sizes.reply)) c.deref-3.result.now
-    ∙ ap size c.write_row-2.ensures.held ∙ with_row-length own1.held.items (held_place sizes own1.spare sizes.processes) c.deref-2.result.now
-    ∙ ap size c.write_row.ensures.held ∙ with_row-length own.held.items (held_place sizes own.spare 0) c.deref.result.now
+    c.write_row-3.ensures.held ∙ (λ k. with_row (h2 k) (third k) d) ∙ with_rows own.held.items (own.spare * w + 0) a b d ∙ ap (with_row own.held.items (own.spare * w + 0)) words

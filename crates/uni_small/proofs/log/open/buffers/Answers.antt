@@ -2,8 +2,8 @@ use Rattle.uni_small.proofs.Vocabulary.{List, ap, arith, first_held, first_image
 use Rattle.uni_small.proofs.Opening.{held_length}
 use Rattle.uni_small.proofs.log.open.buffers.Goals as goal
 
-pub returns : goal.returns
-returns g c =
+pub returns-clause-held : goal.returns-clause-held
+returns-clause-held g c =
     let sizes = c.args.sizes.now in
     let object = (g.O.SmallObject.meaning c.args.object.now).object in
     let first : c.deref.result.now ≡ spell (first_image object sizes) = c.deref.ensures.value ∙ c.in_ok-first.ensures in

@@ -1,0 +1,16 @@
+-- Which words of a state a call may change.
+use Rattle.std.specs.Prelude.{◌≡◌, ◌⊎◌, ℕ, ◌<◌, ◌≤◌, List, length, slice_index}
+use Rattle.uni_small.specs.declared.touched.Touched.{Touched}
+
+-- word i is none of these
+abbrev pub IsUntouched : Touched → (i : ℕ) → Type 0
+IsUntouched touched i = (touched.head ≤ i) × ((i < touched.from) ⊎ (touched.to ≤ i))
+
+-- of two states each word that is none of these is the same
+abbrev pub AreAlikeBeside : Touched → (state other : List ℕ) → Type 0
+AreAlikeBeside touched state other =
+    (i : ℕ) → i < length state → IsUntouched touched i → slice_index other i ≡ slice_index state i
+
+-- all words
+abbrev pub everything : Touched
+everything = record { head = 18446744073709551615; from = 0; to = 0 }

@@ -1,0 +1,71 @@
+//! Which words of a state a call may change.
+ghost use Rattle.std.specs.Prelude.{◌≤◌, ◌<◌, ℕ};
+ghost use Rattle.uni_small.specs.Touched.{IsUntouched};
+
+/// Words of a state: those before the word `head`, and those from the word `from` on that are before the word `to`.
+#[derive(Clone, Copy, Debug, PartialEq, Eq)]
+pub struct Touched {
+    /// How many words there are at the head of the state.
+    pub head: u64,
+    /// The first of the other words.
+    pub from: u64,
+    /// The word after the last of them.
+    pub to: u64,
+}
+
+impl Touched {
+    /// No word.
+    pub(crate) const NONE: Touched = Touched {
+        head: 0,
+        from: 0,
+        to: 0,
+    };
+
+    /// All words.
+    pub(crate) const ALL: Touched = Touched {
+        head: u64::MAX,
+        from: 0,
+        to: 0,
+    };
+
+    /// These words and those, and perhaps some between them.
+    pub(crate) fn with(self, more: Touched) -> Touched
+        ensures { (i : ℕ) → IsUntouched result i → IsUntouched self i × IsUntouched more i }
+    {
+        let head = self.head.max(more.head);
+        if self.from >= self.to {
+            return Touched { head, ..more };
+        }
+        if more.from >= more.to {
+            return Touched { head, ..self };
+        }
+        Touched {
+            head,
+            from: self.from.min(more.from),
+            to: self.to.max(more.to),
+        }
+    }
+
+    /// The first of these words from this one on, or a word that no state has.
+    fn next(self, i: u64) -> u64
+        ensures later { i ≤ result }
+        ensures between { (j : ℕ) → i ≤ j → j < result → IsUntouched self j }
+    {
+        if i < self.head {
+            return i;
+        }
+        if self.from >= self.to || self.to <= i {
+            return u64::MAX;
+        }
+        self.from.max(i)
+    }
+
+    /// The first of these words or those from this one on, or a word that no state has.
+    pub(crate) fn next_of(self, other: Touched, i: u64) -> u64
+        ensures later { i ≤ result }
+        ensures between { (j : ℕ) → i ≤ j → j < result → IsUntouched self j × IsUntouched other j }
+    {
+        let (first, second) = (self.next(i), other.next(i));
+        if first < second { first } else { second }
+    }
+}
