@@ -17,12 +17,12 @@ TOP = pathlib.Path(__file__).resolve().parent.parent
 kit = pathlib.Path(subprocess.run(["rt", "doc"], capture_output=True, text=True, check=True).stdout.strip()).parent
 loader = importlib.machinery.SourceFileLoader("rt", str(kit / "bin" / "rt"))
 rt = importlib.util.module_from_spec(importlib.util.spec_from_loader("rt", loader))
-loader.exec_module(rt)  # the kit's own, which writes no bytecode
+loader.exec_module(rt)  # the kit's own code
 
 rt.Crate.allowed = rt.handles_of(str(TOP))
 every = rt.crates_of(str(TOP))  # lowest first
 wanted = {below for crate in every if crate.name in sys.argv[1:] for below in crate.below()}
-held = rt.rtlib.lock(wanted)  # no gate works in them meanwhile
+rt.rtlib.lock(wanted)  # no gate works in them until this ends
 kept = rt.Kept(every)
 for crate in every:
     if crate not in wanted:
