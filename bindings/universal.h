@@ -128,11 +128,9 @@ static inline const char *universal_strerror(uint32_t status) {
  * program      as it says   ..      ..
  *
  * Where a state has W words, an invocation I and a reply R, a call takes at most 6W + (9 + 3I + 6R)n + I + R + 11 steps on
- * shared words. It copies the whole state, so its time is that of the capacity, also while the object is empty. Of one thread, in
- * microseconds of processor time (docs/measured.md):
- *
- * words        1            64      1,024         65,535
- * call         0.07         0.16    1.2           90
+ * shared words. Where another process's call came since the process's own last one, it copies the whole state, also while the
+ * object is empty: some 1.3 nanoseconds a word (docs/measured.md). Where none came, it takes the time of what it touches: one
+ * counter, or a value; or, where a queue gives one and a map takes or loses one, as many words as the object holds.
  * ------------------------------------------------------------------------------------------------------------------ */
 
 /* Opens a counter modulo 2^64, 0 at the start, for n processes. A call adds its number, and is answered the sum before.
@@ -153,8 +151,8 @@ uint32_t universal_open_register64(uint64_t n, universal_handle *object);
 #define UNIVERSAL_REGISTER64_COMPARE_EXCHANGE(expected, value) {2, (uint64_t)(expected), (uint64_t)(value)}
 
 /* Opens an array of `count` counters modulo 2^64, each 0 at the start. A call adds a number to one of them, by its index from
- * 0, and is answered the sum before. One that names none changes nothing, and is answered 0. A call's time is that of
- * `count` words, by the table above.
+ * 0, and is answered the sum before. One that names none changes nothing, and is answered 0. A copy is `count`
+ * words.
  *
  * UNIVERSAL_BAD_COUNT; UNIVERSAL_BAD_CAPACITY where count is more than 65,536; UNIVERSAL_MEMORY; in this order. After each
  * *object is as it was. */
@@ -163,8 +161,8 @@ uint32_t universal_open_counters(uint64_t n, uint32_t count, universal_handle *o
 #define UNIVERSAL_COUNTERS_ADD(index, number) {(uint64_t)(index), (uint64_t)(number)}
 
 /* Opens a queue of at most `capacity` numbers that aren't 0. A number that is put in is answered 1, or 0 where the queue is
- * full. Taking the oldest number out is answered it, or 0 where there is none. To put 0 in is to take one out. A call's
- * time is that of 1 + capacity words.
+ * full. Taking the oldest number out is answered it, or 0 where there is none. To put 0 in is to take one out. A copy is
+ * 1 + capacity words.
  *
  * UNIVERSAL_BAD_COUNT; UNIVERSAL_BAD_CAPACITY where capacity is more than 65,535; UNIVERSAL_MEMORY; in this order. After each
  * *object is as it was. */
@@ -182,7 +180,8 @@ uint32_t universal_open_stack(uint64_t n, uint32_t capacity, universal_handle *o
 
 /* Opens a map from words to words, of at most `capacity` keys. The reply is UNIVERSAL_MAP_VALUE and the value that the key had
  * before the call, or UNIVERSAL_MAP_ABSENT and 0. It is UNIVERSAL_MAP_FULL and 0 where a new key has no room: the map stays as
- * it is. Other words than those of the macros get. A call's time is that of 1 + 2 * capacity words.
+ * it is. Other words than those of the macros get. A copy is 1 + 2 * capacity
+ * words.
  * The statuses are those of universal_open_queue, with UNIVERSAL_BAD_CAPACITY where capacity is more than 32,767. */
 uint32_t universal_open_map(uint64_t n, uint32_t capacity, universal_handle *object);
 

@@ -11,8 +11,9 @@ A call comes with a version: a number of the object's state, in which the call i
 `version`. Who is told a version, by whatever means, can follow it. A seat makes up to 2^50 calls; a further one raises
 `Refused`, with `SPENT`.
 
-A call copies the whole state, so its time is that of the capacity, also while the object is empty: in C 0.07 microseconds of
-processor time with 1 word, 0.16 with 64, 1.2 with 1,024 and 90 with 65,535 (docs/measured.md), and here some 8 more.
+Where another process's call came since the process's own last one, a call copies the whole state, also while the object is
+empty: some 1.3 nanoseconds a word of capacity (docs/measured.md). Where none came, it takes the time of what it touches. To either
+Python adds some 8 microseconds.
 """
 
 from __future__ import annotations
@@ -148,7 +149,7 @@ class Counters(CountersCalls, _Seat[list[int]]):
 
     @classmethod
     def open(cls, n: int, count: int) -> Small[Counters, list[int]]:
-        """So many counters for n processes. A call's time is that of so many words.
+        """So many counters for n processes; a copy is so many words.
 
         Raises `Refused`: n isn't from 1 to 64; there are more than 65,536 counters; memory was refused.
         """
@@ -166,7 +167,7 @@ class Queue(QueueCalls, _Row):
 
     @classmethod
     def open(cls, n: int, capacity: int) -> Small[Queue, list[int]]:
-        """A queue of at most `capacity` numbers for n processes. A call's time is that of 1 + capacity words.
+        """A queue of at most `capacity` numbers for n processes; a copy is 1 + capacity words.
 
         Raises `Refused`: n isn't from 1 to 64; capacity is more than 65,535; memory was refused.
         """
@@ -187,7 +188,7 @@ class Map(MapCalls, _Seat[dict[int, int]]):
 
     @classmethod
     def open(cls, n: int, capacity: int) -> Small[Map, dict[int, int]]:
-        """A map of at most `capacity` keys for n processes. A call's time is that of 1 + 2 * capacity words.
+        """A map of at most `capacity` keys for n processes; a copy is 1 + 2 * capacity words.
 
         Raises `Refused`: n isn't from 1 to 64; capacity is more than 32,767; memory was refused.
         """

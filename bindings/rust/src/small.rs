@@ -4,8 +4,8 @@
 //! gives a [`Small`], the object with its seats. A call comes with a version: a number of the object's state, in which the
 //! call is ([`SmallSeat::version`]). Who is told a version, by whatever means, can follow it ([`SmallSeat::follows`]).
 //!
-//! A call copies the whole state, so its time is that of the capacity, also while the object is empty: of one thread in C 0.07
-//! microseconds of processor time with 1 word, 0.16 with 64, 1.2 with 1,024 and 90 with 65,535 (docs/measured.md).
+//! Where another process's call came since the process's own last one, a call copies the whole state, also while the object is
+//! empty: some 1.3 nanoseconds a word of capacity (docs/measured.md). Where none came, it takes the time of what it touches.
 //!
 //! ```
 //! use std::num::NonZeroU64;
@@ -369,14 +369,14 @@ impl Register {
 }
 
 impl Counters {
-    /// So many counters for `n` processes. A call's time is that of so many words. Errors: `BadCount`; `BadCapacity` for more than 65,536 counters; `Memory`.
+    /// So many counters for `n` processes; a copy is so many words. Errors: `BadCount`; `BadCapacity` for more than 65,536 counters; `Memory`.
     pub fn open(n: u64, count: u32) -> Result<Small<kinds::Counters>, Fault> {
         Small::opened(count as usize, |object| raw::open_counters(n, count, object))
     }
 }
 
 impl Queue {
-    /// A queue of at most `capacity` numbers for `n` processes. A call's time is that of `1 + capacity` words.
+    /// A queue of at most `capacity` numbers for `n` processes; a copy is `1 + capacity` words.
     /// Errors: `BadCount`; `BadCapacity` for more than 65,535 numbers; `Memory`.
     pub fn open(n: u64, capacity: u32) -> Result<Small<kinds::Queue>, Fault> {
         Small::opened(1 + capacity as usize, |object| raw::open_queue(n, capacity, object))
@@ -384,14 +384,14 @@ impl Queue {
 }
 
 impl Stack {
-    /// A stack of at most `capacity` numbers for `n` processes. Time and errors are those of [`Queue::open`].
+    /// A stack of at most `capacity` numbers for `n` processes. Copies and errors are those of [`Queue::open`].
     pub fn open(n: u64, capacity: u32) -> Result<Small<kinds::Stack>, Fault> {
         Small::opened(1 + capacity as usize, |object| raw::open_stack(n, capacity, object))
     }
 }
 
 impl Map {
-    /// A map of at most `capacity` keys for `n` processes. A call's time is that of `1 + 2 * capacity` words.
+    /// A map of at most `capacity` keys for `n` processes; a copy is `1 + 2 * capacity` words.
     /// Errors: `BadCount`; `BadCapacity` for more than 32,767 keys; `Memory`.
     pub fn open(n: u64, capacity: u32) -> Result<Small<kinds::Map>, Fault> {
         Small::opened(1 + 2 * capacity as usize, |object| raw::open_map(n, capacity, object))

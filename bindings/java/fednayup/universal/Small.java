@@ -24,8 +24,8 @@ import fednayup.universal.Universal.Handle;
  * <p>A call takes no lock of the library and no memory. It comes with a version: a number of the object's state, in which the
  * call is. Who is told a version, by whatever means, can follow it.
  *
- * <p>A call copies the whole state, so its time is that of the capacity, also while the object is empty: of one thread in C 0.07
- * microseconds of processor time with 1 word, 0.16 with 64, 1.2 with 1,024 and 90 with 65,535 (docs/measured.md).
+ * <p>Where another process's call came since the process's own last one, a call copies the whole state, also while the object is
+ * empty: some 1.3 nanoseconds a word of capacity (docs/measured.md). Where none came, it takes the time of what it touches.
  */
 public final class Small<S extends Small.Seat> implements AutoCloseable {
     private final Handle handle = new Handle();
@@ -293,7 +293,7 @@ public final class Small<S extends Small.Seat> implements AutoCloseable {
             super(place, process, width);
         }
 
-        /** So many counters for n processes. A call's time is that of so many words. Refused: there are more than 65,536. */
+        /** So many counters for n processes; a copy is so many words. Refused: there are more than 65,536. */
         public static Small<Counters> open(long n, int count) throws Refused {
             return opened(Universal.OPEN_COUNTERS, n, count, count, Counters::new);
         }
@@ -315,7 +315,7 @@ public final class Small<S extends Small.Seat> implements AutoCloseable {
         }
 
         /**
-         * A queue of at most {@code capacity} numbers for n processes. A call's time is that of 1 + capacity words. Refused: capacity
+         * A queue of at most {@code capacity} numbers for n processes; a copy is 1 + capacity words. Refused: capacity
          * is more than 65,535.
          */
         public static Small<Queue> open(long n, int capacity) throws Refused {
@@ -339,7 +339,7 @@ public final class Small<S extends Small.Seat> implements AutoCloseable {
             super(place, process, width);
         }
 
-        /** A stack of at most {@code capacity} numbers for n processes. Time and refusal are those of a queue. */
+        /** A stack of at most {@code capacity} numbers for n processes. Copies and refusal are those of a queue. */
         public static Small<Stack> open(long n, int capacity) throws Refused {
             return opened(Universal.OPEN_STACK, n, capacity, 1 + capacity, Stack::new);
         }
@@ -362,7 +362,7 @@ public final class Small<S extends Small.Seat> implements AutoCloseable {
         }
 
         /**
-         * A map of at most {@code capacity} keys for n processes. A call's time is that of 1 + 2 * capacity words. Refused: capacity is
+         * A map of at most {@code capacity} keys for n processes; a copy is 1 + 2 * capacity words. Refused: capacity is
          * more than 32,767.
          */
         public static Small<Map> open(long n, int capacity) throws Refused {
