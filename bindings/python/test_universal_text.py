@@ -7,6 +7,7 @@ from pathlib import Path
 from universal.text import HISTORY, BadScript, Svg, TooLong, draw, lines, replay
 
 CASES = Path(__file__).parent.parent.parent / "crates" / "cases" / "data"
+with_cases = unittest.skipUnless(CASES.parent.is_dir(), "the stored scripts are in the repository")
 SCRIPT = "universal 1 queue 2 8\ncall 0 enq 10\nstep 0 10\nfinish 0\nlog\n"
 
 
@@ -62,6 +63,7 @@ class Scripts(unittest.TestCase):
         self.assertTrue(picture.text.startswith("<svg ") and picture.text.endswith("</svg>\n"))
         self.assertEqual((picture._repr_svg_(), str(picture)), (picture.text, picture.text))
 
+    @with_cases
     def test_the_scripts_of_the_course(self):
         scripts = sorted((CASES / "course").glob("*.script"))
         self.assertEqual(len(scripts), 23)
@@ -71,6 +73,7 @@ class Scripts(unittest.TestCase):
                 self.assertEqual(replay(script), text_of(path.with_suffix(".answers")))
                 self.assertEqual(draw(script).text, text_of(path.with_suffix(".svg")))
 
+    @with_cases
     def test_scripts_with_a_fault(self):
         faults = sorted((CASES / "faults").glob("*.fault"))
         self.assertGreater(len(faults), 10)
