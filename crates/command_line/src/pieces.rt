@@ -2,7 +2,7 @@
 
 ghost use Rattle.std.specs.Prelude.{◌≡◌, codes, false, option_map};
 ghost use Rattle.clap.specs.Words.{found_of, rows_of, rule_of};
-ghost use Rattle.command_line.specs.Flags.{flag, is_set, is_true};
+ghost use Rattle.command_line.specs.Flags.{flag, is_set, is_true, may_be_path};
 
 use clap::{Arg, ArgAction, ArgMatches};
 use std::alloc::Global;
@@ -36,6 +36,8 @@ fn is_true(value: Option<&str>) -> bool
 }
 
 /// Whether a word may name a file: it is `-`, or doesn't begin with that.
-pub fn may_be_path(word: &str) -> bool {
+pub fn may_be_path(word: &str) -> bool
+    ensures { result ≡ may_be_path word.now }
+{
     word == "-" || !word.starts_with('-')
 }
