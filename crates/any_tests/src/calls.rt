@@ -4,6 +4,7 @@ ghost use Rattle.std.specs.Prelude.{◌≡◌, All};
 ghost use Rattle.uni_any.specs.Belongs.{IsSeatOf};
 
 use crate::seats::{is_row, last_two, opened};
+use parted_map::{MapInv, PartedMap, Text};
 use ready_objects::Spoken;
 use seq_object::SeqObject;
 use stack::{Stack, StackInv, StackResp, StackState};
@@ -120,6 +121,33 @@ fn two_seats_in_turn(rt: HostRuntime) -> Result<(), Fail> {
     assert!(rt; newest(alloc, &last.state)?.as_slice() == b"5".as_slice());
     assert!(rt; is_row(&last.rows, 0, 3, Some(StackResp::Pushed)));
     assert!(rt; is_row(&last.rows, 1, 3, Some(StackResp::Popped(6))));
+    Ok(())
+}
+
+/// `a` and `A` are in the same part.
+#[test]
+fn a_map_in_parts(rt: HostRuntime) -> Result<(), Fail> {
+    let alloc = rt.alloc();
+    let (shared, mut seats) = opened(&rt, alloc, PartedMap, 2, 5);
+    let (mut first, mut second) = last_two(&rt, &shared, &mut seats);
+    let inv = MapInv::Get(Text::of(alloc, b"a")?);
+    answers(&rt, alloc, &shared, &mut first, inv, None, 1);
+    let inv = MapInv::Insert(Text::of(alloc, b"a")?, 7);
+    answers(&rt, alloc, &shared, &mut first, inv, None, 2);
+    let inv = MapInv::Insert(Text::of(alloc, b"A")?, 8);
+    answers(&rt, alloc, &shared, &mut second, inv, None, 3);
+    let inv = MapInv::Insert(Text::of(alloc, b"a")?, 9);
+    answers(&rt, alloc, &shared, &mut second, inv, Some(7), 4);
+    let inv = MapInv::Insert(Text::of(alloc, b"")?, 0);
+    answers(&rt, alloc, &shared, &mut first, inv, None, 5);
+    let inv = MapInv::Remove(Text::of(alloc, b"A")?);
+    answers(&rt, alloc, &shared, &mut second, inv, Some(8), 6);
+    let inv = MapInv::Remove(Text::of(alloc, b"A")?);
+    answers(&rt, alloc, &shared, &mut second, inv, None, 7);
+    let inv = MapInv::Get(Text::of(alloc, b"a")?);
+    answers(&rt, alloc, &shared, &mut first, inv, Some(9), 8);
+    let inv = MapInv::Get(Text::of(alloc, b"")?);
+    answers(&rt, alloc, &shared, &mut first, inv, Some(0), 9);
     Ok(())
 }
 

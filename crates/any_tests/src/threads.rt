@@ -1,11 +1,11 @@
-//! Calls of four threads at the same time, on a stack and on a directory of names. A fifth seat closes.
+//! Calls of four threads at the same time, on a stack and on a map of texts in parts. A fifth seat closes.
 
 ghost use Rattle.std.specs.Prelude.{All};
 ghost use Rattle.uni_any.specs.Belongs.{IsSeatOf};
 
 use crate::calls::newest;
 use crate::seats::{last, opened};
-use ready_objects::{Amount, DirectoryInv, DirectoryObject, DirectoryResp, Name};
+use parted_map::{MapInv, PartedMap, Text};
 use stack::{Stack, StackInv, StackResp};
 use std::alloc::Global;
 use std::process::Abort;
@@ -122,22 +122,22 @@ fn four_threads_on_a_stack(rt: HostRuntime) -> Result<(), Fail> {
     Ok(())
 }
 
-/// A thread gives one name the values from this one on: the replies, fewer where memory was refused.
-fn puts(
+/// A thread gives one text the numbers from this one on: the number before each, fewer where memory was refused.
+fn inserts(
     alloc: Global,
-    shared: &AnyShared<DirectoryObject>,
-    mut seat: AnySeat<DirectoryObject>,
+    shared: &AnyShared<PartedMap>,
+    mut seat: AnySeat<PartedMap>,
     first: u64,
-) -> Vec<DirectoryResp>
+) -> Vec<Option<u64>>
     requires { IsSeatOf shared.now seat }
 {
     let mut replies = Vec::new(alloc);
     for i in 0..CALLS {
-        let (Some(name), Some(value)) = (Name::read(b"shared"), Amount::new(first.wrapping_add(i)))
-        else {
+        let Ok(text) = Text::of(alloc, b"shared") else {
             continue;
         };
-        if let Ok(answer) = seat.apply(alloc, shared, DirectoryInv::Put(name, value)) {
+        let inv = MapInv::Insert(text, first.wrapping_add(i));
+        if let Ok(answer) = seat.apply(alloc, shared, inv) {
             let _ = replies.push(answer.reply);
         }
     }
@@ -145,54 +145,46 @@ fn puts(
 }
 
 /// What threads with these seats are answered; `None` where memory was refused.
-fn on_a_directory<R: Threads + Sync>(
+fn on_a_map<R: Threads + Sync>(
     rt: &R,
     alloc: Global,
-    shared: &AnyShared<DirectoryObject>,
-    seats: Vec<AnySeat<DirectoryObject>>,
-) -> Option<Vec<Vec<DirectoryResp>>>
+    shared: &AnyShared<PartedMap>,
+    seats: Vec<AnySeat<PartedMap>>,
+) -> Option<Vec<Vec<Option<u64>>>>
     requires { All (IsSeatOf shared.now) seats.items }
 {
     let turns = AtomicU64::new(0);
     thread::map_vec(
         rt,
         seats,
-        &|seat: AnySeat<DirectoryObject>| -> Vec<DirectoryResp>
+        &|seat: AnySeat<PartedMap>| -> Vec<Option<u64>>
             requires { IsSeatOf shared.now seat }
-        { puts(alloc, shared, seat, next_first(&turns)) },
+        { inserts(alloc, shared, seat, next_first(&turns)) },
     )
     .ok()
 }
 
-/// Unmarks the values that were there before a thread's; how many of its replies say that the name is new. `None`
-/// where one wasn't marked.
-fn unmark_before(marks: &mut [bool], replies: &[DirectoryResp]) -> Option<u64> {
+/// Unmarks the numbers that were there before others; how many replies say that there was none. `None` where a number
+/// wasn't marked.
+fn unmark_before(marks: &mut [bool], replies: &[Option<u64>]) -> Option<u64> {
     let mut new = 0u64;
     for reply in replies {
         match *reply {
-            DirectoryResp::New => new = new.saturating_add(1),
-            DirectoryResp::Was(value) if unmark(marks, value.number()) => {}
-            _ => return None,
+            None => new = new.saturating_add(1),
+            Some(number) if unmark(marks, number) => {}
+            Some(_) => return None,
         }
     }
     Some(new)
 }
 
-/// Unmarks the value that was found; whether it was marked.
-fn unmark_found(marks: &mut [bool], reply: DirectoryResp) -> bool {
-    match reply {
-        DirectoryResp::Found(value) => unmark(marks, value.number()),
-        _ => false,
-    }
-}
-
-/// The name is new once. Each value is the one before another one, once, but for the one that is left.
+/// The text is new once. Each number is the one before another one, once, but for the one that is left.
 #[test]
-fn four_threads_on_a_directory(rt: HostRuntime) -> Result<(), Fail> {
+fn four_threads_on_a_map(rt: HostRuntime) -> Result<(), Fail> {
     let alloc = rt.alloc();
-    let (shared, mut seats) = opened(&rt, alloc, DirectoryObject, THREADS + 1, CALLS);
+    let (shared, mut seats) = opened(&rt, alloc, PartedMap, THREADS + 1, CALLS);
     let mut closer = last(&rt, &shared, &mut seats);
-    let Some(all) = on_a_directory(&rt, alloc, &shared, seats) else {
+    let Some(all) = on_a_map(&rt, alloc, &shared, seats) else {
         panic!(rt; "out of memory")
     };
     let mut marks = vec![in alloc; true; (THREADS * CALLS) as usize]?;
@@ -200,18 +192,15 @@ fn four_threads_on_a_directory(rt: HostRuntime) -> Result<(), Fail> {
     for replies in all.iter() {
         assert!(rt; replies.len() as u64 == CALLS);
         let Some(more) = unmark_before(&mut marks, replies) else {
-            panic!(rt; "a value that was never there")
+            panic!(rt; "a number that was never there")
         };
         new = new.saturating_add(more);
     }
     assert!(rt; new == 1);
-    let Some(name) = Name::read(b"shared") else {
-        panic!(rt; "no name")
-    };
-    let Ok(answer) = closer.apply(alloc, &shared, DirectoryInv::Get(name)) else {
+    let Ok(answer) = closer.apply(alloc, &shared, MapInv::Get(Text::of(alloc, b"shared")?)) else {
         panic!(rt; "no answer")
     };
-    assert!(rt; unmark_found(&mut marks, answer.reply));
+    assert!(rt; unmark_before(&mut marks, &[answer.reply]) == Some(0));
     assert!(rt; !marks.contains(&true));
     assert!(rt; answer.version <= THREADS * CALLS + 1);
     Ok(())
