@@ -51,6 +51,26 @@ impl Object for Deep {
     }
 }
 
+/// A stack of which the newest number is read.
+struct Looks(Vec<u64>);
+
+impl Object for Looks {
+    type Inv = ();
+    fn start(size: u64) -> Looks {
+        Looks((0..size).collect())
+    }
+    fn drawn(_size: u64, _word: u64, _number: u64) {}
+    fn changes(_inv: &()) -> bool {
+        false
+    }
+    fn read(&self, _inv: &()) -> u64 {
+        self.0.last().copied().unwrap_or(0)
+    }
+    fn apply(&mut self, inv: &()) -> u64 {
+        self.read(inv)
+    }
+}
+
 struct Texts(BTreeMap<String, u64>);
 
 enum Ask {
@@ -144,6 +164,7 @@ fn main() {
     for _ in 0..number(6) {
         let taken = match words[2].as_str() {
             "texts" => round::<Texts>(&words[1], plan),
+            "looks" => round::<Looks>(&words[1], plan),
             _ => round::<Deep>(&words[1], plan),
         };
         println!("{taken}");

@@ -148,6 +148,10 @@ fn a_map_in_parts(rt: HostRuntime) -> Result<(), Fail> {
     answers(&rt, alloc, &shared, &mut first, inv, Some(9), 8);
     let inv = MapInv::Get(Text::of(alloc, b"")?);
     answers(&rt, alloc, &shared, &mut first, inv, Some(0), 9);
+    assert!(rt; second.refresh(&shared) == Ok(9));
+    let map = &second.version().state;
+    assert!(rt; map.number_of(&Text::of(alloc, b"a")?) == Some(9));
+    assert!(rt; map.number_of(&Text::of(alloc, b"A")?) == None);
     Ok(())
 }
 
@@ -178,6 +182,30 @@ fn versions_are_followed(rt: HostRuntime) {
         StackResp::Popped(7),
         2,
     );
+}
+
+/// A seat keeps the version that it found, whatever the others do, until it looks again.
+#[test]
+fn reading_is_no_call(rt: HostRuntime) -> Result<(), Fail> {
+    let alloc = rt.alloc();
+    let (shared, mut seats) = opened(&rt, alloc, Stack, 2, 1);
+    let (mut first, mut second) = last_two(&rt, &shared, &mut seats);
+    assert!(rt; second.refresh(&shared) == Ok(0));
+    let inv = StackInv::Push(7);
+    answers(&rt, alloc, &shared, &mut first, inv, StackResp::Pushed, 1);
+    assert!(rt; newest(alloc, &second.version().state)?.as_slice() == b"empty".as_slice());
+    for _ in 0..3 {
+        assert!(rt; second.refresh(&shared) == Ok(1));
+        assert!(rt; newest(alloc, &second.version().state)?.as_slice() == b"7".as_slice());
+    }
+    assert!(rt; is_row(&second.version().rows, 0, 1, Some(StackResp::Pushed)));
+    assert!(rt; is_row(&second.version().rows, 1, 0, None));
+    let inv = StackInv::Push(8);
+    answers(&rt, alloc, &shared, &mut second, inv, StackResp::Pushed, 2);
+    assert!(rt; newest(alloc, &second.version().state)?.as_slice() == b"8".as_slice());
+    assert!(rt; first.refresh(&shared) == Ok(2));
+    assert!(rt; newest(alloc, &first.version().state)?.as_slice() == b"8".as_slice());
+    Ok(())
 }
 
 #[test]

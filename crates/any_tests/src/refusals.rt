@@ -161,6 +161,7 @@ fn a_call_that_was_refused_is_helped(rt: HostRuntime) {
     let again = first.apply(alloc, &shared, Asked { number: 8 });
     assert!(rt; again == Err(AnyFault::Pending));
     assert!(rt; first.follows(&shared, 0) == Err(CallPending));
+    assert!(rt; first.refresh(&shared) == Err(CallPending));
     assert!(rt; called(&rt, alloc, &shared, &mut second, 6) == (5, 1));
     let resumed = first.resume(alloc, &shared);
     assert!(rt;

@@ -9,7 +9,7 @@ ghost use Rattle.std.specs.Map.{lookup, remove_entry};
 ghost use Rattle.std.specs.Str.{bytes_eq};
 ghost use Rattle.seq_object.proofs.Cases.{exact_by_cases, itself_named, itself_one, itself_text, only_named, only_one};
 ghost use Rattle.seq_object.proofs.Cases.{only_text, other};
-ghost use Rattle.parted_map.specs.PartedMap.{part_of, parted_map, put};
+ghost use Rattle.parted_map.specs.PartedMap.{number_in, part_of, parted_map, put};
 ghost use Rattle.parted_map.specs.declared.MapInv.TheVariants.{Get, Insert, Remove};
 
 use seq_object::SeqObject;
@@ -213,6 +213,13 @@ impl Part {
 }
 
 impl MapState {
+    /// The number of a text, if it has one.
+    pub fn number_of(&self, text: &Text) -> Option<u64>
+        ensures { result ≡ number_in self.now text.now }
+    {
+        self.parts[part_of(text)].number_of(text)
+    }
+
     /// The same state, which shares all parts.
     fn share(&self) -> Result<MapState, AllocError>
         ensures { IfOk result (λ state. state ≡ self.now) }
@@ -262,21 +269,16 @@ impl SeqObject for PartedMap {
         inv: &MapInv,
     ) -> Result<(MapState, Option<u64>), AllocError> {
         match inv {
-            MapInv::Get(text) => {
-                let number = state.parts[part_of(text)].number_of(text);
-                Ok((state.share()?, number))
-            }
+            MapInv::Get(text) => Ok((state.share()?, state.number_of(text))),
             MapInv::Insert(text, number) => {
                 let at = part_of(text);
-                let part = &state.parts[at];
-                let next = part.with(text, *number)?;
-                Ok((state.with_part(alloc, at, next)?, part.number_of(text)))
+                let next = state.parts[at].with(text, *number)?;
+                Ok((state.with_part(alloc, at, next)?, state.number_of(text)))
             }
             MapInv::Remove(text) => {
                 let at = part_of(text);
-                let part = &state.parts[at];
-                let next = part.without(text)?;
-                Ok((state.with_part(alloc, at, next)?, part.number_of(text)))
+                let next = state.parts[at].without(text)?;
+                Ok((state.with_part(alloc, at, next)?, state.number_of(text)))
             }
         }
     }

@@ -1,15 +1,15 @@
 -- Each step of an execution is one of the table's steps, and so keeps a board whose history is that of the execution.
-use Rattle.uni_any.proofs.Vocabulary.{Act, AreFew, AreSlots, AreWords, Asked, Block, Board, HasAnnounced, HasAsked, HasBrought, HasClosed, HasLaid, HasLaidOpen, HasLooked, HasOpened, HasStarted, HasStartedAs, Gives, Image, IsLeft, Takes, IsOf, IsShown, IsSound, Linearize, List, Local, Made, Mail, Mine, Posting, Reading, Ready, Sequential, Sizes, Some, State, Tells, Valid, View, Writing, [], ap, append-nil, append_assoc, applied_in, arith, block_frame, call_frame, carried_after, either, eqb, exchanged, false, get_elem?, gives, goes, has_block, homes_after, inl, inr, keeps, knows, length, map, none, number_cases, refl, rest, returns, row_in, set_at, slice_index, slice_set, slot_of, some, some-injective, span, step, subst, sym, taken_in, takes, told, took, true, version_in, word_of, ℕ, ◌*◌, ◌++◌, ◌+◌, ◌-◌, ◌/◌, ◌<◌, ◌∙◌, ◌∷◌, ◌≡◌}
+use Rattle.uni_any.proofs.Vocabulary.{Act, AreFew, AreSlots, AreWords, Asked, Block, Board, Gives, HasAnnounced, HasBrought, HasClosed, HasLaid, HasLaidOpen, HasLooked, HasOpened, HasStarted, HasViewed, Image, IsLeft, IsOf, IsShown, IsSound, Linearize, List, Local, Made, Mail, Mine, Posting, Reading, Ready, Sequential, Sizes, Some, State, Takes, TakesVersion, Tells, Valid, View, Writing, [], ap, append-nil, append_assoc, applied_in, arith, block_frame, call_frame, carried_after, either, eqb, exchanged, false, get_elem?, gives, goes, has_block, homes_after, inl, inr, keeps, length, map, none, number_cases, refl, rest, returns, row_in, set_at, slice_index, slice_set, slot_of, some, some-injective, span, step, subst, sym, taken_in, takes, told, took, true, views, word_of, ℕ, ◌*◌, ◌++◌, ◌+◌, ◌-◌, ◌/◌, ◌<◌, ◌∙◌, ◌∷◌, ◌≡◌, ◌≢◌}
 use Rattle.atomic_table.specs.Table.{chain}
 use Rattle.atomic_table.specs.Table.{Act as Handling}
 use mathlib.Core.Option.{Option as Maybe}
 use Rattle.uni_any.specs.Execution.{Execution, Moment, Next, Reads, after, effect_of, history, last_moment}
-use Rattle.uni_any.specs.Execution.Next.{OpenCall, CloseCall, Announce, Start, Return, Pass, Apply, Take, OpenBlock, CloseBlock, Bring, Fail, Follow}
+use Rattle.uni_any.specs.Execution.Next.{OpenCall, CloseCall, Announce, Start, Return, Pass, Apply, Take, OpenBlock, CloseBlock, Bring, Fail, View as Views}
 use Rattle.uni_any.specs.Execution.Execution.{Ends, Step as Steps}
 use Rattle.uni_any.specs.Laws.{Invokes, IsSingle, MakesNoAct, Moves, Responds, TakesEffect}
 use Rattle.uni_any.proofs.Acts.{none_returned, one_returned}
 use Rattle.uni_any.proofs.Announcing.{announces}
-use Rattle.uni_any.proofs.Asking.{asks}
+use Rattle.uni_any.proofs.Viewing.{shows}
 use Rattle.uni_any.proofs.Effects.{effects_are}
 use Rattle.uni_any.proofs.Bringing.{brings_in}
 use Rattle.uni_any.proofs.Laying.{lays, lays_open}
@@ -132,21 +132,23 @@ module _ {O I S R : Type 0} (meaning : O → Sequential S I R) (o : O) (sizes : 
     same_mail homes k y z one two = some-injective y z (some-injective (some y) (some z) (sym one ∙ two))
 
     -- what a load of S finds is what the process reads
-    pub read_as : (m : Moment I S R) (p : ℕ) (inv : I) (tries : ℕ) (base : Image S R) (homes : List (Maybe (Mail I (Block S R)))) → Reads object sizes m p (m.local p) base homes
+    pub read_as : (m : Moment I S R) (p : ℕ) (base : Image S R) (homes : List (Maybe (Mail I (Block S R)))) → Reads object sizes m p (m.local p) base homes
         → (v : View O I S R) (a : Handling (Mail I (Block S R))) → IsSingle a → Valid m.homes [] a
-        → (said : HasStartedAs sizes inv tries (view_at m.local p, []) (slice_index m.words 0) (v, carried_after [] a))
-        → (said.0 ≡ base) × (v.known.local ≡ said.1) × (homes_after m.homes [] a ≡ homes)
-    read_as m p inv tries base homes reads v a one valid said = elim (number_cases (slice_index m.words 0) (m.local p).word) [
-      | inl same ↦ (let x = said.5 same.0 in let y = reads.same same.0 in let b = kept_by m p said.1 v a one x.1 in (x.0 ∙ sym y.0, b.0, b.1 ∙ sym y.1))
+        → (base' : Image S R) (l' : Local I S R)
+        → (slice_index m.words 0 ≡ (m.local p).word → (base' ≡ (m.local p).base) × IsLeft (view_at m.local p, []) l' (v, carried_after [] a))
+        → (slice_index m.words 0 ≢ (m.local p).word → TakesVersion sizes (view_at m.local p, []) l' (slice_index m.words 0) base' (v, carried_after [] a))
+        → (base' ≡ base) × (v.known.local ≡ l') × (homes_after m.homes [] a ≡ homes)
+    read_as m p base homes reads v a one valid base' l' there taken = elim (number_cases (slice_index m.words 0) (m.local p).word) [
+      | inl same ↦ (let x = there same.0 in let y = reads.same same.0 in let b = kept_by m p l' v a one x.1 in (x.0 ∙ sym y.0, b.0, b.1 ∙ sym y.1))
       | inr other ↦
-          let x = said.6 other.0 in
+          let x = taken other.0 in
           let y = reads.other other.0 in
           let slot : ℕ → ℕ = (λ c. slot_of sizes (block_frame sizes c) p) in
           let c_is : x.0 ≡ y.0 = (let e = x.2 in let d = y.2 in omega arith) in
-          let b = taken_by m p said.1 (slot x.0) x.1 v a one valid x.5 in
+          let b = taken_by m p l' (slot x.0) x.1 v a one valid x.5 in
           let mails : x.1 ≡ y.1 = same_mail m.homes (slot y.0) x.1 y.1 (subst (λ c. get_elem? m.homes (slot c) ≡ some (some x.1)) c_is b.2) y.4 in
-          let both : Made said.0 ≡ Made base = sym x.4 ∙ ap told mails ∙ y.3 in
-          let same : said.0 ≡ base = cc in
+          let both : Made base' ≡ Made base = sym x.4 ∙ ap told mails ∙ y.3 in
+          let same : base' ≡ base = cc in
           (same, b.0, b.1 ∙ ap (λ c. slice_set m.homes (slot c) none) c_is ∙ sym y.5)
     ]
 
@@ -197,13 +199,17 @@ module _ {O I S R : Type 0} (meaning : O → Sequential S I R) (o : O) (sizes : 
         refl
         (λ v a one valid said. given_by m p (goes (m.local p) (Writing inv tries image (r + 1) false)) k mail v a one (said inv tries r image at))
         (λ g words sound made e. e)
-    step_holds m acts h p inside (Follow at) =
+    step_holds m acts h p inside (Views base homes at reads) =
         let st = step 0 0 0 0 none in
         let me : Mine O I S R = (view_at m.local p, []) in
-        moved m acts h p inside (Follow at) [] (λ y. y) (λ g found. MakesNoAct) (λ found me'. HasAsked st me found me')
-        (asks meaning o sizes p me p (of m p []) at st)
+        let s = slice_index m.words 0 in
+        moved m acts h p inside (Views base homes at reads) [] (λ y. y) (λ g found. MakesNoAct) (λ found me'. HasViewed meaning st me found me')
+        (shows meaning o sizes p me p (of m p []) at st)
         refl
-        (λ v a one valid said. kept_by m p (knows (m.local p) (version_in (slice_index m.words 0))) v a one (said at).1)
+        (λ v a one valid said.
+        let t = said at in
+        let b = read_as m p base homes reads v a one valid t.0 (views (m.local p) s t.0) t.3 t.4 in
+        (b.1 ∙ ap (λ i. views (m.local p) s i) b.0, b.2))
         (λ g words sound made e. e)
     step_holds m acts h p inside (Pass inv tries r image at r_in none_more) =
         let st = step 0 0 0 0 none in
@@ -263,7 +269,7 @@ module _ {O I S R : Type 0} (meaning : O → Sequential S I R) (o : O) (sizes : 
         refl
         (λ v a one valid said.
         let t = said inv tries waits in
-        let b = read_as m p inv tries base homes reads v a one valid t in
+        let b = read_as m p base homes reads v a one valid t.0 t.1 t.5 t.6 in
         let on = t.4.1 (λ e. out (ap (λ (i : Image S R). applied_in i p) (sym b.0) ∙ e)) in
         (b.1 ∙ on.1 ∙ ap (λ i. goes (has_block (m.local p) (slice_index m.words 0) i) (Reading inv tries 0 i)) b.0, b.2))
         (λ g words sound made e. e ∙ none_returned p (m.local p) (goes (has_block (m.local p) (slice_index m.words 0) base) (Reading inv tries 0 base)) refl)
@@ -275,7 +281,7 @@ module _ {O I S R : Type 0} (meaning : O → Sequential S I R) (o : O) (sizes : 
         refl
         (λ v a one valid said.
         let t = said inv tries waits in
-        let b = read_as m p inv tries base homes reads v a one valid t in
+        let b = read_as m p base homes reads v a one valid t.0 t.1 t.5 t.6 in
         let on = t.4.0 (ap (λ (i : Image S R). applied_in i p) b.0 ∙ is_in) in
         let both : Some on.0 ≡ Some reply = sym on.1 ∙ ap (λ (i : Image S R). (row_in i p).reply) b.0 ∙ has in
         let same : on.0 ≡ reply = cc in

@@ -11,11 +11,12 @@ pub mod Posting
 pub mod Laying
 pub mod Sums
 pub mod Takings
+pub mod Present
 pub mod Starting
 pub mod Batches
 pub mod Effects
 pub mod Looking
-pub mod Asking
+pub mod Viewing
 pub mod Bringing
 pub mod Opening
 pub mod Seating

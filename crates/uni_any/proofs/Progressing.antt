@@ -1,8 +1,8 @@
 -- A call of an execution takes at most so many steps, and can always take one.
-use Rattle.uni_any.proofs.Vocabulary.{Act, AreFew, Asked, Block, Bool, GoesOn, Image, IsOf, IsShown, IsStageAt, List, Local, Made, Mail, Mine, Posting, Reading, Ready, Sequential, Sizes, Stage, Writing, Idle, [], ap, applied_in, arith, block_frame, call_frame, false, frames_of, get_elem?, goes, has_block, if◌then◌else◌, inl, inr, length, lt_cases, none, number_cases, refl, slice_index, slice_set, slot_of, some, span, step, subst, suc, sym, taken_in, taken_of, took, true, word_of, zero, ℕ, ⊎_elim, ◌*◌, ◌++◌, ◌+◌, ◌-◌, ◌/◌, ◌<◌, ◌==◌, ◌∙◌, ◌≡◌, ◌≢◌, ◌≤◌, ◌⊎◌}
+use Rattle.uni_any.proofs.Vocabulary.{Act, AreFew, Block, Bool, GoesOn, Image, IsOf, IsShown, IsStageAt, List, Local, Mail, Mine, Posting, Reading, Ready, Sequential, Sizes, Stage, Writing, Idle, [], ap, applied_in, arith, block_frame, call_frame, false, frames_of, get_elem?, goes, has_block, if◌then◌else◌, inl, inr, length, lt_cases, none, number_cases, refl, slice_index, slice_set, slot_of, some, span, step, subst, suc, sym, taken_in, taken_of, took, true, word_of, zero, ℕ, ⊎_elim, ◌*◌, ◌++◌, ◌+◌, ◌-◌, ◌/◌, ◌<◌, ◌==◌, ◌∙◌, ◌≡◌, ◌≢◌, ◌≤◌, ◌⊎◌}
 use mathlib.Core.Option.{Option as Maybe}
 use Rattle.uni_any.specs.Execution.{Execution, Moment, Next, Reads, effect_of, history, last_moment, opened_moment}
-use Rattle.uni_any.specs.Execution.Next.{OpenCall, CloseCall, Announce, Start, Return, Pass, Apply, Take, OpenBlock, CloseBlock, Bring, Fail, Follow}
+use Rattle.uni_any.specs.Execution.Next.{OpenCall, CloseCall, Announce, Start, Return, Pass, Apply, Take, OpenBlock, CloseBlock, Bring, Fail, View as Views}
 use Rattle.uni_any.specs.Execution.Execution.{Ends, Step as Steps}
 use Rattle.uni_any.specs.Progress.{HasOwner, KeepsBound, NeverBlocks, StepOfCall, counted, one_more, steps_of_call}
 use Rattle.uni_any.proofs.Executing.{Holds, history_holds, of, read_as, seat_at, shown, state_at, step_holds, taken_by, view_at}
@@ -70,7 +70,7 @@ module _ {O I S R : Type 0} (meaning : O → Sequential S I R) (o : O) (sizes : 
         let to = starts meaning o sizes p me p (of meaning o sizes few m p []) inv tries waits (step 0 0 0 0 none)
         (state_at meaning o sizes m) h.board m.local (λ q. q) (shown meaning o sizes few m acts h) (seat_at meaning o sizes few m p inside) in
         let said = to.7 inv tries waits in
-        let b = read_as meaning o sizes few m p inv tries base homes reads to.0 to.1 to.4 to.5 said in
+        let b = read_as meaning o sizes few m p base homes reads to.0 to.1 to.4 to.5 said.0 said.1 said.5 said.6 in
         elim (lt_cases tries 2) [
           | inl below ↦ below.0
           | inr above ↦ absurd (out (ap (λ (i : Image S R). applied_in i p) (sym b.0) ∙ said.3 above.0))
@@ -119,7 +119,7 @@ module _ {O I S R : Type 0} (meaning : O → Sequential S I R) (o : O) (sizes : 
       let w' = subst (λ k. IsWithin n k taken) at w in let x = w'.3 in omega (arith, x)
   within_after m acts h p inside (Fail inv tries image at other) taken w =
       let w' = subst (λ k. IsWithin n k taken) at w in let x = w'.3 in let e = ready_after n tries in omega (arith, x, e)
-  within_after m acts h p inside (Follow at) taken w = w
+  within_after m acts h p inside (Views base homes at reads) taken w = w
 
   within_end : (p : ℕ) → p < sizes.processes → {m : Moment I S R} (acts : List (Act I R)) (taken : ℕ) → Holds meaning o sizes m acts → IsWithin n (m.local p).stage taken → (e : Execution object sizes m)
       → IsWithin n ((last_moment object sizes e).local p).stage (steps_of_call object sizes p taken e)

@@ -25,7 +25,7 @@ pub use Rattle.uni_any.specs.Content.{Content, applied_in, applied_of, blank, im
 pub use Rattle.uni_any.specs.Content.Content.{Asked, Made, Nothing}
 pub use Rattle.uni_any.specs.Invariant.{AreHome, HasSeen, IsAt, IsBoard, IsClosed, IsHome, IsLaid, IsOpen, IsReader, IsSound, IsStageAt, IsTrying, IsWhole, taken_of}
 pub use Rattle.uni_any.specs.Order.{AreOrdered, IsOrdered, StandsIn}
-pub use Rattle.uni_any.specs.Plays.{Gives, GoesOn, HasAnnounced, HasAsked, HasBrought, HasClosed, HasLaid, HasLaidOpen, HasLooked, HasOpened, HasStarted, HasStartedAs, IsLaying, IsLeft, IsOpening, IsPending, Mine, Takes, at_rest, ending, first_alone, first_view, goes, has_block, knows, local_of, made_of, others, own_block, own_call, returns, stage_of, took, version_in, with_local}
+pub use Rattle.uni_any.specs.Plays.{Gives, GoesOn, HasAnnounced, HasBrought, HasClosed, HasLaid, HasLaidOpen, HasLooked, HasOpened, HasStarted, HasStartedAs, HasViewed, IsLaying, IsLeft, IsOpening, IsPending, Mine, Takes, TakesVersion, at_rest, calls_told, ending, first_alone, first_view, goes, has_block, local_of, made_of, others, own_block, own_call, returns, stage_of, took, version_in, views, with_local}
 pub use Rattle.uni_any.specs.Shown.{AreSlots, AreWords, IsShown, ShowsBoard, Tells}
 pub use Rattle.uni_any.specs.Standing.{HoldsBlock, HoldsCall, IsOf}
 pub use Rattle.uni_any.specs.declared.block.Block.{Block}

@@ -71,6 +71,10 @@ module _ {O I S R : Type 0} where
   abbrev pub version_of : AnySeat O S I R → ℕ
   version_of seat = seat.seat.me.0.known.local.after
 
+  -- the version of the object that a seat has
+  abbrev pub version_seen : AnySeat O S I R → Image S R
+  version_seen seat = image_held seat.held
+
   -- what a seat tells of its process
   abbrev pub known_calls : AnySeat O S I R → ProcessCalls I R
   known_calls seat = record { process = process_of seat; own = own_calls seat; pending = pending_call seat }

@@ -9,7 +9,8 @@ use Rattle.uni_any.specs.declared.attempt.Draft.{Draft}
 use Rattle.uni_any.specs.declared.block.Block.{Block}
 use Rattle.uni_any.specs.declared.seat.Held.{Held}
 use Rattle.uni_any.specs.declared.seat.Seen.{Seen}
-use Rattle.uni_any.specs.Plays.{GoesOn, Mine, has_block, local_of, version_in, with_local}
+use Rattle.uni_any.specs.Final.{IsVersion}
+use Rattle.uni_any.specs.Plays.{GoesOn, Mine, calls_told, has_block, local_of, version_in, views, with_local}
 use Rattle.uni_any.specs.Invariant.{IsWhole}
 use Rattle.uni_any.specs.declared.sizes.Sizes.{Sizes}
 use Rattle.uni_any.specs.declared.view.Image.{Image}
@@ -60,6 +61,13 @@ pub record HasRead {O I S R : Type 0} (sizes : Sizes) (p : ℕ) (inv : I) (tries
   pub whole : IsWhole sizes (image_held held)
   pub fits : held.word < 4294967296 * 4294967295
   pub soon : 2 ≤ tries → applied_in (image_held held) p ≡ length (local_of me).own + 1
+
+-- A seat with no call pending has found this version, which has the state after a history in which its calls are.
+pub record HasFound {O I S R : Type 0} (object : Sequential S I R) (sizes : Sizes) (me : Mine O I S R) (held : Held S R)
+    (me' : Mine O I S R) : Type 0 where
+  pub is : IsWith me (views (local_of me) held.word (image_held held)) me'
+  pub version : IsVersion object sizes.processes (calls_told me ∷ []) (image_held held)
+  pub later : (local_of me).after ≤ version_in held.word
 
 -- the state that an attempt has so far: the one that it computed, or that of the version that it began with
 abbrev pub state_so_far : {S R : Type 0} → Draft S R → Held S R → S

@@ -11,7 +11,7 @@ use Rattle.uni_any.specs.Batch.{pending_of}
 use Rattle.uni_any.specs.Board.{block_frame, call_frame, frames_of, slot_of, span, word_of}
 use Rattle.uni_any.specs.Content.{Content.Asked, Content.Made, applied_in, row_in, taken_in, told}
 use Rattle.uni_any.specs.Invariant.{taken_of}
-use Rattle.uni_any.specs.Plays.{at_rest, goes, has_block, knows, returns, took, version_in}
+use Rattle.uni_any.specs.Plays.{at_rest, goes, has_block, returns, took, views}
 use Rattle.uni_any.specs.declared.block.Block.{Block}
 use Rattle.uni_any.specs.declared.mail.Mail.{Mail}
 use Rattle.uni_any.specs.declared.mail.Mail.TheVariants.{Empty}
@@ -134,8 +134,8 @@ module _ {S I R : Type 0} (object : Sequential S I R) (sizes : Sizes) where
           → (row_in image p).reply ≡ Some reply → Next
       Fail : (inv : I) (tries : ℕ) (image : Image S R) → mine.stage ≡ Writing inv tries image sizes.processes false
           → present ≢ mine.word → Next
-      -- between calls it is asked which version has come
-      Follow : mine.stage ≡ Idle → Next
+      -- between calls S is loaded, and the version that it names is the one that the process has then
+      View : (base : Image S R) (homes : Homes I S R) → mine.stage ≡ Idle → Reads base homes → Next
 
     -- a load of a word, by which no slot moves and no act is made
     abbrev pub load_of : (word : ℕ) → Local I S R → Effect I S R
@@ -193,7 +193,7 @@ module _ {S I R : Type 0} (object : Sequential S I R) (sizes : Sizes) where
               ++ Respond p made reply ∷ [];
         }
     effect_of (Fail inv tries image at other) = load_of 0 (goes mine (Ready inv (tries + 1)))
-    effect_of (Follow at) = load_of 0 (knows mine (version_in present))
+    effect_of (View base homes at reads) = record (load_of 0 (views mine present base)) { homes = homes }
 
   -- the moment after process p has taken a step: one word, the slots at home and its own place have changed
   abbrev pub changed : Moment I S R → (p : ℕ) → Effect I S R → Moment I S R

@@ -7,6 +7,8 @@ use Rattle.atomic_table.specs.Table.{Me, Step, rest}
 use Rattle.seq_object.specs.Sequential.{Sequential}
 use Rattle.uni_any.specs.Content.{Content.Asked, Content.Made, applied_in, nothing_taken, row_in, taken_in, told}
 use Rattle.uni_any.specs.Board.{block_frame, call_frame, first_image, slot_of}
+use Rattle.uni_any.specs.Batch.{pending_of}
+use Rattle.uni_any.specs.Final.{IsVersion, ProcessCalls}
 use Rattle.uni_any.specs.Invariant.{IsWhole, taken_of}
 use Rattle.uni_any.specs.declared.block.Block.{Block}
 use Rattle.uni_any.specs.declared.mail.Mail.{Mail}
@@ -69,9 +71,9 @@ abbrev pub returns : {I S R : Type 0} → Local I S R → I → R → Local I S 
 returns l inv reply =
     record l { stage = Idle; after = version_in l.word; own = l.own ++ ending l inv reply ∷ []; steps = l.steps + 1 }
 
--- after it has asked which version has come, and found this one
-abbrev pub knows : {I S R : Type 0} → Local I S R → (version : ℕ) → Local I S R
-knows l version = record l { after = version; steps = l.steps + 1 }
+-- after it has looked which version has come, and found this one
+abbrev pub views : {I S R : Type 0} → Local I S R → (word : ℕ) → Image S R → Local I S R
+views l word base = record l { word = word; base = base; after = version_in word; steps = l.steps + 1 }
 
 abbrev pub Mine : (O I S R : Type 0) → Type 0
 Mine O I S R = Me (Mail I (Block S R)) (View O I S R)
@@ -144,6 +146,12 @@ module _ {O I S R : Type 0} where
       (stage_of me ≡ Ready inv tries)
       ⊎ ((tries ≡ 0) × ((t : ℕ) × (r : ℕ) × (image : Image S R) × (stage_of me ≡ Reading inv t r image)))
 
+  -- it takes the block that the word names out of its slot
+  abbrev pub TakesVersion : Sizes → Mine O I S R → Local I S R → (s : ℕ) → Image S R → Mine O I S R → Type 0
+  TakesVersion sizes me l s base me' =
+      (c : ℕ) × (y : Mail I (Block S R)) × (s % 4294967296 ≡ c + 1) × (c < sizes.processes * sizes.calls)
+      × (told y ≡ Made base) × Takes me l (slot_of sizes (block_frame sizes c) me.0.known.first) y me'
+
   -- the word names the block that the process has, or another one, which it takes out of its slot
   abbrev pub HasStartedAs : Sizes → I → (tries : ℕ) → Mine O I S R → ℕ → Mine O I S R → Type 0
   HasStartedAs sizes inv tries me s me' =
@@ -152,9 +160,7 @@ module _ {O I S R : Type 0} where
       × (2 ≤ tries → applied_in base me.0.known.first ≡ length l.own + 1)
       × GoesOn (has_block l s base) me.0.known.first inv tries base l'
       × (s ≡ l.word → (base ≡ l.base) × IsLeft me l' me')
-      × (s ≢ l.word → (c : ℕ) × (y : Mail I (Block S R)) × (s % 4294967296 ≡ c + 1)
-      × (c < sizes.processes * sizes.calls)
-      × (told y ≡ Made base) × Takes me l' (slot_of sizes (block_frame sizes c) me.0.known.first) y me')
+      × (s ≢ l.word → TakesVersion sizes me l' s base me')
       × (s < 4294967296 * 4294967295)
 
   abbrev pub HasStarted : Step (Mail I (Block S R)) → Mine O I S R → ℕ → Mine O I S R → Type 0
@@ -208,8 +214,20 @@ module _ {O I S R : Type 0} where
       × IsLeft me (returns (has_block l step.second image) inv x) me')
       × (found ≢ l.word → IsLeft me (goes l (Ready inv (tries + 1))) me')
 
-  -- a process with no call pending asks which version has come
-  abbrev pub HasAsked : Step (Mail I (Block S R)) → Mine O I S R → ℕ → Mine O I S R → Type 0
-  HasAsked step me s me' =
-      stage_of me ≡ Idle → ((local_of me).after ≤ version_in s)
-      × IsLeft me (knows (local_of me) (version_in s)) me'
+  -- what a process tells of its calls
+  abbrev pub calls_told : Mine O I S R → ProcessCalls I R
+  calls_told me = record {
+    process = me.0.known.first;
+    own = (local_of me).own;
+    pending = pending_of (stage_of me);
+  }
+
+  -- A process with no call pending looks which version has come. The word names the block that it has, or another one,
+  -- which it takes out of its slot. This is a version of the object, in whose history its calls are.
+  abbrev pub HasViewed : (O → Sequential S I R) → Step (Mail I (Block S R)) → Mine O I S R → ℕ → Mine O I S R → Type 0
+  HasViewed meaning step me s me' =
+      stage_of me ≡ Idle → let l = local_of me in let sizes = me.0.known.sizes in
+      (base : Image S R) × IsVersion (meaning me.0.object) sizes.processes (calls_told me ∷ []) base
+      × (l.after ≤ version_in s)
+      × (s ≡ l.word → (base ≡ l.base) × IsLeft me (views l s base) me')
+      × (s ≢ l.word → TakesVersion sizes me (views l s base) s base me')

@@ -4,7 +4,7 @@ use Rattle.seq_object.specs.Sequential.{Sequential}
 use Rattle.uni_any.specs.Content.{Content.Asked, Content.Made, told}
 use Rattle.uni_any.specs.Execution.{Execution, Moment, Next, last_moment, opened_moment}
 use Rattle.uni_any.specs.Execution.Execution.{Ends, Step}
-use Rattle.uni_any.specs.Execution.Next.{OpenCall, Start, Return, Follow}
+use Rattle.uni_any.specs.Execution.Next.{OpenCall, Start, Return, View}
 use Rattle.uni_any.specs.declared.block.Block.{Block}
 use Rattle.uni_any.specs.declared.mail.Mail.{Mail}
 use Rattle.uni_any.specs.declared.sizes.Sizes.{Sizes}
@@ -19,13 +19,13 @@ one_more (Reading inv tries r image) taken = 1
 one_more stage taken = taken + 1
 
 module _ {S I R : Type 0} (object : Sequential S I R) (sizes : Sizes) where
-  -- Where a process has taken so many word steps for its latest call, so many with one more. To ask which version has
+  -- Where a process has taken so many word steps for its latest call, so many with one more. To look which version has
   -- come is no step of a call.
   abbrev pub counted : (m : Moment I S R) (p : ℕ) → Next object sizes m p (m.local p) → (taken : ℕ) → ℕ
   counted m p (OpenCall inv own r mail asks opens inside few lies) taken = one_more (m.local p).stage taken
   counted m p (Start inv tries base homes waits reads out) taken = one_more (m.local p).stage taken
   counted m p (Return inv tries base homes reply waits reads is_in has) taken = one_more (m.local p).stage taken
-  counted m p (Follow at) taken = taken
+  counted m p (View base homes at reads) taken = taken
   counted m p next taken = taken + 1
 
   -- how many word steps process p has taken for its latest call at the end, where it had taken so many before

@@ -1,5 +1,5 @@
 -- Where a seat stands, as its functions say it.
-use Rattle.std.specs.Prelude.{◌≡◌, ℕ, ◌+◌, ◌*◌, ◌∷◌}
+use Rattle.std.specs.Prelude.{◌≡◌, ℕ, ◌+◌, ◌*◌, ◌%◌, ◌<◌, ◌∷◌}
 use Rattle.atomic_table.specs.Table.{rest}
 use Rattle.uni_any.specs.Content.{Content.Asked, Content.Made, told}
 use Rattle.uni_any.specs.Board.{block_frame, call_frame, slot_of}
@@ -27,3 +27,9 @@ abbrev pub HoldsBlock : {O I S R : Type 0} → Sizes → (p r : ℕ) → Image S
 HoldsBlock {O} {I} {S} {R} sizes p r image me =
     (y : Mail I (Block S R)) × (told y ≡ Made image)
     × (me.1 ≡ (slot_of sizes (block_frame sizes (p * sizes.calls + made_of me)) r, y) ∷ rest me.1)
+
+-- it took the slot of the block that s names last, which holds this version
+abbrev pub HoldsVersion : {O I S R : Type 0} → Sizes → (p s : ℕ) → Image S R → Mine O I S R → Type 0
+HoldsVersion {O} {I} {S} {R} sizes p s base me =
+    (c : ℕ) × (y : Mail I (Block S R)) × (s % 4294967296 ≡ c + 1) × (c < sizes.processes * sizes.calls)
+    × (told y ≡ Made base) × (me.1 ≡ (slot_of sizes (block_frame sizes c) p, y) ∷ rest me.1)

@@ -2,10 +2,14 @@
 ghost use Rattle.std.specs.Prelude.{◌≡◌, ◌⊎◌, ◌↔◌, ◌+◌, ◌++◌, ◌∷◌, ◌<◌};
 ghost use Rattle.std.specs.Prelude.{◌≤◌, []};
 ghost use Rattle.std.specs.Prelude.{IfOk, IsErr, IsErrOf, IsNone, IsSome, IsTrue, None, OnErr, OnOk, Some, false, true};
-ghost use Rattle.uni_any.specs.Belongs.{IsSeatOf, calls_made, calls_of, own_calls, pending_call, process_of};
-ghost use Rattle.uni_any.specs.Belongs.{sizes_of, version_of, word_steps_of};
+ghost use Rattle.uni_any.specs.Belongs.{IsSeatOf, calls_made, calls_of, known_calls, object_of, own_calls};
+ghost use Rattle.uni_any.specs.Belongs.{pending_call, process_of, processes_of, sizes_of, version_of, version_seen};
+ghost use Rattle.uni_any.specs.Belongs.{word_steps_of};
 ghost use Rattle.uni_any.specs.Calls.{call_steps, resume_steps};
+ghost use Rattle.uni_any.specs.Content.{image_of};
+ghost use Rattle.uni_any.specs.Final.{IsVersion};
 
+use crate::block::Block;
 use crate::post::owners;
 use crate::seat::{AnyAnswer, AnyFault, AnyResumeFault, AnySeat, CallPending};
 use crate::shared::AnyShared;
@@ -179,10 +183,42 @@ impl<O: SeqObject> AnySeat<O> {
         Ok(answer)
     }
 
-    /// Asks whether this version has come, by one load of the word that names the present one. The seat follows
-    /// the version that it finds then: later calls of this seat come after all calls that are in it, and their
-    /// versions are greater. The answer is `true` exactly where that version is at least the one that was
-    /// asked for.
+    /// Finds the present version, by one load of the word that names it: the answer is its number, and `version` shows
+    /// it. It takes no memory and copies nothing; the version that the seat had before is dropped.
+    ///
+    /// The seat follows that version: its later calls come after all calls that are in it, and their versions are
+    /// greater. The version has the state after the calls of a history that the atomic object accepts, in which the
+    /// seat's calls are with their replies; its rows say how many calls of each process took effect in it.
+    ///
+    /// The error says that the seat has a call pending; nothing is changed then.
+    pub fn refresh(&mut self, shared: &AnyShared<O>) -> Result<u64, CallPending>
+        requires seat { IsSeatOf shared.now self.old }
+        ensures kept { IsSeatOf shared.now self.new × (process_of self.new ≡ process_of self.old) }
+        ensures pending { IsErr result ↔ IsSome (pending_call self.old) }
+        ensures unchanged { OnErr result (self.new ≡ self.old) }
+        ensures calls { (own_calls self.new ≡ own_calls self.old)
+            × (pending_call self.new ≡ pending_call self.old) }
+        ensures told { OnOk result (IsVersion (O.sequential (object_of shared.now)) (processes_of shared.now)
+            (known_calls self.new ∷ []) (version_seen self.new)) }
+        ensures version { IfOk result (λ number. version_of self.new ≡ number) }
+        ensures later { version_of self.old ≤ version_of self.new }
+        ensures one_step { OnOk result (word_steps_of self.new ≡ word_steps_of self.old + 1) }
+    {
+        if self.pending {
+            return Err(CallPending);
+        }
+        Ok(shared.find(&mut self.seat, self.p, &mut self.held))
+    }
+
+    /// The version of the object that the seat has: that of its last answer, or the one that it found last.
+    pub fn version(&self) -> &Block<O::State, O::Resp>
+        ensures { image_of result.now ≡ version_seen self.now }
+    {
+        &self.held.block
+    }
+
+    /// Asks whether this version has come: it finds the present version, as `refresh` does. The answer is `true`
+    /// exactly where that one's number is at least the one that was asked for.
     ///
     /// A version that an answer had has come: the law `returned_has_come` says so, and no clause of this call.
     /// So whoever was told of a call's version, by whatever means, and follows it, makes its later calls come
@@ -200,10 +236,7 @@ impl<O: SeqObject> AnySeat<O> {
         ensures later { version_of self.old ≤ version_of self.new }
         ensures one_step { OnOk result (word_steps_of self.new ≡ word_steps_of self.old + 1) }
     {
-        if self.pending {
-            return Err(CallPending);
-        }
-        let present = shared.present(&mut self.seat, self.p);
+        let present = self.refresh(shared)?;
         Ok(version <= present)
     }
 }

@@ -4,13 +4,13 @@ ghost use Rattle.std.specs.Prelude.{◌≡◌, ◌≢◌, ◌+◌, ◌*◌, ◌<
 ghost use Rattle.std.specs.Arc.{arc_value};
 ghost use Rattle.uni_any.specs.Content.{applied_in, image_of, row_in, taken_in};
 ghost use Rattle.uni_any.specs.Invariant.{IsWhole, taken_of};
-ghost use Rattle.uni_any.specs.Plays.{IsPending, local_of, made_of, stage_of};
+ghost use Rattle.uni_any.specs.Plays.{IsPending, local_of, made_of, stage_of, version_in};
 ghost use Rattle.uni_any.specs.Belongs.{Has, image_held, taken_as};
-ghost use Rattle.uni_any.specs.Calls.{HasEnded, GoesOnTo, HasConsidered, HasFinished, HasRead, HasScanned, HasSeen};
-ghost use Rattle.uni_any.specs.Calls.{HasTried};
+ghost use Rattle.uni_any.specs.Calls.{HasEnded, GoesOnTo, HasConsidered, HasFinished, HasFound, HasRead};
+ghost use Rattle.uni_any.specs.Calls.{HasScanned, HasSeen, HasTried};
 ghost use Rattle.uni_any.specs.Calls.{attempt_steps, image_so_far, resume_steps, state_so_far};
-ghost use Rattle.uni_any.specs.Standing.{IsOf};
-ghost use Rattle.uni_any.specs.declared.view.Stage.TheVariants.{Ready, Reading};
+ghost use Rattle.uni_any.specs.Standing.{HoldsVersion, IsOf};
+ghost use Rattle.uni_any.specs.declared.view.Stage.TheVariants.{Idle, Ready, Reading};
 
 use crate::block::{Block, Row};
 use crate::mail::Mail;
@@ -55,13 +55,52 @@ impl<O: SeqObject> AnyShared<O> {
     {
         let s = self.start(seat, p);
         if s != held.word {
-            let slot = self.setup.sizes.block_slot(s % SPAN - 1, p);
-            let Mail::Version(block) = self.put(seat, slot, Mail::Empty) else {
-                unreachable!()
-            };
-            held.block = block;
-            held.word = s;
+            self.take_block(seat, p, s, held);
         }
+    }
+
+    /// Finds the present version between calls: the seat has it then. The answer is its number.
+    pub(crate) fn find(
+        &self,
+        seat: &mut SeatOf<O>,
+        p: u64,
+        held: &mut Held<O::State, O::Resp>,
+    ) -> u64
+        requires table { seat.old.table_id ≡ self.now.table.shared.table_id }
+        requires of { IsOf self.now.setup.object self.now.setup.sizes p seat.old.me }
+        requires inside { p < self.now.setup.sizes.processes }
+        requires stage { stage_of seat.old.me ≡ Idle }
+        requires held { ((local_of seat.old.me).word ≡ held.old.word)
+            × ((local_of seat.old.me).base ≡ image_held held.old) }
+        ensures same { (seat.new.table_id ≡ seat.old.table_id) × (seat.new.id ≡ seat.old.id) }
+        ensures left { HasFound (O.sequential self.now.setup.object) self.now.setup.sizes seat.old.me held.new
+            seat.new.me }
+        ensures number { result ≡ version_in held.new.word }
+    {
+        let s = self.view(seat, p);
+        if s != held.word {
+            self.take_block(seat, p, s, held);
+        }
+        s / SPAN
+    }
+
+    /// Moves the block that s names out of the slot that was taken last: the seat has it then.
+    fn take_block(&self, seat: &mut SeatOf<O>, p: u64, s: u64, held: &mut Held<O::State, O::Resp>)
+        requires table { seat.old.table_id ≡ self.now.table.shared.table_id }
+        requires inside { p < self.now.setup.sizes.processes }
+        requires taken { (base : _) × HoldsVersion self.now.setup.sizes p s base seat.old.me }
+        ensures same { (seat.new.table_id ≡ seat.old.table_id) × (seat.new.id ≡ seat.old.id) }
+        ensures left { seat.new.me.0 ≡ seat.old.me.0 }
+        ensures word { held.new.word ≡ s }
+        ensures block { (base : _) → HoldsVersion self.now.setup.sizes p s base seat.old.me
+            → image_held held.new ≡ base }
+    {
+        let slot = self.setup.sizes.block_slot(s % SPAN - 1, p);
+        let Mail::Version(block) = self.put(seat, slot, Mail::Empty) else {
+            unreachable!()
+        };
+        held.block = block;
+        held.word = s;
     }
 
     /// Looks at process r, of which this many calls are in: whether it has announced one more. The seat has its

@@ -11,8 +11,8 @@ ghost use Rattle.uni_any.specs.Execution.{Execution, last_moment, opened_moment}
 ghost use Rattle.uni_any.specs.Linearized.{IsLinearizedInTime, KeepsOrder};
 ghost use Rattle.uni_any.specs.Progress.{KeepsBound, NeverBlocks};
 ghost use Rattle.uni_any.specs.Laws.{Invokes, MakesNoAct, Moves, Responds, TakesEffect};
-ghost use Rattle.uni_any.specs.Plays.{HasAnnounced, HasAsked, HasBrought, HasClosed, HasLaid, HasLaidOpen, HasLooked};
-ghost use Rattle.uni_any.specs.Plays.{HasOpened, HasStarted, IsLaying, IsOpening, IsPending, Mine};
+ghost use Rattle.uni_any.specs.Plays.{HasAnnounced, HasBrought, HasClosed, HasLaid, HasLaidOpen, HasLooked};
+ghost use Rattle.uni_any.specs.Plays.{HasOpened, HasStarted, HasViewed, IsLaying, IsOpening, IsPending, Mine};
 ghost use Rattle.uni_any.specs.Plays.{local_of, made_of, stage_of, version_in};
 ghost use Rattle.uni_any.specs.Shown.{IsShown, ShowsBoard};
 ghost use Rattle.uni_any.specs.Standing.{HoldsBlock, HoldsCall, IsOf};
@@ -120,10 +120,11 @@ pub fn other_steps_append_nothing<O: SeqObject>()
         IsOf o sizes p me → stage_of me ≡ Writing inv tries image r true → HoldsBlock sizes p r image me
         → Moves O.sequential o sizes id me (1 + p) (λ x. x) (λ g found. MakesNoAct)
         (λ found me'. HasLaid st me found me') }
-    ensures follow { (o : O) (sizes : Sizes) (id p : ℕ)
+    ensures view { (o : O) (sizes : Sizes) (id p : ℕ)
         (st : Step (Mail O.Inv (Block O.State O.Resp))) (me : Mine O O.Inv O.State O.Resp) →
         IsOf o sizes p me → stage_of me ≡ Idle
-        → Moves O.sequential o sizes id me 0 (λ x. x) (λ g found. MakesNoAct) (λ found me'. HasAsked st me found me') }
+        → Moves O.sequential o sizes id me 0 (λ x. x) (λ g found. MakesNoAct)
+        (λ found me'. HasViewed O.sequential st me found me') }
 {}
 
 /// Every execution from the opening, in which the processes take their word steps in any order, is linearizable in real

@@ -116,12 +116,12 @@ impl<O: SeqObject> Play<MailOf<O>, ViewOf<O>> for Looks {
 }
 
 /// The load of S between calls.
-pub struct Asks;
+pub struct Views;
 
-impl<O: SeqObject> Play<MailOf<O>, ViewOf<O>> for Asks {
-    ghost use Rattle.uni_any.specs.Plays.{HasAsked};
+impl<O: SeqObject> Play<MailOf<O>, ViewOf<O>> for Views {
+    ghost use Rattle.uni_any.specs.Plays.{HasViewed};
 
-    ghost then = { HasAsked };
+    ghost then = { HasViewed O.sequential };
 }
 
 /// The first process apart from the others.

@@ -1,18 +1,18 @@
 //! The word steps, each one function.
-ghost use Rattle.std.specs.Prelude.{◌≡◌, ◌+◌, ◌*◌, ◌/◌, ◌<◌, ◌≤◌, ◌∷◌, ℕ, length};
+ghost use Rattle.std.specs.Prelude.{◌≡◌, ◌+◌, ◌*◌, ◌/◌, ◌<◌, ◌≤◌, ◌∷◌, ℕ};
 ghost use Rattle.std.specs.Prelude.{true, false};
 ghost use Rattle.atomic_table.specs.Table.{rest, step};
 ghost use mathlib.Core.Option.{none};
 ghost use Rattle.uni_any.specs.Content.{Content.Asked, told};
 ghost use Rattle.uni_any.specs.Board.{block_frame, call_frame, slot_of, span, word_of};
 ghost use Rattle.uni_any.specs.Plays.{IsOpening, IsPending, IsLaying, Takes, Gives, IsLeft, HasStarted, HasLooked};
-ghost use Rattle.uni_any.specs.Plays.{HasBrought};
-ghost use Rattle.uni_any.specs.Plays.{goes, knows, local_of, stage_of, made_of};
+ghost use Rattle.uni_any.specs.Plays.{HasBrought, HasViewed};
+ghost use Rattle.uni_any.specs.Plays.{goes, local_of, stage_of, made_of};
 ghost use Rattle.uni_any.specs.declared.view.Stage.TheVariants.{Idle, Posting, Ready, Reading, Writing};
 ghost use Rattle.uni_any.specs.Standing.{IsOf, HoldsCall, HoldsBlock};
 
 use crate::rule::{
-    Announces, Asks, Brings, Closes, Lays, LaysOpen, Looks, MailOf, Opens, SeatOf, Starts,
+    Announces, Brings, Closes, Lays, LaysOpen, Looks, MailOf, Opens, SeatOf, Starts, Views,
 };
 use crate::shared::AnyShared;
 use seq_object::SeqObject;
@@ -154,17 +154,17 @@ impl<O: SeqObject> AnyShared<O> {
             .compare_exchange::<Brings>(seat, 0, s, new)
     }
 
-    /// Loads S between calls: the present version.
-    pub(crate) fn present(&self, seat: &mut SeatOf<O>, p: u64) -> u64
+    /// Loads S between calls, and takes the slot of the block that it names where this isn't the one that the seat has.
+    pub(crate) fn view(&self, seat: &mut SeatOf<O>, p: u64) -> u64
         requires table { seat.old.table_id ≡ self.now.table.shared.table_id }
         requires of { IsOf self.now.setup.object self.now.setup.sizes p seat.old.me }
         requires inside { p < self.now.setup.sizes.processes }
         requires stage { stage_of seat.old.me ≡ Idle }
         ensures same { (seat.new.table_id ≡ seat.old.table_id) × (seat.new.id ≡ seat.old.id) }
-        ensures left { IsLeft seat.old.me (knows (local_of seat.old.me) result) seat.new.me }
-        ensures later { (local_of seat.old.me).after ≤ result }
+        ensures left { HasViewed O.sequential
+            (step self.now.table.shared.table_id.slots 0 0 0 none) seat.old.me result seat.new.me }
     {
-        self.table.shared.load::<Asks>(seat, 0) / SPAN
+        self.table.shared.load::<Views>(seat, 0)
     }
 
     /// Puts something into the slot that was taken last.

@@ -1,8 +1,8 @@
 use Rattle.uni_any.proofs.Vocabulary.{HoldsBlock, HoldsCall, subst, sym}
-use Rattle.uni_any.proofs.Asking.{asks}
 use Rattle.uni_any.proofs.Laying.{lays, lays_open}
 use Rattle.uni_any.proofs.Looking.{looks}
 use Rattle.uni_any.proofs.Posting.{closes, opens}
+use Rattle.uni_any.proofs.Viewing.{shows}
 use Rattle.uni_any.proofs.laws.other_steps_append_nothing.Goals as goal
 
 pub returns-clause-open_call : goal.returns-clause-open_call
@@ -21,5 +21,5 @@ pub returns-clause-close_block : goal.returns-clause-close_block
 returns-clause-close_block g c o sizes id p tries r inv image st me of stage holds =
     lays g.O.SeqObject.sequential o sizes id me p of inv tries r image stage (subst (λ k. HoldsBlock sizes k r image me) (sym of.first) holds) st
 
-pub returns-clause-follow : goal.returns-clause-follow
-returns-clause-follow g c o sizes id p st me of idle = asks g.O.SeqObject.sequential o sizes id me p of idle st
+pub returns-clause-view : goal.returns-clause-view
+returns-clause-view g c o sizes id p st me of idle = shows g.O.SeqObject.sequential o sizes id me p of idle st
