@@ -1,10 +1,10 @@
 //! A map from texts to numbers in parts, as an example of a large state of which a call copies little.
 #![tactic(auto)]
 
+mod text;
+
 ghost use Rattle.std.specs.Prelude.{◌≡◌, ◌++◌, ◌∷◌, ◌<◌, [], IfOk, IfSome, length, position, refl};
 ghost use Rattle.std.specs.Prelude.{None, Some, slice_set};
-ghost use Rattle.std.specs.Cmp.{partial_equiv_from_equiv};
-ghost use Rattle.std.specs.Cmp.Lexicographic.{nat_list_eq_equiv};
 ghost use Rattle.std.specs.Map.{lookup, remove_entry};
 ghost use Rattle.std.specs.Str.{bytes_eq};
 ghost use Rattle.seq_object.proofs.Cases.{exact_by_cases, itself_named, itself_one, itself_text, only_named, only_one};
@@ -16,6 +16,7 @@ use seq_object::SeqObject;
 use std::alloc::{AllocError, Global};
 use std::marker::Model;
 use std::sync::Arc;
+pub use text::Text;
 
 /// How many parts there are.
 const PARTS: usize = 32;
@@ -79,67 +80,6 @@ impl Clone for Pair {
             number: self.number,
         })
     }
-}
-
-/// A text: any bytes. Copies share them.
-#[derive(Drop)]
-pub struct Text {
-    bytes: Arc<Vec<u8>>,
-}
-
-impl Model for Text {
-    ghost use Rattle.std.specs.Prelude.{ℕ, List};
-    ghost use Rattle.std.specs.Arc.{arc_value};
-
-    ghost Value = { List ℕ };
-
-    ghost view = { λ text. (arc_value text.bytes).items };
-}
-
-impl Text {
-    /// The text of these bytes.
-    ///
-    /// An `Err` says that memory was refused.
-    pub fn of(alloc: Global, bytes: &[u8]) -> Result<Text, AllocError>
-        ensures { IfOk result (λ text. text ≡ bytes.now) }
-    {
-        let mut own = Vec::new(alloc);
-        own.extend_from_slice(bytes)?;
-        Ok(Text {
-            bytes: Arc::new(alloc, own)?,
-        })
-    }
-
-    /// The bytes of the text.
-    pub fn as_bytes(&self) -> &[u8]
-        ensures { result.now ≡ self.now }
-    {
-        self.bytes.as_slice()
-    }
-}
-
-impl Clone for Text {
-    ghost is_clone = { λ text copy. copy ≡ text };
-
-    fn clone(&self) -> Result<Text, AllocError> {
-        Ok(Text {
-            bytes: Arc::try_clone(&self.bytes)?,
-        })
-    }
-}
-
-impl PartialEq for Text {
-    ghost eq = { bytes_eq };
-
-    ghost laws = { partial_equiv_from_equiv nat_list_eq_equiv };
-
-    fn eq(&self, other: &Text) -> bool {
-        self.as_bytes() == other.as_bytes()
-    }
-}
-
-impl Eq for Text {
-    ghost laws = { nat_list_eq_equiv };
 }
 
 /// An invocation of the map. Each is answered with the number that its text had, if it had one.
