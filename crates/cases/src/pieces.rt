@@ -15,7 +15,8 @@ pub struct Pieces<'a> {
 impl Pieces<'_> {
     /// A reader of this text, which gives at most this many bytes of it at a time, and at least one.
     pub fn of(left: &[u8], most: usize) -> Pieces<'_>
-        ensures { result.left.now ≡ left.now }
+        ensures text { result.left.now ≡ left.now }
+        ensures most { result.most ≡ most }
     {
         Pieces { left, most }
     }

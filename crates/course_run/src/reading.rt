@@ -1,6 +1,6 @@
 //! What the programs read.
 
-ghost use Rattle.std.specs.Prelude.{◌≡◌, ◌⊎◌, IfErr, OnOk};
+ghost use Rattle.std.specs.Prelude.{◌≡◌, ◌⊎◌, IfErr, IfOk, IfSome, OnOk, take};
 ghost use Rattle.uni_script.specs.Ends.{AppendsPrefix};
 ghost use Rattle.course_run.specs.Goals.{line_of_unread};
 
@@ -16,7 +16,11 @@ const MANY_BYTES: u64 = 20_100_001;
 /// The bytes of a script or a goal, as far as a script can have them.
 ///
 /// An `Err` says that the reader failed, or that memory was refused.
-pub fn read_text<R: Read + Drop>(alloc: Global, input: R) -> Result<Vec<u8>, BenchFault> {
+pub fn read_text<R: Read + Drop>(alloc: Global, input: R) -> Result<Vec<u8>, BenchFault>
+    ensures text { IfOk result (λ text.
+        IfSome (R.remaining input) (λ bytes. text.items ≡ take 20100001 bytes)) }
+    ensures fault { IfErr result (λ fault. (fault ≡ BenchFault.Read) ⊎ (fault ≡ BenchFault.Memory)) }
+{
     let mut text = Vec::new(alloc);
     match input.take(MANY_BYTES).read_to_end(&mut text) {
         Ok(_) => Ok(text),

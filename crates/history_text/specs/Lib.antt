@@ -1,3 +1,4 @@
 pub mod Told
 pub mod Refused
 pub mod Own
+pub mod Turns

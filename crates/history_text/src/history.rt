@@ -1,7 +1,9 @@
 //! What lines tell, and the history that they are.
 
-ghost use Rattle.std.specs.Prelude.{◌≡◌, ◌++◌, ◌∷◌, [], IfOk, OnOk, map};
+ghost use Rattle.std.specs.Prelude.{◌≡◌, ◌++◌, ◌∷◌, [], IfErr, IfOk, OnOk, map};
+ghost use Rattle.history_text.specs.Refused.{IsRefusal};
 ghost use Rattle.history_text.specs.Told.{events_of};
+ghost use Rattle.history_text.specs.Turns.{AreInTurn};
 
 use crate::fault::{ReadError, Spot};
 use crate::turns::Turns;
@@ -69,7 +71,11 @@ pub(crate) fn history_of<I: Drop, R: Drop>(
     alloc: Global,
     tolds: Vec<Placed<I, R>>,
 ) -> Result<History<I, R>, ReadError>
-    ensures { IfOk result (λ history. history.events.items ≡ events_of (map (λ placed. placed.told) tolds.items)) }
+    ensures events { IfOk result (λ history.
+        history.events.items ≡ events_of (map (λ placed. placed.told) tolds.items)) }
+    ensures in_turn { OnOk result (AreInTurn (map (λ placed. placed.told) tolds.items)) }
+    ensures refused { IfErr result (λ error. IsRefusal error
+        → ¬ (AreInTurn (map (λ placed. placed.told) tolds.items))) }
 {
     let mut turns = Turns::new(alloc);
     let mut history = History {

@@ -3,6 +3,8 @@
 ghost use Rattle.std.specs.Prelude.{◌≡◌, IfErr, IfOk, Some, true};
 ghost use Rattle.ready_objects.specs.Words.{bytes_of};
 ghost use Rattle.history_text.specs.Own.{NamesFirstBad, begins_own, is_own, lines_of, own_events};
+ghost use Rattle.history_text.specs.Refused.{IsRefusal};
+ghost use Rattle.history_text.specs.Turns.{IsReadable};
 
 use crate::fault::{ReadError, Reason, Spot};
 use crate::history::{History, history_of};
@@ -73,6 +75,10 @@ pub fn read_history<O: Worded>(
         → NamesFirstBad O.wording (lines_of text.now) error) }
     ensures own { IfOk result (λ history. is_own (lines_of text.now) ≡ true
         → own_events O.wording (lines_of text.now) ≡ Some history.events.items) }
+    ensures readable { IfOk result (λ _. is_own (lines_of text.now) ≡ true
+        → IsReadable O.wording (lines_of text.now)) }
+    ensures unreadable { IfErr result (λ error. is_own (lines_of text.now) ≡ true → IsRefusal error
+        → ¬ (IsReadable O.wording (lines_of text.now))) }
 {
     let lines = lines_of(alloc, text)?;
     let lines = lines.as_slice();

@@ -48,6 +48,7 @@ fn seat_of(alloc: Global, log: &mut Held, seat: &mut Handle, process: &mut u64) 
     ensures status { (result ≡ 0) ⊎ (result ≡ 3) ⊎ (result ≡ 5) ⊎ (result ≡ 7) }
     ensures unchanged { result ≢ 0 → (left_in (Some log.new) ≡ left_in (Some log.old))
         × (seat.new ≡ seat.old) × (process.new ≡ process.old) }
+    ensures kept { result ≡ 7 → log.new ≡ log.old }
     ensures first { result ≡ 0 → HasSeat seat.new.value process.new
         × (log_in seat.new.value ≡ log_in (Some log.old)) }
 {
@@ -75,6 +76,7 @@ pub extern "C" fn universal_seat(
     ensures status { (result ≡ 0) ⊎ (result ≡ 3) ⊎ (result ≡ 5) ⊎ (result ≡ 7) }
     ensures unchanged { result ≢ 0 → (left_in log.new.value ≡ left_in log.old.value)
         × (seat.new ≡ seat.old) × (process.new ≡ process.old) }
+    ensures kept { result ≡ 7 → log.new.value ≡ log.old.value }
     ensures first { result ≡ 0 → HasSeat seat.new.value process.new
         × (log_in seat.new.value ≡ log_in log.old.value) }
 {
