@@ -2,8 +2,8 @@
 use Rattle.run_tell.proofs.Vocabulary.{Appends, AppendsPrefix, AppendsPrefix-after, AppendsPrefix-more, BenchFault, Bool, Err, Event, Excerpt, IfErr, IfErr-at_err, IfOk, IsErr, IsErrOf, IsFaultOfScript, IsLinearizableSession, IsOfRange, IsScriptRun, IsToldBy, Language, List, MatchResult-from_err, Moves, None, Ok, OnErr, OnOk, Opening, Option, PlacedRemark, Range, RangeFault, Recording, Result, Scene, ScriptSession, Sequential, Some, SpokenObject, Start, Trace, Version, Wording, WorldOf, WritesSuch, WritesText, [], ap, append-nil, append_assoc, arith, count_in, drop, events-run, events_of_record, events_shown, excerpt_of, flat_map, inl, inr, length, length-drop, opened_world, opening, range_fault, refl, remark_told, scenes_from, session_of_record, slice_get, spoken, subst, suc, sym, take, text_of_record, told_before, told_from, told_text, trace_of_events, world_after, zero, ℕ, ◌++◌, ◌+◌, ◌-◌, ◌↔◌, ◌∙◌, ◌∷◌, ◌≡◌, ◌≢◌, ◌≤◌, ◌⊎◌}
 use Rattle.std.proofs.KnownBytes.{Appends-nil, Appends-trans}
 use Rattle.run_layout.specs.declared.subject.PictureFault.{PictureFault}
-use Rattle.run_layout.specs.declared.subject.PictureFault.TheVariants.{Range as OfRange, Script}
-use Rattle.uni_script.specs.declared.fault.BenchFault.TheVariants.{Memory, Write}
+use Rattle.run_layout.specs.declared.subject.PictureFault.TheVariants.{Misdrawn, Range as OfRange, Script}
+use Rattle.uni_script.specs.declared.fault.BenchFault.TheVariants.{Memory, Read, Write}
 use Rattle.uni_script.specs.declared.options.Echo.TheVariants.{Off}
 use Rattle.uni_script.specs.declared.script_run.ScriptRecord.{ScriptRecord}
 use Rattle.uni_script.specs.declared.script_run.ScriptRun.{ScriptRun}
@@ -87,6 +87,16 @@ else_range r P faults range e is memory write =
 pub no_fault_of_script : {T : Type 0} (r : Result T PictureFault) → IfErr r (λ e. IsOfRange e ⊎ (e ≡ Script Memory) ⊎ (e ≡ Script Write)) → (e : BenchFault) → IsErrOf r (Script e) → ¬ (IsFaultOfScript e)
 no_fault_of_script r faults e is fault =
     else_range r ⊥ faults (λ f range. let bad : Script e ≡ OfRange f = cc in cc) (Script e) is (λ same. let m : e ≡ Memory = cc in subst IsFaultOfScript m fault) (λ same. let w : e ≡ Write = cc in subst IsFaultOfScript w fault)
+
+-- an error that is none of these doesn't come
+pub no_other : {T : Type 0} (r : Result T PictureFault) → IfErr r (λ e. IsOfRange e ⊎ (e ≡ Script Memory) ⊎ (e ≡ Script Write)) → (e : PictureFault) → ¬ (IsOfRange e ⊎ (e ≡ Script Memory) ⊎ (e ≡ Script Write)) → ¬ (IsErrOf r e)
+no_other r faults e other is = other (IfErr-at_err (λ e. IsOfRange e ⊎ (e ≡ Script Memory) ⊎ (e ≡ Script Write)) is faults)
+
+pub no_misdrawn : {T : Type 0} (r : Result T PictureFault) → IfErr r (λ e. IsOfRange e ⊎ (e ≡ Script Memory) ⊎ (e ≡ Script Write)) → ¬ (IsErrOf r Misdrawn)
+no_misdrawn r faults = no_other r faults Misdrawn (λ one. elim one [ inl of_range ↦ of_range | inr other ↦ elim other [ inl memory ↦ cc | inr write ↦ cc ] ])
+
+pub no_read : {T : Type 0} (r : Result T PictureFault) → IfErr r (λ e. IsOfRange e ⊎ (e ≡ Script Memory) ⊎ (e ≡ Script Write)) → ¬ (IsErrOf r (Script Read))
+no_read r faults = no_other r faults (Script Read) (λ one. elim one [ inl of_range ↦ of_range | inr other ↦ elim other [ inl memory ↦ cc | inr write ↦ cc ] ])
 
 -- what is gathered and still to be told, after one more event is gathered with what is told before it
 pub Moves-told_on : (words : Wording) (range : Range) (lines : List ℕ) (a b : Option (List ℕ)) (whole : List ℕ) (k : ℕ) (scenes rest : List (Option Scene)) (scene : Scene) (remarks left : List PlacedRemark) (text told : List ℕ)

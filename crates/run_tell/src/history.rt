@@ -64,7 +64,9 @@ pub fn tell_history<I: TextIn, W: TextOut>(
         → HasRangeFault all_events e (I.remaining reader.old) }
     ensures fault { (e : Fault) → IsErrOf result (PictureFault.Script e) → IsFaultOfScript e
         → HasFault (scripts_of 1048576) (I.remaining reader.old) e }
+    ensures reader { IsErrOf result (PictureFault.Script Fault.Read) → I.has_failed reader.new ≡ true }
     ensures out { W.has_failed out.new ≡ true → IsErrOf result (PictureFault.Script Fault.Write) }
+    ensures drawn { IsErrOf result PictureFault.Misdrawn → ⊥ }
 {
     tell_script::<InHistory, I, W>(alloc, Range::all(), reader, out)
 }

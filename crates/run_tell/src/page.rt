@@ -1,6 +1,6 @@
 //! From the bytes of a script to the page that shows its run.
 
-ghost use Rattle.std.specs.Prelude.{◌++◌, ◌≡◌, IfOk, IsErrOf, List, None, OnOk, Some, false, ℕ};
+ghost use Rattle.std.specs.Prelude.{◌++◌, ◌≡◌, IfOk, IsErrOf, List, None, OnOk, Some, false, true, ℕ};
 ghost use Rattle.run_tell.specs.Vocabulary.{AllByRecursion, BenchFault as Fault, HasFault, HasRangeFault};
 ghost use Rattle.run_tell.specs.Vocabulary.{IsFaultOfScript, RangeFault, Version, events_of_record, range_fault};
 ghost use Rattle.run_tell.specs.Vocabulary.{scripts_of, session_of_record};
@@ -73,6 +73,7 @@ fn text_of_run<T: Telling>(
     ensures range { (e : RangeFault) → IsErrOf result (PictureFault.Range e)
         → range_fault range (events_of_record run.now.record) ≡ Some e }
     ensures memory { (e : Fault) → IsErrOf result (PictureFault.Script e) → e ≡ Fault.Memory }
+    ensures drawn { IsErrOf result PictureFault.Misdrawn → ⊥ }
 {
     let mut text = Checked::new(Vec::new(alloc));
     match tell_run::<T, _>(alloc, range, run, &mut text) {
@@ -96,6 +97,7 @@ fn page_of_run(
     ensures range { (e : RangeFault) → IsErrOf result (PictureFault.Range e)
         → range_fault range (events_of_record run.now.record) ≡ Some e }
     ensures memory { (e : Fault) → IsErrOf result (PictureFault.Script e) → e ≡ Fault.Memory }
+    ensures drawn { IsErrOf result PictureFault.Misdrawn → ⊥ }
 {
     let rows = text_of_run::<InRows>(alloc, range, run)?;
     let lines = text_of_run::<InJson>(alloc, range, run)?;
@@ -116,6 +118,8 @@ pub fn page_of<I: TextIn>(
         → HasRangeFault range e (I.remaining reader.old) }
     ensures fault { (e : Fault) → IsErrOf result (PictureFault.Script e) → IsFaultOfScript e
         → HasFault (scripts_of 1048576) (I.remaining reader.old) e }
+    ensures reader { IsErrOf result (PictureFault.Script Fault.Read) → I.has_failed reader.new ≡ true }
+    ensures drawn { IsErrOf result PictureFault.Misdrawn → ⊥ }
 {
     let run = run_of_script(alloc, reader, &Options::default())?;
     page_of_run(alloc, range, &run)

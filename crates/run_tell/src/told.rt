@@ -152,7 +152,9 @@ pub fn tell_script<T: Telling, I: TextIn, W: TextOut>(
         → HasRangeFault range e (I.remaining reader.old) }
     ensures fault { (e : Fault) → IsErrOf result (PictureFault.Script e) → IsFaultOfScript e
         → HasFault (scripts_of 1048576) (I.remaining reader.old) e }
+    ensures reader { IsErrOf result (PictureFault.Script Fault.Read) → I.has_failed reader.new ≡ true }
     ensures out { W.has_failed out.new ≡ true → IsErrOf result (PictureFault.Script Fault.Write) }
+    ensures drawn { IsErrOf result PictureFault.Misdrawn → ⊥ }
 {
     let run = run_of_script(alloc, reader, &Options::default())?;
     tell_run::<T, W>(alloc, range, &run, out)

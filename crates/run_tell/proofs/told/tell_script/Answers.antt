@@ -1,5 +1,5 @@
 use Rattle.run_tell.proofs.Vocabulary.{IsTold, ap, default_run, fault_run, refl, session_of_record, text_of_session}
-use Rattle.run_tell.proofs.Tellings.{IsToldBy-run, WritesSuch-text, else_range, no_fault_of_script}
+use Rattle.run_tell.proofs.Tellings.{IsToldBy-run, WritesSuch-text, else_range, no_fault_of_script, no_misdrawn, no_read}
 use Rattle.run_tell.proofs.told.tell_script.Goals as goal
 
 pub returns-clause-told : goal.returns-clause-told
@@ -21,3 +21,9 @@ returns-clause-range g c = λ e is. fault_run c.args.range _ c.in_ok-run.run' (d
 
 pub returns-clause-fault : goal.returns-clause-fault
 returns-clause-fault g c = λ e is fault. absurd (no_fault_of_script c.tell_run.result c.tell_run.ensures.fault e is fault)
+
+pub returns-clause-reader : goal.returns-clause-reader
+returns-clause-reader g c = λ is. absurd (no_read c.tell_run.result c.tell_run.ensures.fault is)
+
+pub returns-clause-drawn : goal.returns-clause-drawn
+returns-clause-drawn g c = no_misdrawn c.tell_run.result c.tell_run.ensures.fault
