@@ -2,4 +2,4 @@ use Rattle.uni_any.specs.Belongs.{IsSeatOf}
 use Rattle.any_tests.proofs.calls.reading_is_no_call.Given as goal
 
 abbrev pub invariant-loop : goal.invariant-loop
-invariant-loop l = IsSeatOf l.shared l.second
+invariant-loop g l = IsSeatOf l.shared l.second
