@@ -1,0 +1,4 @@
+pub mod Contents
+pub mod Buffer
+pub mod Seats
+pub mod Parties
