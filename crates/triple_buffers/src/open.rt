@@ -40,6 +40,13 @@ impl<T: Drop, V, K: Drop, P: BufferRule<T, V, K>> Buffers<T, V, K, P> {
 }
 
 impl<T, V, K, P: BufferRule<T, V, K>> Buffers<T, V, K, P> {
+    /// What the rule was told at the opening.
+    pub fn key(&self) -> &K
+        ensures { result.now ≡ key_of self.now }
+    {
+        &self.setup.about
+    }
+
     /// The place of the next party, apart from those of the others.
     ///
     /// The error says that memory was refused; nothing is changed then.

@@ -6,7 +6,7 @@ use Rattle.uni_any.specs.Belongs.{AreFirstSeats, IsFreshSeat, IsSeatOf, StandsAt
 use Rattle.uni_any.specs.declared.seat.AnySeat.{AnySeat}
 use Rattle.uni_any.specs.declared.shared.AnyShared.{AnyShared}
 
-get_index : {A : Type 0} (xs : List A) (k : ℕ) (d : A) → k < length xs → slice_get xs k ≡ Some (slice_index_or xs k d)
+pub get_index : {A : Type 0} (xs : List A) (k : ℕ) (d : A) → k < length xs → slice_get xs k ≡ Some (slice_index_or xs k d)
 get_index [] k d h = absurd (omega arith)
 get_index (y ∷ ys) zero d h = refl
 get_index (y ∷ ys) (suc k) d h = get_index ys k d (omega arith)

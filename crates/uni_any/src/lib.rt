@@ -17,6 +17,7 @@ mod steps;
 mod view;
 
 pub use block::{Block, Row};
-pub use open::{AnyOpenFault, MAX_CALLS, MAX_PROCESSES};
+pub use open::{AnyOpenFault, MAX_CALLS, MAX_PROCESSES, blank_rows};
 pub use seat::{AnyAnswer, AnyFault, AnyResumeFault, AnySeat, CallPending};
 pub use shared::AnyShared;
+pub use view::{Image, Returned};

@@ -66,8 +66,8 @@ fn nothing_seen<I: Drop>(alloc: Global, count: u64) -> Result<Vec<Seen<I>>, Allo
     Ok(seen)
 }
 
-/// The rows of so many processes that have no call in.
-fn blank_rows<R: Copy>(alloc: Global, count: u64) -> Result<Vec<Row<R>>, AllocError>
+/// The rows of so many processes that have no call in. The error says that memory was refused.
+pub fn blank_rows<R: Copy>(alloc: Global, count: u64) -> Result<Vec<Row<R>>, AllocError>
     ensures { IfOk result (λ rows. rows.items ≡ replicate count blank) }
 {
     let mut rows = Vec::with_capacity(alloc, count as usize)?;
