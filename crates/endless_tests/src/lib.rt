@@ -1,0 +1,9 @@
+//! Tests of `uni_endless`: objects that threads share without a lock, with no number of calls given.
+#![tactic(auto)]
+
+#[cfg(test)]
+mod refusals;
+#[cfg(test)]
+mod seats;
+#[cfg(test)]
+mod threads;

@@ -1,0 +1,197 @@
+//! An object that is refused memory at one of its requests: the call that meets the refusal is pending then, and
+//! resumed it goes on as without it.
+
+ghost use Rattle.std.specs.Prelude.{◌≡◌, IfOk, All, nat_eq};
+ghost use Rattle.std.specs.Cmp.{nat_eq_equiv, partial_equiv_from_equiv};
+ghost use Rattle.seq_object.specs.Exact.{nat_eq_exact};
+ghost use Rattle.seq_object.specs.SwapRegister.{swap_register};
+ghost use Rattle.uni_endless.specs.Seats.{IsSeatOf};
+
+use crate::seats::{last_two, opened};
+use seq_object::SeqObject;
+use std::alloc::{AllocError, Global};
+use std::cell::Cell;
+use std::marker::Model;
+use std::process::Abort;
+use uni_endless::{
+    EndlessAnswer, EndlessFault, EndlessOpenFault, EndlessResumeFault, EndlessSeat, EndlessShared,
+};
+
+/// What a call asks for.
+#[derive(Drop)]
+struct Asked {
+    number: u32,
+}
+
+impl Model for Asked {
+    ghost use Rattle.std.specs.Prelude.{ℕ};
+
+    ghost Value = { ℕ };
+
+    ghost view = { λ asked. asked.number };
+}
+
+impl PartialEq for Asked {
+    ghost eq = { nat_eq };
+
+    ghost laws = { partial_equiv_from_equiv nat_eq_equiv };
+
+    fn eq(&self, other: &Asked) -> bool {
+        self.number == other.number
+    }
+}
+
+impl Eq for Asked {
+    ghost laws = { nat_eq_equiv };
+}
+
+/// A register that answers the number before, at first 9. One request for memory is refused: for a start state or
+/// a next one.
+#[derive(Drop)]
+struct Scarce<'a> {
+    /// How many requests are granted before the one that is refused.
+    granted: &'a Cell<u64>,
+}
+
+impl Scarce<'_> {
+    /// Counts a request for memory down, and refuses the one that finds nothing left.
+    fn request(&self) -> Result<(), AllocError> {
+        let left = self.granted.get();
+        self.granted.set(left.wrapping_sub(1));
+        if left == 0 { Err(AllocError) } else { Ok(()) }
+    }
+}
+
+impl<'a> SeqObject for Scarce<'a> {
+    type State = u32;
+
+    type Inv = Asked;
+
+    type Resp = u32;
+
+    ghost sequential = { λ _. swap_register 9 };
+
+    ghost same_inv = { nat_eq_exact };
+
+    ghost same_resp = { nat_eq_exact };
+
+    fn start(&self, _alloc: Global) -> Result<u32, AllocError> {
+        self.request()?;
+        Ok(9)
+    }
+
+    fn apply(&self, _alloc: Global, before: &u32, asked: &Asked) -> Result<(u32, u32), AllocError> {
+        self.request()?;
+        Ok((asked.number, *before))
+    }
+
+    fn copy_inv(_alloc: Global, asked: &Asked) -> Result<Asked, AllocError>
+        ensures { IfOk result (λ copy. copy ≡ asked.now) }
+    {
+        Ok(Asked {
+            number: asked.number,
+        })
+    }
+}
+
+/// The seat's call of this number, resumed where it was refused memory: its reply, and its version.
+fn called<'a>(
+    rt: &impl Abort,
+    alloc: Global,
+    shared: &EndlessShared<Scarce<'a>>,
+    seat: &mut EndlessSeat<Scarce<'a>>,
+    number: u32,
+) -> (u32, u64)
+    requires { IsSeatOf shared.now seat.old }
+    ensures { IsSeatOf shared.now seat.new }
+{
+    match seat.apply(alloc, shared, Asked { number }) {
+        Ok(answer) => return (answer.reply, answer.version),
+        Err(fault) => assert!(rt; fault == EndlessFault::Memory),
+    }
+    let Ok(answer) = seat.resume(alloc, shared) else {
+        panic!(rt; "not resumed")
+    };
+    (answer.reply, answer.version)
+}
+
+/// Four calls of two seats, with this request refused: how many requests there were.
+fn calls_with(rt: &impl Abort, alloc: Global, refused: u64) -> u64 {
+    let granted = Cell::new(refused);
+    let fault = EndlessShared::open(alloc, Scarce { granted: &granted }, 2).err();
+    assert!(rt;
+        fault
+            == if refused == 0 {
+                Some(EndlessOpenFault::Memory)
+            } else {
+                None
+            }
+    );
+    granted.set(refused);
+    if refused == 0 {
+        granted.set(u64::MAX);
+    }
+    let (shared, mut seats) = opened(rt, alloc, Scarce { granted: &granted }, 2);
+    let (mut first, mut second) = last_two(rt, &shared, &mut seats);
+    assert!(rt; called(rt, alloc, &shared, &mut first, 5) == (9, 1));
+    assert!(rt; called(rt, alloc, &shared, &mut second, 6) == (5, 2));
+    assert!(rt; called(rt, alloc, &shared, &mut first, 7) == (6, 3));
+    assert!(rt; called(rt, alloc, &shared, &mut second, 8) == (7, 4));
+    refused.wrapping_sub(granted.get())
+}
+
+#[test]
+fn each_request_is_refused_in_turn(rt: HostRuntime) {
+    let alloc = rt.alloc();
+    // The start and four next states; a state that was refused is asked for again.
+    for refused in 1..5 {
+        assert!(rt; calls_with(&rt, alloc, refused) == 6);
+    }
+    assert!(rt; calls_with(&rt, alloc, 5) == 5);
+    calls_with(&rt, alloc, 0);
+}
+
+#[test]
+fn a_call_that_was_refused_is_helped(rt: HostRuntime) {
+    let alloc = rt.alloc();
+    let granted = Cell::new(1);
+    let (shared, mut seats) = opened(&rt, alloc, Scarce { granted: &granted }, 2);
+    let (mut first, mut second) = last_two(&rt, &shared, &mut seats);
+    let refused = first.apply(alloc, &shared, Asked { number: 5 });
+    assert!(rt; refused == Err(EndlessFault::Memory));
+    let again = first.apply(alloc, &shared, Asked { number: 8 });
+    assert!(rt; again == Err(EndlessFault::Pending));
+    assert!(rt; called(&rt, alloc, &shared, &mut second, 6) == (5, 1));
+    let resumed = first.resume(alloc, &shared);
+    assert!(rt;
+        resumed
+            == Ok(EndlessAnswer {
+                reply: 9,
+                version: 1
+            })
+    );
+    assert!(rt; first.resume(alloc, &shared) == Err(EndlessResumeFault::NothingPending));
+    assert!(rt; called(&rt, alloc, &shared, &mut second, 7) == (6, 2));
+}
+
+#[test]
+fn counts_that_are_refused(rt: HostRuntime) {
+    let alloc = rt.alloc();
+    for n in [0, 65, u64::MAX] {
+        let granted = Cell::new(u64::MAX);
+        let fault = EndlessShared::open(alloc, Scarce { granted: &granted }, n).err();
+        assert!(rt; fault == Some(EndlessOpenFault::BadCount));
+        assert!(rt; granted.get() == u64::MAX);
+    }
+}
+
+#[test]
+fn the_last_of_sixty_four_processes(rt: HostRuntime) {
+    let alloc = rt.alloc();
+    let granted = Cell::new(u64::MAX);
+    let (shared, mut seats) = opened(&rt, alloc, Scarce { granted: &granted }, 64);
+    let (mut first, mut second) = last_two(&rt, &shared, &mut seats);
+    assert!(rt; called(&rt, alloc, &shared, &mut second, 5) == (9, 1));
+    assert!(rt; called(&rt, alloc, &shared, &mut first, 6) == (5, 2));
+    assert!(rt; called(&rt, alloc, &shared, &mut second, 7) == (6, 3));
+}

@@ -1,0 +1,421 @@
+-- A process takes what another one wrote for it last.
+use Rattle.uni_endless.proofs.Vocabulary.{AllowsTake, Board, Contains, Contents, HasCome, HasFound, HasLast, HasLearned, HasTaken, Idle, Invoked, IsAt, IsBase, IsReader, IsShown, IsStageAt, IsTold, IsWhole, IsWriter, Letter, List, Local, None, Option, Posting, Reading, Ready, Sequential, ShowsBoard, Some, Stage, Told, Version, View, Writing, announced_at, announced_by, ap, applied_in, arith, base_of, begun, called_by, first_told, found_in, get_elem?, in_of, inl, inr, known_then, length, length-append, length-set, local_of, lt_cases, made_by, number_cases, number_in, pending_of, posted, posted_at, process_in, refl, returns, row_in, seen_of, set_at-cases, slice_set, some, stage_of, subst, sym, with_local, with_seen, with_value, word_of, ℕ, ◌+◌, ◌<◌, ◌∙◌, ◌≡◌, ◌≢◌, ◌≤◌}
+use Rattle.std.proofs.lemmas.List.{set-get_or}
+use Rattle.uni_endless.proofs.Framing.{buffers_taken, mine, object_is, own, seen_else, seen_now, shown_with, sound_with}
+use Rattle.uni_endless.proofs.Histories.{acts_then, history_ended, history_kept, open_without, own_told}
+use Rattle.uni_endless.proofs.Orders.{order_ended, order_kept, version_rises}
+use Rattle.uni_endless.proofs.Posting.{keeps_same}
+use Rattle.uni_endless.proofs.Starting.{present_image}
+use Rattle.uni_endless.proofs.Staying.{KeepsCalls, board_stays, later, locals, others_stay, reader_stays}
+
+-- what a process takes, and what it knows then
+pub seen_took : {S I R : Type 0} (object : Sequential S I R) (n : ℕ) (l : Local I S R) (r : ℕ) (found : Option (Letter I S R)) → (with_seen l r found).seen ≡ slice_set l.seen r (known_then found (seen_of object n l r))
+seen_took object n l r None = sym (set-get_or l.seen r (first_told object n))
+seen_took object n l r (Some letter) = refl
+
+-- what a process has written last
+module _ {S I R : Type 0} (object : Sequential S I R) (n : ℕ) (g : Board I S R) (local : ℕ → Local I S R) (q : ℕ) (l : Local I S R) (at : IsAt object n g local q l) (r : ℕ) (r_in : r < n) where
+  abbrev Facts : (made : ℕ) → Stage I S R → Told I S R → Type 0
+  Facts made stage t = (t.call ≤ begun made (pending_of stage)) × (t.call ≡ made + 1 → t.inv ≡ pending_of stage) × (announced_at n made stage ≤ t.call) × HasLast object n g local l t
+
+  pub posted_facts : Facts (made_by l) l.stage (posted l r)
+  posted_facts = by l.stage refl at.stage where
+    w : IsWriter object n g local q l
+    w = at.writer
+
+    by : (stage : Stage I S R) → stage ≡ l.stage → IsStageAt object n g local q l stage → Facts (made_by l) stage (posted_at l stage r)
+    by Idle same h = (subst (λ s. l.written.call ≤ begun (made_by l) (pending_of s)) (sym same) w.called, (λ e. w.inv e ∙ sym (ap pending_of same)), w.made, w.written)
+    by (Posting inv count) same h = elim (lt_cases r count) [
+      | inl e ↦ rw e.1 ((omega arith), (λ z. refl), announced_most inv count, inl refl)
+      | inr e ↦ rw e.1 (
+        subst (λ s. l.written.call ≤ begun (made_by l) (pending_of s)) (sym same) w.called,
+        (λ z. w.inv z ∙ sym (ap pending_of same)),
+        announced_made inv count (let a = e.0 in omega (arith, r_in)),
+        w.written,
+      )
+    ] where
+      announced_most : (inv : I) (count : ℕ) → announced_at {S = S} {R = R} n (made_by l) (Posting inv count) ≤ made_by l + 1
+      announced_most inv count = elim (number_cases count n) [ inl e ↦ rw e.1 (omega arith) | inr e ↦ rw e.1 (omega arith) ]
+
+      announced_made : (inv : I) (count : ℕ) → count < n → announced_at {S = S} {R = R} n (made_by l) (Posting inv count) ≤ l.written.call
+      announced_made inv count less = elim (number_cases count n) [ inl e ↦ absurd (omega (arith, e.0, less)) | inr e ↦ rw e.1 w.made ]
+    by (Ready inv tries) same h = (subst (λ s. l.written.call ≤ begun (made_by l) (pending_of s)) (sym same) w.called, (λ e. w.inv e ∙ sym (ap pending_of same)), (let a = h.0.1 in omega arith), w.written)
+    by (Reading inv tries count) same h = (subst (λ s. l.written.call ≤ begun (made_by l) (pending_of s)) (sym same) w.called, (λ e. w.inv e ∙ sym (ap pending_of same)), (let a = h.0.1 in omega arith), w.written)
+    by (Writing inv tries image count) same h = elim (lt_cases r count) [
+      | inl e ↦ rw e.1 ((omega arith), (λ z. refl), (omega arith), inl refl)
+      | inr e ↦ rw e.1 (subst (λ s. l.written.call ≤ begun (made_by l) (pending_of s)) (sym same) w.called, (λ z. w.inv z ∙ sym (ap pending_of same)), (let a = h.0.1 in omega arith), w.written)
+    ]
+
+-- the version that is found in what a process told has come, since it has brought in one at least as late
+pub version_found : {S I R : Type 0} (object : Sequential S I R) (n : ℕ) (g : Board I S R) (local : ℕ → Local I S R) (l : Local I S R) (t : Told I S R) (v : ℕ) → HasLast object n g local l t → HasCome object n g l.last → v ≤ l.last.number
+    → HasCome object n g (found_in t v) × (v ≤ (found_in t v).number)
+version_found object n g local l t v has come least = elim (lt_cases t.last.number v) [
+  | inl e ↦ rw e.1 (elim has [
+    | inl same ↦ absurd (let a = e.0 in let b = ap (λ (z : Version _ _). z.number) same in omega (arith, least))
+    | inr next ↦ (subst (HasCome object n g) (sym next.0) come, (let b = ap (λ (z : Version _ _). z.number) next.0 in omega (arith, least)))
+  ])
+  | inr e ↦ rw e.1 (elim has [
+    | inl same ↦ (subst (HasCome object n g) (sym same) come, e.0)
+    | inr next ↦ (next.2, e.0)
+  ])
+]
+
+module _ {O I S R : Type 0} (meaning : O → Sequential S I R) (o : O) (n id : ℕ) (v : View O I S R) (alone : v.known.count ≡ 1) (processes : v.known.processes ≡ n) (inv : I) (tries r : ℕ) (r_in : r < n) (reads : stage_of v ≡ Reading inv tries r) where
+  abbrev l : Local I S R
+  l = local_of v
+
+  abbrev p : ℕ
+  p = v.known.first
+
+  module _ (c : Contents (Letter I S R) (View O I S R)) (g : Board I S R) (local : ℕ → Local I S R) (seat_of : ℕ → ℕ) (is : IsShown n meaning o g local seat_of c) (at : get_elem? c.views id ≡ some v) where
+    abbrev object : Sequential S I R
+    object = meaning o
+
+    abbrev found : Option (Letter I S R)
+    found = c.buffers r p
+
+    abbrev l1 : Local I S R
+    l1 = with_seen l r found
+
+    p_in : p < n
+    p_in = (own meaning o n id v alone c g local seat_of is at).0
+
+    local_is : local p ≡ l
+    local_is = (own meaning o n id v alone c g local seat_of is at).2
+
+    its : IsAt object n g local p l
+    its = mine meaning o n id v alone c g local seat_of is at
+
+    at_stage : IsStageAt object n g local p l (Reading inv tries r)
+    at_stage = subst (IsStageAt object n g local p l) reads its.stage
+
+    pending_is : pending_of l.stage ≡ Some inv
+    pending_is = ap pending_of reads
+
+    -- all but what it has seen is as it was
+    same_1 : (l1.stage ≡ l.stage) × (l1.own ≡ l.own) × (l1.word ≡ l.word) × (l1.last ≡ l.last) × (l1.written ≡ l.written) × (l1.after ≡ l.after)
+    same_1 = by found where
+      by : (f : Option (Letter I S R)) → ((with_seen l r f).stage ≡ l.stage) × ((with_seen l r f).own ≡ l.own) × ((with_seen l r f).word ≡ l.word) × ((with_seen l r f).last ≡ l.last) × ((with_seen l r f).written ≡ l.written) × ((with_seen l r f).after ≡ l.after)
+      by None = (refl, refl, refl, refl, refl, refl)
+      by (Some letter) = (refl, refl, refl, refl, refl, refl)
+
+    -- the same with its fields as they were
+    abbrev seen' : List (Told I S R)
+    seen' = slice_set l.seen r (known_then found (seen_of object n l r))
+
+    abbrev l2 : Local I S R
+    l2 = record l { seen = seen' }
+
+    pub l1_is : l1 ≡ l2
+    l1_is = by found where
+      by : (f : Option (Letter I S R)) → with_seen l r f ≡ record l { seen = slice_set l.seen r (known_then f (seen_of object n l r)) }
+      by None = (λ k. record l { seen = sym (set-get_or l.seen r (first_told object n)) k })
+      by (Some letter) = refl
+
+    long : r < length l.seen
+    long = (let a = its.reader.long in omega (arith, r_in))
+
+    -- what it knows of process r then, and of the others
+    module _ (stage' : Stage I S R) where
+      abbrev l' : Local I S R
+      l' = record l2 { stage = stage' }
+
+      module _ (same : (q : ℕ) → q < n → posted l' q ≡ posted l q) where
+        now : seen_of object n l' r ≡ posted (local r) p
+        now = seen_now meaning o n id v alone c g local seat_of is at l' r r_in long refl same
+
+        else : (q : ℕ) → q ≢ r → seen_of object n l' q ≡ seen_of object n l q
+        else = seen_else meaning o n id v alone c g local seat_of is at l' r r_in long refl same
+
+    abbrev read_on : Local I S R
+    read_on = l' (Reading inv tries (r + 1))
+
+    posted_same : (stage' : Stage I S R) → (q : ℕ) → ((posted_at l stage' q) ≡ l.written) → posted_at l stage' q ≡ posted l q
+    posted_same stage' q plain = plain ∙ sym (ap (λ s. posted_at l s q) reads)
+
+    now_r : seen_of object n l2 r ≡ posted (local r) p
+    now_r = now (Reading inv tries (r + 1)) (λ q q_in. posted_same (Reading inv tries (r + 1)) q refl)
+
+    else_q : (q : ℕ) → q ≢ r → seen_of object n l2 q ≡ seen_of object n l q
+    else_q = else (Reading inv tries (r + 1)) (λ q q_in. posted_same (Reading inv tries (r + 1)) q refl)
+
+    facts_r : (posted (local r) p).call ≤ called_by (local r)
+    facts_r = (posted_facts object n g local r (local r) (is.sound.each r r_in) p p_in).0
+
+    reader2 : IsReader object n g local l2
+    reader2 =
+        let h = its.reader in
+        record {
+          long = length-set l.seen r _ ∙ h.long;
+          process = h.process;
+          known = h.known;
+          old = h.old;
+          called = λ q q_in. elim (number_cases q r) [
+            | inl same ↦ subst (λ j. (seen_of object n l2 j).call ≤ called_by (local j)) (sym same.0) (subst (λ (t : Told I S R). t.call ≤ called_by (local r)) (sym now_r) facts_r)
+            | inr other ↦ subst (λ (t : Told I S R). t.call ≤ called_by (local q)) (sym (else_q q other.0)) (h.called q q_in)
+          ];
+          inv = λ q q_in. elim (number_cases q r) [
+            | inl same ↦ subst (λ j. (seen_of object n l2 j).call ≡ made_by (local j) + 1 → (seen_of object n l2 j).inv ≡ pending_of (local j).stage) (sym same.0)
+                (subst (λ (t : Told I S R). t.call ≡ made_by (local r) + 1 → t.inv ≡ pending_of (local r).stage) (sym now_r) (posted_facts object n g local r (local r) (is.sound.each r r_in) p p_in).1)
+            | inr other ↦ subst (λ (t : Told I S R). t.call ≡ made_by (local q) + 1 → t.inv ≡ pending_of (local q).stage) (sym (else_q q other.0)) (h.inv q q_in)
+          ];
+        }
+
+    fresh_of : (x : Version S R) → HasCome object n g x → number_in l.word ≤ x.number → l.word ≡ word_of g.number g.process → (x.number ≡ g.number) × (x.image ≡ g.image)
+    fresh_of x come least same =
+        let number_is : number_in l.word ≡ g.number = (let b = is.sound.board.process in let d = is.few.1 in let e : number_in l.word ≡ number_in (word_of g.number g.process) = ap number_in same in omega (arith, b, d, e)) in
+        ((let a = come.0 in omega (arith, least, number_is)), present_image object n g local is.sound.history is.sound.order x come (omega (arith, least, number_is)))
+
+    base2 : process_in l.word < r + 1 → IsBase object n g local l2 (base_of object n l2)
+    base2 below = elim (number_cases (process_in l.word) r) [
+      | inl same ↦
+          let t = posted (local r) p in
+          let has = (posted_facts object n g local r (local r) (is.sound.each r r_in) p p_in).3 in
+          let known : number_in l.word ≤ (local r).last.number = subst (λ j. number_in l.word ≤ (local j).last.number) same.0 its.reader.known in
+          let x = version_found object n g local (local r) t (number_in l.word) has (is.sound.each r r_in).writer.last known in
+          let here : base_of object n l2 ≡ found_in t (number_in l.word) = ap (λ j. found_in (seen_of object n l2 j) (number_in l.word)) same.0 ∙ ap (λ z. found_in z (number_in l.word)) now_r in
+          subst (IsBase object n g local l2) (sym here) (record { come = x.0; least = x.1; fresh = fresh_of (found_in t (number_in l.word)) x.0 x.1 })
+      | inr other ↦
+          let b = at_stage.2.base (omega (arith, below, other.0)) in
+          let here : base_of object n l2 ≡ base_of object n l = ap (λ z. found_in z (number_in l.word)) (else_q (process_in l.word) other.0) in
+          subst (IsBase object n g local l2) (sym here) (record { come = b.come; least = b.least; fresh = b.fresh })
+    ]
+
+    -- what it wrote itself it has seen
+    own2 : p < r + 1 → seen_of object n l2 p ≡ l.written
+    own2 below = elim (number_cases p r) [
+      | inl same ↦ ap (seen_of object n l2) same.0 ∙ now_r ∙ ap (λ j. posted (local j) p) (sym same.0) ∙ ap (λ (z : Local I S R). posted z p) local_is ∙ ap (λ s. posted_at l s p) reads
+      | inr other ↦ else_q p other.0 ∙ at_stage.2.own (omega (arith, below, other.0))
+    ]
+
+    -- it has not looked into all of them, or the version that it found lacks its call
+    module _ (lacks : r + 1 ≡ n → applied_in (base_of object n l2).image p ≡ made_by l) where
+      shows_on : ShowsBoard meaning o n (record { words = c.words; buffers = with_value c.buffers r p None; views = slice_set c.views id (with_local v read_on) })
+      shows_on =
+          let pend : pending_of read_on.stage ≡ pending_of l.stage = sym pending_is in
+          let keeps = keeps_same l read_on refl pend in
+          let called : called_by read_on ≡ called_by l = (λ k. begun (made_by l) (pend k)) in
+          let announced : announced_by n read_on ≡ announced_by n l = sym (ap (announced_at n (made_by l)) reads) in
+          let told_on : called_by l ≡ in_of g p + 1 → called_by read_on ≡ in_of g p + 1 = (λ e. called ∙ e) in
+          let asked_on : (i : I) → in_of g p ≡ made_by l → pending_of l.stage ≡ Some i → (made_by read_on ≡ made_by l) × (pending_of read_on.stage ≡ Some i) = (λ i e some_was. (refl, pend ∙ some_was)) in
+          let since_else : (q : ℕ) → q ≢ p → g.since q ≡ g.since q = (λ q apart. refl) in
+          let announced_on : g.since p < g.number → (g.since p ≡ g.since p) × (announced_by n read_on ≡ announced_by n l) = (λ before. (refl, announced)) in
+          let open' = g.atomic.open_call in
+          let next' = g.atomic.next_nth in
+          let g' = later object n g local p l read_on local_is g.since open' next' g.acts in
+          let local' = locals object n g local p l read_on local_is g.since open' next' g.acts in
+          let w = its.writer in
+          let rd = reader_stays object n g local p l read_on local_is g.since open' next' g.acts since_else announced_on (omega arith) keeps told_on asked_on l2 reader2 in
+          let same_announced : (q : ℕ) → announced_by n (local' q) ≡ announced_by n (local q) = (λ q. elim (set_at-cases local p read_on q) [
+            | inl here ↦ ap (λ (z : Local I S R). announced_by n z) here.1 ∙ announced ∙ ap (λ (z : Local I S R). announced_by n z) (sym local_is ∙ ap local (sym here.0))
+            | inr other ↦ ap (λ (z : Local I S R). announced_by n z) other.1
+          ]) in
+          shown_with meaning o n id v alone c g local seat_of is at read_on g' c.words (with_value c.buffers r p None) is.word
+          (buffers_taken meaning o n id v alone c g local seat_of is at read_on r r_in long refl (λ q q_in. posted_same (Reading inv tries (r + 1)) q refl))
+          (sound_with object n g g' local p read_on is.sound
+          (board_stays object n g local p l read_on local_is g.since open' next' g.acts since_else announced_on (omega arith) keeps told_on asked_on (omega (arith, called)) (is.sound.board.past p p_in) is.sound.board)
+          (λ q q_in apart h. others_stay object n g local p l read_on local_is g.since open' next' g.acts since_else announced_on (omega arith) keeps told_on asked_on q apart h)
+          (record {
+            stage = (
+              (record { few = at_stage.0.0.few; least = at_stage.0.0.least; most = at_stage.0.0.most }, at_stage.0.1),
+              record { later = at_stage.1.later; least = at_stage.1.least; soon = at_stage.1.soon },
+              record {
+                most = omega (arith, r_in);
+                base = λ below. (let b = base2 below in record { come = b.come; least = b.least; fresh = b.fresh });
+                caught = λ same q below which. elim (number_cases q r) [
+                  | inl here ↦
+                      let a = (posted_facts object n g local r (local r) (is.sound.each r r_in) p p_in).2 in
+                      let b = same_announced r in
+                      let d = ap (λ (t : Told I S R). t.call) now_r in
+                      subst (λ j. announced_by n (local' j) ≤ (seen_of object n l2 j).call) (sym here.0) (omega (arith, a, b, d))
+                  | inr other ↦
+                      let a = at_stage.2.caught same q (omega (arith, below, other.0)) which in
+                      let b = same_announced q in
+                      let d = ap (λ (t : Told I S R). t.call) (else_q q other.0) in
+                      omega (arith, a, b, d)
+                ];
+                lacks = lacks;
+                own = own2;
+              },
+            );
+            writer = record {
+              last = w.last;
+              present = w.present;
+              written = w.written;
+              called = (let a = w.called in omega (arith, called));
+              inv = λ e. w.inv e ∙ sym pend;
+              made = w.made;
+            };
+            reader = record { long = rd.long; process = rd.process; known = rd.known; old = rd.old; called = rd.called; inv = rd.inv };
+          })
+          (history_kept object n g local p l read_on local_is g.since is.sound.history p_in refl pend)
+          (order_kept object n g local p l read_on local_is g.since open' next' g.acts is.sound.order p_in refl refl))
+
+    -- with all looked into
+    module _ (last : r + 1 ≡ n) where
+      abbrev x : Version S R
+      x = base_of object n l2
+
+      base : IsBase object n g local l2 x
+      base = base2 (let a = its.reader.process in omega (arith, last))
+
+      whole : IsWhole n x.image
+      whole = is.sound.board.whole x base.come
+
+      least : made_by l ≤ applied_in x.image p
+      least = at_stage.1.least x base.come base.least
+
+      most : applied_in x.image p ≤ made_by l + 1
+      most = (let a = is.sound.board.rises x base.come p p_in in let b = at_stage.0.0.most in omega arith)
+
+      lacks_of : applied_in x.image p ≢ made_by l + 1 → applied_in x.image p ≡ made_by l
+      lacks_of apart = (let a = least in let b = most in omega (arith, apart))
+
+      early : applied_in x.image p ≢ made_by l + 1 → tries < 2
+      early apart = elim (lt_cases tries 2) [ inl e ↦ e.0 | inr e ↦ absurd (apart (at_stage.1.soon e.0 x base.come base.least)) ]
+
+      -- it has the call, which returns
+      module _ (in_is : applied_in x.image p ≡ made_by l + 1) where
+        reply : (y : R) × ((row_in x.image p).reply ≡ Some y)
+        reply = whole.replies p p_in (let a = in_is in omega arith)
+
+        abbrev done : Local I S R
+        done = returns l2 inv reply.0 x.number
+
+        told_was : IsTold object n g local p l.own (Some inv)
+        told_was = subst (λ z. IsTold object n g local p l.own z) pending_is (own_told object n g local p l done local_is g.since is.sound.history p_in)
+
+        taken : (t : HasTaken object g.atomic.agreed (record { process = p; nth = made_by l; inv = inv }) reply.0) × (t.place < g.calls_in x.number)
+        taken = told_was.3 x reply.0 base.come in_is reply.1
+
+        none_later : (d : Invoked I) → Contains g.atomic.agreed d → d.process ≡ p → d.nth < made_by l + 1
+        none_later d has mine' = (let b = (is.sound.history.agreed d has).1 in let e : in_of g d.process ≡ in_of g p = ap (in_of g) mine' in let a = at_stage.0.0.most in omega arith)
+
+        rises : l.after < x.number
+        rises = version_rises object n g local p l done local_is g.since g.atomic.open_call g.atomic.next_nth g.acts is.sound.order p_in inv reply.0 x.number base.come.0 taken.0 taken.1 none_later
+
+        longer : made_by done ≡ made_by l + 1
+        longer = length-append l.own _
+
+        shows_end : ShowsBoard meaning o n (record { words = c.words; buffers = with_value c.buffers r p None; views = slice_set c.views id (with_local v done) })
+        shows_end =
+            let in_now : in_of g p ≡ made_by l + 1 = (let a = is.sound.board.rises x base.come p p_in in let b = at_stage.0.0.most in let d = in_is in omega arith) in
+            let called_was : called_by l ≡ made_by l + 1 = ap (begun (made_by l)) pending_is in
+            let keeps : KeepsCalls l done = (λ t few inv_is. ((let a = longer in omega (arith, few, called_was)), (λ e. absurd (let a = longer in omega (arith, few, called_was, e))))) in
+            let announced : announced_by n done ≡ announced_by n l = longer ∙ sym (ap (announced_at n (made_by l)) reads) in
+            let told_on : called_by l ≡ in_of g p + 1 → called_by done ≡ in_of g p + 1 = (λ e. absurd (omega (arith, e, called_was, in_now))) in
+            let asked_on : (i : I) → in_of g p ≡ made_by l → pending_of l.stage ≡ Some i → (made_by done ≡ made_by l) × (pending_of done.stage ≡ Some i) = (λ i e some_was. absurd (omega (arith, e, in_now))) in
+            let since_else : (q : ℕ) → q ≢ p → g.since q ≡ g.since q = (λ q apart. refl) in
+            let announced_on : g.since p < g.number → (g.since p ≡ g.since p) × (announced_by n done ≡ announced_by n l) = (λ before. (refl, announced)) in
+            let open' = open_without object n g local p l done local_is g.since is.sound.history p_in inv reply.0 x.number pending_is taken.0 in
+            let next' = g.atomic.next_nth in
+            let acts' = acts_then object n g local p l done local_is g.since is.sound.history p_in inv reply.0 x.number pending_is taken.0 in
+            let g' = later object n g local p l done local_is g.since open' next' acts' in
+            let w = its.writer in
+            let rd = reader_stays object n g local p l done local_is g.since open' next' acts' since_else announced_on (omega arith) keeps told_on asked_on l2 reader2 in
+            shown_with meaning o n id v alone c g local seat_of is at done g' c.words (with_value c.buffers r p None) is.word
+            (buffers_taken meaning o n id v alone c g local seat_of is at done r r_in long refl (λ q q_in. posted_same Idle q refl))
+            (sound_with object n g g' local p done is.sound
+            (board_stays object n g local p l done local_is g.since open' next' acts' since_else announced_on (omega arith) keeps told_on asked_on (let a = longer in omega (arith, called_was)) (is.sound.board.past p p_in) is.sound.board)
+            (λ q q_in apart h. others_stay object n g local p l done local_is g.since open' next' acts' since_else announced_on (omega arith) keeps told_on asked_on q apart h)
+            (record {
+              stage = (in_now ∙ sym longer, (let a = at_stage.0.0.few in let b = longer in omega arith));
+              writer = record {
+                last = w.last;
+                present = w.present;
+                written = w.written;
+                called = (let a = at_stage.0.1 in let b = longer in omega arith);
+                inv = λ e. absurd (let a = at_stage.0.1 in let b = longer in omega (arith, e));
+                made = (let a = at_stage.0.1 in let b = longer in omega arith);
+              };
+              reader = record { long = rd.long; process = rd.process; known = rd.known; old = rd.old; called = rd.called; inv = rd.inv };
+            })
+            (history_ended object n g local p l done local_is g.since is.sound.history p_in inv reply.0 x.number pending_is taken.0 refl refl)
+            (order_ended object n g local p l done local_is g.since open' next' acts' is.sound.order p_in inv reply.0 x.number base.come.0 taken.0 taken.1 none_later refl refl))
+
+    -- what the seat is told
+    same_reading : (inv' : I) (tries' : ℕ) → stage_of v ≡ Reading inv' tries' r → (inv ≡ inv') × (tries ≡ tries')
+    same_reading inv' tries' reads' = let e : Reading inv tries r ≡ Reading inv' tries' r = sym reads ∙ reads' in let a : inv ≡ inv' = cc in let b : tries ≡ tries' = cc in (a, b)
+
+    found_as : (w : View O I S R) → HasFound meaning v inv tries l2 w → HasFound meaning v inv tries l1 w
+    found_as w h = subst (λ z. HasFound meaning v inv tries z w) (sym l1_is) h
+
+    -- in the object's and the seat's own terms
+    module _ (w : View O I S R) where
+      base_is : base_of (meaning v.object) v.known.processes l2 ≡ base_of object n l2
+      base_is = (λ k. base_of (meaning (object_is meaning o n id v alone c g local seat_of is at k)) (processes k) l2)
+
+    seen_is : (q : ℕ) → seen_of (meaning v.object) v.known.processes l2 q ≡ seen_of object n l2 q
+    seen_is q = (λ k. seen_of (meaning (object_is meaning o n id v alone c g local seat_of is at k)) (processes k) l2 q)
+
+    said_on : (last : r + 1 ≡ n) → (lacks : applied_in (base_of object n l2).image p ≢ made_by l + 1) → HasFound meaning v inv tries l2 (with_local v read_on)
+    said_on last lacks =
+        let b = base_is (with_local v read_on) in
+        record {
+          whole = subst (λ m. IsWhole m (base_of (meaning v.object) v.known.processes l2).image) (sym processes) (subst (λ (z : Version S R). IsWhole n z.image) (sym b) (whole last));
+          least = subst (λ (z : Version S R). number_in l.word ≤ z.number) (sym b) (base last).least;
+          ends = λ e. absurd (lacks (ap (λ (z : Version S R). applied_in z.image p) (sym b) ∙ e));
+          goes_on = λ e. (
+            ap (λ (z : Version S R). applied_in z.image p) b ∙ lacks_of last lacks,
+            early last lacks,
+            ap (λ (t : Told I S R). t.call) (seen_is p ∙ own2 (omega (arith, last, p_in))) ∙ at_stage.0.1,
+            ap (λ (t : Told I S R). t.inv) (seen_is p ∙ own2 (omega (arith, last, p_in))) ∙ its.writer.inv at_stage.0.1 ∙ pending_is,
+            (λ k. with_local v (record l2 { stage = Reading inv tries ((last ∙ sym processes) k) })),
+          );
+        }
+
+    said_end : (last : r + 1 ≡ n) → (in_is : applied_in (base_of object n l2).image p ≡ made_by l + 1) → HasFound meaning v inv tries l2 (with_local v (done last in_is))
+    said_end last in_is =
+        let b = base_is (with_local v (done last in_is)) in
+        record {
+          whole = subst (λ m. IsWhole m (base_of (meaning v.object) v.known.processes l2).image) (sym processes) (subst (λ (z : Version S R). IsWhole n z.image) (sym b) (whole last));
+          least = subst (λ (z : Version S R). number_in l.word ≤ z.number) (sym b) (base last).least;
+          ends = λ e. (
+            (reply last in_is).0,
+            ap (λ (z : Version S R). (row_in z.image p).reply) b ∙ (reply last in_is).1,
+            subst (λ (z : Version S R). l.after < z.number) (sym b) (rises last in_is),
+            (λ k. with_local v (returns l2 inv (reply last in_is).0 (sym b k).number)),
+          );
+          goes_on = λ e. absurd (e (ap (λ (z : Version S R). applied_in z.image p) b ∙ in_is));
+        }
+
+    -- the view after it, with all that is so then
+    out : (w : View O I S R) × ShowsBoard meaning o n (record { words = c.words; buffers = with_value c.buffers r p None; views = slice_set c.views id w }) × HasLearned meaning v r found w
+    out = elim (lt_cases (r + 1) n) [
+      | inl less ↦ (
+        with_local v read_on,
+        shows_on (λ e. absurd (let a = less.0 in omega (arith, e))),
+        (λ inv' tries' reads' in'.
+            let e = same_reading inv' tries' reads' in (
+              (λ below. (λ k. with_local v (record (sym l1_is k) { stage = Reading (e.0 k) (e.1 k) (r + 1) }))),
+              (λ last. absurd (let a = less.0 in omega (arith, last, processes))),
+            )),
+      )
+      | inr more ↦
+          let last : r + 1 ≡ n = (let a = more.0 in omega (arith, r_in)) in
+          elim (number_cases (applied_in (base_of object n l2).image p) (made_by l + 1)) [
+            | inl in_is ↦ (
+              with_local v (done last in_is.0),
+              shows_end last in_is.0,
+              (λ inv' tries' reads' in'.
+                  let e = same_reading inv' tries' reads' in
+                  let w = with_local v (done last in_is.0) in (
+                    (λ below. absurd (omega (arith, below, last, processes))),
+                    (λ z. subst (λ t. HasFound meaning v inv' t l1 w) e.1 (subst (λ i. HasFound meaning v i tries l1 w) e.0 (found_as w (said_end last in_is.0)))),
+                  )),
+            )
+            | inr apart ↦ (
+              with_local v read_on,
+              shows_on (λ z. lacks_of last apart.0),
+              (λ inv' tries' reads' in'.
+                  let e = same_reading inv' tries' reads' in
+                  let w = with_local v read_on in (
+                    (λ below. absurd (omega (arith, below, last, processes))),
+                    (λ z. subst (λ t. HasFound meaning v inv' t l1 w) e.1 (subst (λ i. HasFound meaning v i tries l1 w) e.0 (found_as w (said_on last apart.0)))),
+                  )),
+            )
+          ]
+    ]
+
+  pub learns : AllowsTake (ShowsBoard meaning o n) id v r p (HasLearned meaning v r)
+  learns c shown at = out c shown.0 shown.1.0 shown.1.1.0 shown.1.1.1 at

@@ -1,0 +1,61 @@
+-- What the rule means.
+use Rattle.uni_endless.proofs.Vocabulary.{Board, Contains, Contents, Image, IsOrdered, IsShown, IsTold, Letter, List, Local, None, Option, Returned, Sequential, Some, StandsIn, View, acts_by, announced_by, ap, arith, in_of, number_in, pending_of, refl, slice_get, subst, sym, word_of, ℕ, ◌+◌, ◌/◌, ◌<◌, ◌∙◌, ◌≡◌, ◌≤◌}
+use Rattle.uni_any.proofs.Batches.{state_from}
+use Rattle.uni_any.specs.Final.{IsLinearized, ProcessCalls, acts_told}
+use Rattle.uni_endless.specs.Laws.{IsToldBy}
+use Rattle.uni_endless.specs.News.{first_image}
+
+module _ {O I S R : Type 0} (meaning : O → Sequential S I R) (o : O) (n : ℕ) (g : Board I S R) (local : ℕ → Local I S R) (seat_of : ℕ → ℕ) (c : Contents (Letter I S R) (View O I S R)) (is : IsShown n meaning o g local seat_of c) where
+  abbrev object : Sequential S I R
+  object = meaning o
+
+  -- these are the calls of a process
+  abbrev AreCalls : ProcessCalls I R → Type 0
+  AreCalls its = (its.process < n) × ((local its.process).own ≡ its.own) × (pending_of (local its.process).stage ≡ its.pending)
+
+  acts_of : (p : ℕ) (own : List (Returned I R)) (pending : Option I) → IsTold object n g local p own pending → acts_by p g.acts ≡ acts_told p own pending
+  acts_of p own None told = told.2
+  acts_of p own (Some inv) told = told.2
+
+  -- what one seat tells of its process
+  told_calls : (its : ProcessCalls I R) → IsToldBy c.views its → AreCalls its
+  told_calls its by =
+      let e = by.process in
+      let k = (is.seats by.id by.view by.there).each its.process (omega arith) (let a = by.alone in omega arith) in
+      (k.0, ap (λ (z : Local I S R). z.own) k.2 ∙ by.own, ap (λ (z : Local I S R). pending_of z.stage) k.2 ∙ by.pending)
+
+  told_acts : (its : ProcessCalls I R) → AreCalls its → acts_by its.process g.acts ≡ acts_told its.process its.own its.pending
+  told_acts its are = acts_of its.process its.own its.pending (subst (λ p. IsTold object n g local its.process its.own p) are.2
+      (subst (λ own. IsTold object n g local its.process own (pending_of (local its.process).stage)) are.1 (is.sound.history.told its.process are.0)))
+
+  told_order : (its : ProcessCalls I R) → AreCalls its → (k : ℕ) (call : Returned I R) → slice_get its.own k ≡ Some call → StandsIn object g.atomic.agreed g.calls_in its.process k call
+  told_order its are k call at =
+      let order : IsOrdered object g.atomic.agreed g.calls_in g.number its.process (local its.process).after its.own
+      = subst (λ own. IsOrdered object g.atomic.agreed g.calls_in g.number its.process (local its.process).after own) are.1 (is.sound.order.each its.process are.0) in
+      order.stand k call at
+
+  pub linearized_at : (known : List (ProcessCalls I R)) → ((its : ProcessCalls I R) → Contains known its → IsToldBy c.views its) → IsLinearized object n known g.image.state
+  linearized_at known by =
+      let history = is.sound.history in
+      record {
+        acts = g.acts;
+        atomic = g.atomic;
+        accepted = history.accepted;
+        linearized = (g.acts, g.atomic, refl, history.accepted, refl);
+        state_is = sym (state_from object (first_image object n) g.atomic.agreed) ∙ ap (λ (z : Image S R). z.state) history.image;
+        inside = λ x has. (history.agreed x has).0;
+        own_is = λ its has. told_acts its (told_calls its (by its has));
+        calls_in_version = g.calls_in;
+        rising = is.sound.order.rising;
+        stand = λ its has k call at. told_order its (told_calls its (by its has)) k call at;
+      }
+
+  pub come_at : (p k : ℕ) (call : Returned I R) → p < n → slice_get (local p).own k ≡ Some call → call.version ≤ number_in (c.words 0)
+  come_at p k call inside at =
+      let known = (is.sound.order.each p inside).known k call at in
+      let below : g.process < 64 = (let a = is.sound.board.process in let b = is.few.1 in omega arith) in
+      let here : number_in (c.words 0) ≡ g.number = ap number_in is.word ∙ (let e : word_of g.number g.process / 64 ≡ g.number = omega (arith, below) in e) in
+      omega (arith, known, here)
+
+  pub soon_at : (p : ℕ) → p < n → g.since p + 2 ≤ g.number → announced_by n (local p) ≤ in_of g p
+  soon_at p inside late = is.sound.board.soon p inside late

@@ -1,0 +1,9 @@
+pub mod News
+pub mod Board
+pub mod Invariant
+pub mod Plays
+pub mod Shown
+pub mod Standing
+pub mod Seats
+pub mod Drafts
+pub mod Laws

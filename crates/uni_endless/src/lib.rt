@@ -1,0 +1,22 @@
+//! The rule of any object without end, and each step of its processes on words and buffers.
+#![tactic(auto)]
+
+mod apply;
+mod attempt;
+mod draft;
+pub mod laws;
+mod looking;
+mod news;
+mod open;
+mod rule;
+mod seat;
+mod steps;
+mod view;
+mod writing;
+
+pub use apply::MOST_CALLS;
+pub use news::{Block, News};
+pub use open::{EndlessOpenFault, MOST_PROCESSES};
+pub use rule::{ObjectBuffers, ObjectParty, Setup};
+pub use seat::{EndlessAnswer, EndlessFault, EndlessResumeFault, EndlessSeat, EndlessShared};
+pub use view::{Known, Local, Stage, Told, Version, View};

@@ -1,0 +1,66 @@
+//! A process's place at an object.
+ghost use Rattle.std.specs.Prelude.{◌≡◌, ◌≤◌};
+ghost use Rattle.triple_buffers.specs.Parties.{key_of, layout_of};
+
+use crate::news::Block;
+use crate::rule::{NewsOf, ObjectBuffers, ObjectParty};
+use seq_object::SeqObject;
+use std::alloc::Global;
+use std::sync::Arc;
+use thiserror::Error;
+
+/// An object that threads share, each by a seat of its own.
+#[derive(Drop)]
+pub struct EndlessShared<O: SeqObject> {
+    pub(crate) buffers: ObjectBuffers<O>,
+    pub ghost laid: { layout_of buffers ≡ record { words = 1; parties = (key_of buffers).processes } },
+    pub ghost few: { (1 ≤ (key_of buffers).processes) × ((key_of buffers).processes ≤ 64) },
+}
+
+/// A version of an object.
+pub type BlockOf<O> = Block<<O as SeqObject>::State, <O as SeqObject>::Resp>;
+
+/// A process's place at the object.
+#[derive(Drop)]
+pub struct EndlessSeat<O: SeqObject> {
+    pub(crate) party: ObjectParty<O>,
+    pub(crate) p: u64,
+    pub(crate) made: u64,
+    pub(crate) asked: Option<Arc<O::Inv, Global>>,
+    pub(crate) last: Arc<BlockOf<O>, Global>,
+    pub(crate) seen: Vec<NewsOf<O>>,
+}
+
+/// The reply to a call, and a version of the object in which the call is. Versions count from 0, the start.
+#[derive(Clone, Copy, Debug, PartialEq, Eq)]
+pub struct EndlessAnswer<R> {
+    /// The reply.
+    pub reply: R,
+    /// The version.
+    pub version: u64,
+}
+
+/// Why a call has no reply.
+#[derive(Debug, Clone, Copy, PartialEq, Eq, Drop, Error)]
+pub enum EndlessFault {
+    /// The seat has a call pending: `resume` goes on with it.
+    #[error("a call is pending")]
+    Pending,
+    /// The seat has made 2^40 calls.
+    #[error("all calls are made")]
+    Spent,
+    /// Memory was refused.
+    #[error("out of memory")]
+    Memory,
+}
+
+/// Why a pending call has no reply.
+#[derive(Debug, Clone, Copy, PartialEq, Eq, Drop, Error)]
+pub enum EndlessResumeFault {
+    /// No call is pending.
+    #[error("no call is pending")]
+    NothingPending,
+    /// Memory was refused: the call is pending still.
+    #[error("out of memory")]
+    Memory,
+}
