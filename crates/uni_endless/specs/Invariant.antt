@@ -22,7 +22,7 @@ use Rattle.uni_endless.specs.declared.view.Version.{Version}
 
 -- how many calls a process may make
 abbrev pub most_calls : ℕ
-most_calls = 1099511627776
+most_calls = 1125899906842624
 
 -- an image has a row of each of n processes, and the reply of each that has a call in
 pub record IsWhole {S R : Type 0} (n : ℕ) (image : Image S R) : Type 0 where

@@ -18,8 +18,8 @@ use seq_object::SeqObject;
 use std::alloc::{AllocError, Global};
 use std::sync::Arc;
 
-/// How many calls a seat may make: 2^40.
-pub const MOST_CALLS: u64 = 1 << 40;
+/// How many calls a seat may make: 2^50.
+pub const MOST_CALLS: u64 = 1 << 50;
 
 impl<O: SeqObject> EndlessSeat<O> {
     /// Writes the invocation of the next call for all. The error says that memory was refused.

@@ -62,7 +62,7 @@ impl<O: SeqObject> EndlessSeat<O> {
         owners: Vec<NewsOf<O>>,
     ) -> Option<EndlessAnswer<O::Resp>>
         requires kept { IsKept shared.now self.old }
-        requires word { ((local_in self.old).word ≡ word) × (word < 1152921504606846976) }
+        requires word { ((local_in self.old).word ≡ word) × (word < 9223372036854775808) }
         requires wide { length (version_as (arc_value block)).image.rows ≡ processes_of shared.now }
         requires number { (version_as (arc_value block)).number ≡ number_in word + 1 }
         requires owners { (length owners.items ≡ processes_of shared.now)

@@ -77,7 +77,7 @@ impl<O: SeqObject> EndlessSeat<O> {
     ) -> Result<BlockOf<O>, AllocError>
         requires kept { IsKept shared.now self.now }
         requires word { ((local_in self.now).word ≡ word) × (process_in word < processes_of shared.now)
-            × (word < 1152921504606846976) }
+            × (word < 9223372036854775808) }
         requires whole { IsWhole (processes_of shared.now)
             (base_of (O.sequential (object_of shared.now)) (processes_of shared.now) (local_in self.now)).image }
         requires own { IsSome (due

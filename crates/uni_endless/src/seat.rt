@@ -46,7 +46,7 @@ pub enum EndlessFault {
     /// The seat has a call pending: `resume` goes on with it.
     #[error("a call is pending")]
     Pending,
-    /// The seat has made 2^40 calls.
+    /// The seat has made 2^50 calls.
     #[error("all calls are made")]
     Spent,
     /// Memory was refused.
