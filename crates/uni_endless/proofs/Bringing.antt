@@ -1,8 +1,8 @@
 -- The exchange that brings a block in: the calls that it applied take effect, and the own call returns.
-use Rattle.uni_endless.proofs.Vocabulary.{AcceptsAll-append, Act, AllowsChange, AreOrdered, Board, Contents, HasBrought, HasCome, HasDrafted, HasLast, HasTaken, Idle, Image, Invoke, Invoked, IsAt, IsBoard, IsHistory, IsOpen, IsOrdered, IsReader, IsShown, IsStageAt, IsTold, IsTrying, IsWhole, Letter, Linearize, List, Local, None, Option, Posting, Reading, Ready, Respond, Returned, Sequential, ShowsBoard, Some, Stage, Told, Version, View, Writing, [], acts_by, announced_at, announced_by, ap, applied_in, arith, at_start, base_of, begun, block_news, brought, called_by, either, ending, get_elem?, in_of, inl, inr, length, length-append, local_of, lt_cases, made_by, map, missed, number_in, pending_of, plain, posted, posted_at, process_in, refl, response_at, row_in, sequential_acts, set_at, set_at-cases, set_at_elsewhere, set_at_same, slice_set, some, stage_of, subst, sym, with_local, word_of, ℕ, ◌++◌, ◌+◌, ◌<◌, ◌∙◌, ◌∷◌, ◌≡◌, ◌≢◌, ◌≤◌, ◌⊎◌}
+use Rattle.uni_endless.proofs.Vocabulary.{AcceptsAll-append, Act, AllowsChange, AreOrdered, Board, Contents, HasBrought, HasCome, HasDrafted, HasLast, HasTaken, Idle, Image, Invoke, Invoked, IsAt, IsBoard, IsHistory, IsOpen, IsOrdered, IsReader, IsShown, IsStageAt, IsTold, IsTrying, IsWhole, Letter, Linearize, List, Local, None, Option, Posting, Reading, Ready, Respond, Returned, Sequential, ShowsBoard, Some, Stage, Told, Version, View, Writing, [], acts_by, announced_at, announced_by, ap, applied_in, arith, at_start, base_of, begun, block_news, brought, called_by, either, ending, get_elem?, in_of, inl, inr, length, length-append, local_of, lt_cases, made_by, map, missed, number_in, pending_of, plain, posted, posted_at, process_in, refl, response_at, row_in, sequential_acts, set_at, set_at-cases, set_at_elsewhere, set_at_same, slice_set, some, stage_of, subst, sym, with_local, word_of, ℕ, ◌++◌, ◌+◌, ◌<◌, ◌∙◌, ◌∷◌, ◌≡◌, ◌≢◌, ◌≤◌, ◌⊎◌, HasBatch, Moves, ShowsNext, append-nil, responses, returned_by, with_word}
 use Rattle.std.proofs.Common.{append_assoc, ◌==◌}
 use Rattle.atomic_table.proofs.Lists.{exchanged}
-use Rattle.uni_endless.proofs.Framing.{buffers_same, mine, own, shown_with, sound_with}
+use Rattle.uni_endless.proofs.Framing.{board_of, buffers_same, drop_past, mine, own, shown_with, sound_with}
 use Rattle.uni_endless.proofs.Growing.{accepted_then, agreed', agreed_then, acts_lin, board_then, calls, calls_then, come_cases, come_new, come_up, image_then, in_least, in_most, order1, place_before, shadows, still_taken, taken_then}
 use Rattle.uni_endless.proofs.Histories.{history_kept, own_told}
 use Rattle.uni_endless.proofs.Orders.{order_kept}
@@ -57,7 +57,7 @@ module _ {O I S R : Type 0} (meaning : O → Sequential S I R) (o : O) (n id : �
       abbrev l0 : Local I S R
       l0 = missed l inv tries image
 
-      miss : ShowsBoard meaning o n (record { words = set_at c.words 0 (c.words 0); buffers = c.buffers; views = slice_set c.views id (with_local v l0) })
+      miss : ShowsNext meaning o n g local seat_of (record { words = set_at c.words 0 (c.words 0); buffers = c.buffers; views = slice_set c.views id (with_local v l0) }) p l0 []
       miss =
           let pend : pending_of l0.stage ≡ pending_of l.stage = sym pending_is in
           let keeps = keeps_same l l0 refl pend in
@@ -72,7 +72,7 @@ module _ {O I S R : Type 0} (meaning : O → Sequential S I R) (o : O) (n id : �
           let g' = later object n g local p l l0 local_is g.since open' next' g.acts in
           let w = its.writer in
           let rd = reader_stays object n g local p l l0 local_is g.since open' next' g.acts since_else announced_on (omega arith) keeps told_on asked_on l its.reader in
-          shown_with meaning o n id v alone c g local seat_of is at l0 g' (set_at c.words 0 (c.words 0)) c.buffers (set_at_same c.words 0 (c.words 0) ∙ is.word) (buffers_same meaning o n id v alone c g local seat_of is at l0 refl posted_was)
+          shown_with meaning o n id v alone c g local seat_of is at l0 g' [] (sym (append-nil g.acts)) (set_at c.words 0 (c.words 0)) c.buffers (set_at_same c.words 0 (c.words 0) ∙ is.word) (buffers_same meaning o n id v alone c g local seat_of is at l0 refl posted_was)
           (sound_with object n g g' local p l0 is.sound
           (board_stays object n g local p l l0 local_is g.since open' next' g.acts since_else announced_on (omega arith) keeps told_on asked_on (omega (arith, called)) (is.sound.board.past p p_in) is.sound.board)
           (λ q q_in apart h. others_stay object n g local p l l0 local_is g.since open' next' g.acts since_else announced_on (omega arith) keeps told_on asked_on q apart h)
@@ -405,8 +405,8 @@ module _ {O I S R : Type 0} (meaning : O → Sequential S I R) (o : O) (n id : �
             ];
           }
 
-      hit : ShowsBoard meaning o n (record { words = set_at c.words 0 new; buffers = c.buffers; views = slice_set c.views id (with_local v l') })
-      hit = shown_with meaning o n id v alone c g local seat_of is at l' g' (set_at c.words 0 new) c.buffers (set_at_same c.words 0 new ∙ ap (λ k. word_of (k + 1) p) number_is) (buffers_same meaning o n id v alone c g local seat_of is at l' refl posted_was)
+      hit : ShowsNext meaning o n g local seat_of (record { words = set_at c.words 0 new; buffers = c.buffers; views = slice_set c.views id (with_local v l') }) p l' (map (λ d. Linearize d) (calls object n g local is.sound p p_in image drafted) ++ Respond p (made_by l) x ∷ [])
+      hit = shown_with meaning o n id v alone c g local seat_of is at l' g' (map (λ d. Linearize d) (calls object n g local is.sound p p_in image drafted) ++ Respond p (made_by l) x ∷ []) (append_assoc g.acts (map (λ d. Linearize d) (calls object n g local is.sound p p_in image drafted)) (Respond p (made_by l) x ∷ [])) (set_at c.words 0 new) c.buffers (set_at_same c.words 0 new ∙ ap (λ k. word_of (k + 1) p) number_is) (buffers_same meaning o n id v alone c g local seat_of is at l' refl posted_was)
           (sound_with object n g g' local p l' is.sound board' others' mine' history' order')
 
     told_play : (found : ℕ) (w : View O I S R) → (found ≡ l.word → (z : R) × ((row_in image p).reply ≡ Some z) × (l.after < number_in l.word + 1) × (w ≡ with_local v (brought l inv z image))) → (found ≢ l.word → w ≡ with_local v (missed l inv tries image)) → HasBrought v found w
@@ -419,10 +419,34 @@ module _ {O I S R : Type 0} (meaning : O → Sequential S I R) (o : O) (n id : �
           (λ miss. out_of_it miss ∙ (λ k. with_local v (missed l (e0 k) (e1 k) (e2 k)))),
         )
 
-    out : (w : View O I S R) × ShowsBoard meaning o n (record { words = set_at c.words 0 (either (c.words 0 == l.word) new (c.words 0)); buffers = c.buffers; views = slice_set c.views id w }) × HasBrought v (c.words 0) w
-    out = exchanged (c.words 0) l.word new (λ y. (w : View O I S R) × ShowsBoard meaning o n (record { words = set_at c.words 0 y; buffers = c.buffers; views = slice_set c.views id w }) × HasBrought v (c.words 0) w)
-        (λ e. (with_local v (l' e), hit e, told_play (c.words 0) (with_local v (l' e)) (λ z. (x e, (reply e).1, rises e, refl)) (λ z. absurd (z e))))
-        (λ z. (with_local v (missed l inv tries image), miss z, told_play (c.words 0) (with_local v (missed l inv tries image)) (λ e. absurd (z e)) (λ y. refl)))
+    -- the acts of it
+    abbrev MakesBring : ℕ → View O I S R → List (Act I R) → Type 0
+    MakesBring found w acts =
+        (found ≡ l.word → (batch : HasBatch (meaning o) n g local image) × (acts ≡ map (λ d. Linearize d) batch.calls ++ returned_by v w))
+        × (found ≢ l.word → acts ≡ [])
+
+    out : (w : View O I S R) × (acts : List (Act I R)) × ShowsNext meaning o n g local seat_of (with_word (λ found. either (found == l.word) new found) id c w) p w.known.local acts × MakesBring (c.words 0) w acts × HasBrought v (c.words 0) w
+    out = exchanged (c.words 0) l.word new (λ y. (w : View O I S R) × (acts : List (Act I R)) × ShowsNext meaning o n g local seat_of (record { words = set_at c.words 0 y; buffers = c.buffers; views = slice_set c.views id w }) p w.known.local acts × MakesBring (c.words 0) w acts × HasBrought v (c.words 0) w)
+        (λ e. (
+          with_local v (l' e),
+          _,
+          hit e,
+          ((λ z. ((drafted e).batch, ap (λ rs. map (λ d. Linearize d) ((drafted e).batch).calls ++ rs) (ap (responses p (made_by l)) (sym (drop_past l.own _))))), (λ z. absurd (z e))),
+          told_play (c.words 0) (with_local v (l' e)) (λ z. (x e, (reply e).1, rises e, refl)) (λ z. absurd (z e)),
+        ))
+        (λ z. (
+          with_local v (missed l inv tries image),
+          [],
+          miss z,
+          ((λ e. absurd (z e)), (λ y. refl)),
+          told_play (c.words 0) (with_local v (missed l inv tries image)) (λ e. absurd (z e)) (λ y. refl),
+        ))
+
+  pub brings_move : Moves meaning o n id v (with_word (λ found. either (found == l.word) new found) id) (λ g local c w acts. (c.words 0 ≡ l.word → (batch : HasBatch (meaning o) n g local image) × (acts ≡ map (λ d. Linearize d) batch.calls ++ returned_by v w))
+      × (c.words 0 ≢ l.word → acts ≡ [])) (λ c w. HasBrought v (c.words 0) w)
+  brings_move c g local seat_of is at = out c g local seat_of is at
 
   pub brings : AllowsChange (ShowsBoard meaning o n) id v 0 (λ found. either (found == l.word) new found) (HasBrought v)
-  brings c shown at = out c shown.0 shown.1.0 shown.1.1.0 shown.1.1.1 at
+  brings c shown at =
+      let h = brings_move c shown.0 shown.1.0 shown.1.1.0 shown.1.1.1 at in
+      (h.0, board_of meaning o n shown.0 shown.1.0 shown.1.1.0 _ p h.0.known.local h.1 h.2, h.4)

@@ -1,5 +1,5 @@
 -- A step of a seat of one process keeps the rule: what has to be shown of the board and of its process.
-use Rattle.uni_endless.proofs.Vocabulary.{AreOrdered, Board, Contents, IsAt, IsBoard, IsHistory, IsShown, IsSound, Letter, Local, None, Option, Sequential, ShowsBoard, Some, Tells, View, ap, arith, at_set, first_told, get_elem?, get_or-set_other, get_or-set_same, inl, inr, known_then, length, posted, seen_of, set, set_at, set_at-cases, set_at_elsewhere, set_at_same, slice_index_or, slice_set, some, subst, sym, told_by, with_local, with_value, word_of, ℕ, ⊎_elim, ◌<◌, ◌∙◌, ◌≡◌, ◌≢◌, ◌⊎◌}
+use Rattle.uni_endless.proofs.Vocabulary.{Act, AreOrdered, Board, Contents, IsAt, IsBoard, IsHistory, IsShown, IsSound, Letter, Local, None, Option, Sequential, ShowsBoard, Some, Tells, View, ap, arith, at_set, first_told, get_elem?, get_or-set_other, get_or-set_same, inl, inr, known_then, length, posted, seen_of, set, set_at, set_at-cases, set_at_elsewhere, set_at_same, slice_index_or, slice_set, some, subst, sym, told_by, with_local, with_value, word_of, ℕ, ⊎_elim, ◌<◌, ◌∙◌, ◌≡◌, ◌≢◌, ◌⊎◌, List, ShowsNext, drop, refl, [], ◌∷◌, ◌++◌}
 use Rattle.triple_buffers.proofs.Flipping.{value_cases}
 
 -- one process gets another local, and the others stay where they are
@@ -75,9 +75,9 @@ module _ {O I S R : Type 0} (meaning : O → Sequential S I R) (o : O) (n id : �
       abbrev pub AreBuffers : (ℕ → ℕ → Option (Letter I S R)) → Type 0
       AreBuffers buffers = (from to : ℕ) → from < n → to < n → known_then (buffers from to) (seen_of (meaning o) n (locals to) from) ≡ posted (locals from) to
 
-      pub shown_with : (g' : Board I S R) (words : ℕ → ℕ) (buffers : ℕ → ℕ → Option (Letter I S R)) → words 0 ≡ word_of g'.number g'.process → AreBuffers buffers → IsSound (meaning o) n g' locals
-          → ShowsBoard meaning o n (record { words = words; buffers = buffers; views = slice_set c.views id (with_local v l') })
-      shown_with g' words buffers word are sound = (g', (locals, (seat_of, record { few = is.few; word = word; buffers = are; seats = seats_later; sound = sound })))
+      pub shown_with : (g' : Board I S R) (acts : List (Act I R)) → g'.acts ≡ g.acts ++ acts → (words : ℕ → ℕ) (buffers : ℕ → ℕ → Option (Letter I S R)) → words 0 ≡ word_of g'.number g'.process → AreBuffers buffers → IsSound (meaning o) n g' locals
+          → ShowsNext meaning o n g local seat_of (record { words = words; buffers = buffers; views = slice_set c.views id (with_local v l') }) p l' acts
+      shown_with g' acts more words buffers word are sound = (g', record { few = is.few; word = word; buffers = are; seats = seats_later; sound = sound }, more)
 
       seen_cases : (q : ℕ) → ((q ≡ p) × (local q ≡ l) × (locals q ≡ l')) ⊎ ((q ≢ p) × (locals q ≡ local q))
       seen_cases q = elim (set_at-cases local p l' q) [ inl here ↦ inl (here.0, ap local here.0 ∙ own.2, here.1) | inr other ↦ inr other ]
@@ -142,3 +142,12 @@ module _ {O I S R : Type 0} (meaning : O → Sequential S I R) (o : O) (n id : �
                 | inr apart ↦ ap (λ (z : Local I S R). known_then (c.buffers from to) (seen_of (meaning o) n z from)) apart.1
               ] ∙ is.buffers from to from_in to_in ∙ sym (posted_is from to to_in)
         ]
+
+-- it shows a board
+pub board_of : {O I S R : Type 0} (meaning : O → Sequential S I R) (o : O) (n : ℕ) (g : Board I S R) (local : ℕ → Local I S R) (seat_of : ℕ → ℕ) (c : Contents (Letter I S R) (View O I S R)) (p : ℕ) (l : Local I S R) (acts : List (Act I R)) → ShowsNext meaning o n g local seat_of c p l acts → ShowsBoard meaning o n c
+board_of meaning o n g local seat_of c p l acts h = (h.0, (set_at local p l, (seat_of, h.1)))
+
+-- what follows so many elements
+pub drop_past : {A : Type 0} (xs ys : List A) → drop (length xs) (xs ++ ys) ≡ ys
+drop_past [] ys = refl
+drop_past (x ∷ xs) ys = drop_past xs ys

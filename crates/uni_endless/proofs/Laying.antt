@@ -1,7 +1,7 @@
 -- The write of a block.
-use Rattle.uni_endless.proofs.Vocabulary.{AllowsWrite, Board, Contents, HasDrafted, HasLaid, Image, IsAnnounced, IsAt, IsLaying, IsShown, IsStageAt, IsTrying, IsWhole, Letter, Local, Reading, Sequential, ShowsBoard, Some, Told, View, Writing, announced_at, announced_by, ap, arith, base_of, begun, block_news, called_by, drafted, get_elem?, goes, in_of, inl, inr, local_of, lt_cases, made_by, pending_of, posted, posted_at, refl, slice_set, some, subst, sym, told_by, with_local, with_value, word_of, ℕ, ◌+◌, ◌<◌, ◌∙◌, ◌≡◌, ◌≢◌}
+use Rattle.uni_endless.proofs.Vocabulary.{AllowsWrite, Board, Contents, HasDrafted, HasLaid, Image, IsAnnounced, IsAt, IsLaying, IsShown, IsStageAt, IsTrying, IsWhole, Letter, Local, Reading, Sequential, ShowsBoard, Some, Told, View, Writing, announced_at, announced_by, ap, arith, base_of, begun, block_news, called_by, drafted, get_elem?, goes, in_of, inl, inr, local_of, lt_cases, made_by, pending_of, posted, posted_at, refl, slice_set, some, subst, sym, told_by, with_local, with_value, word_of, ℕ, ◌+◌, ◌<◌, ◌∙◌, ◌≡◌, ◌≢◌, Moves, ShowsNext, append-nil, with_letter, []}
 use Rattle.uni_endless.proofs.Drafting.{draft_is, draft_whole}
-use Rattle.uni_endless.proofs.Framing.{buffers_written, mine, object_is, own, shown_with, sound_with}
+use Rattle.uni_endless.proofs.Framing.{board_of, buffers_written, mine, object_is, own, shown_with, sound_with}
 use Rattle.uni_endless.proofs.Histories.{history_kept}
 use Rattle.uni_endless.proofs.Orders.{order_kept}
 use Rattle.uni_endless.proofs.Posting.{keeps_same}
@@ -85,7 +85,7 @@ module _ {O I S R : Type 0} (meaning : O → Sequential S I R) (o : O) (n id : �
       | inr on ↦ (let h : IsStageAt object n g local p l (Writing inv tries image r) = subst (IsStageAt object n g local p l) on its.stage in (h.0, h.1, h.3, h.4))
     ]
 
-    shows : ShowsBoard meaning o n (record { words = c.words; buffers = with_value c.buffers p r (Some x); views = slice_set c.views id (with_local v l') })
+    shows : ShowsNext meaning o n g local seat_of (record { words = c.words; buffers = with_value c.buffers p r (Some x); views = slice_set c.views id (with_local v l') }) p l' []
     shows =
         let f = facts in
         let pend : pending_of l'.stage ≡ pending_of l.stage = sym pending_is in
@@ -101,7 +101,7 @@ module _ {O I S R : Type 0} (meaning : O → Sequential S I R) (o : O) (n id : �
         let g' = later object n g local p l l' local_is g.since open' next' g.acts in
         let w = its.writer in
         let rd = reader_stays object n g local p l l' local_is g.since open' next' g.acts since_else announced_on (omega arith) keeps told_on asked_on l its.reader in
-        shown_with meaning o n id v alone c g local seat_of is at l' g' c.words (with_value c.buffers p r (Some x)) is.word (buffers_written meaning o n id v alone c g local seat_of is at l' refl r x posted_here posted_else)
+        shown_with meaning o n id v alone c g local seat_of is at l' g' [] (sym (append-nil g.acts)) c.words (with_value c.buffers p r (Some x)) is.word (buffers_written meaning o n id v alone c g local seat_of is at l' refl r x posted_here posted_else)
         (sound_with object n g g' local p l' is.sound
         (board_stays object n g local p l l' local_is g.since open' next' g.acts since_else announced_on (omega arith) keeps told_on asked_on (omega (arith, called)) (is.sound.board.past p p_in) is.sound.board)
         (λ q q_in apart h. others_stay object n g local p l l' local_is g.since open' next' g.acts since_else announced_on (omega arith) keeps told_on asked_on q apart h)
@@ -126,5 +126,10 @@ module _ {O I S R : Type 0} (meaning : O → Sequential S I R) (o : O) (n id : �
         (history_kept object n g local p l l' local_is g.since is.sound.history p_in refl pend)
         (order_kept object n g local p l l' local_is g.since open' next' g.acts is.sound.order p_in refl refl))
 
+  pub lays_move : Moves meaning o n id v (with_letter p r (Some x) id) (λ g local c w acts. acts ≡ []) (λ c w. HasLaid meaning v r x w)
+  lays_move c g local seat_of is at = (with_local v l', [], shows c g local seat_of is at, refl, told_play)
+
   pub lays : AllowsWrite (ShowsBoard meaning o n) id v p r x (HasLaid meaning v r x)
-  lays c shown at = (with_local v l', shows c shown.0 shown.1.0 shown.1.1.0 shown.1.1.1 at, told_play)
+  lays c shown at =
+      let h = lays_move c shown.0 shown.1.0 shown.1.1.0 shown.1.1.1 at in
+      (h.0, board_of meaning o n shown.0 shown.1.0 shown.1.1.0 _ p h.0.known.local h.1 h.2, h.4)

@@ -1,7 +1,7 @@
 -- A process takes what another one wrote for it last.
-use Rattle.uni_endless.proofs.Vocabulary.{AllowsTake, Board, Contains, Contents, HasCome, HasFound, HasLast, HasLearned, HasTaken, Idle, Invoked, IsAt, IsBase, IsReader, IsShown, IsStageAt, IsTold, IsWhole, IsWriter, Letter, List, Local, None, Option, Posting, Reading, Ready, Sequential, ShowsBoard, Some, Stage, Told, Version, View, Writing, announced_at, announced_by, ap, applied_in, arith, base_of, begun, called_by, first_told, found_in, get_elem?, in_of, inl, inr, known_then, length, length-append, length-set, local_of, lt_cases, made_by, number_cases, number_in, pending_of, posted, posted_at, process_in, refl, returns, row_in, seen_of, set_at-cases, slice_set, some, stage_of, subst, sym, with_local, with_seen, with_value, word_of, ℕ, ◌+◌, ◌<◌, ◌∙◌, ◌≡◌, ◌≢◌, ◌≤◌}
+use Rattle.uni_endless.proofs.Vocabulary.{AllowsTake, Board, Contains, Contents, HasCome, HasFound, HasLast, HasLearned, HasTaken, Idle, Invoked, IsAt, IsBase, IsReader, IsShown, IsStageAt, IsTold, IsWhole, IsWriter, Letter, List, Local, None, Option, Posting, Reading, Ready, Sequential, ShowsBoard, Some, Stage, Told, Version, View, Writing, announced_at, announced_by, ap, applied_in, arith, base_of, begun, called_by, first_told, found_in, get_elem?, in_of, inl, inr, known_then, length, length-append, length-set, local_of, lt_cases, made_by, number_cases, number_in, pending_of, posted, posted_at, process_in, refl, returns, row_in, seen_of, set_at-cases, slice_set, some, stage_of, subst, sym, with_local, with_seen, with_value, word_of, ℕ, ◌+◌, ◌<◌, ◌∙◌, ◌≡◌, ◌≢◌, ◌≤◌, Act, Moves, Respond, ShowsNext, append-nil, drop, responses, returned_by, with_letter, [], ◌∷◌}
 use Rattle.std.proofs.lemmas.List.{set-get_or}
-use Rattle.uni_endless.proofs.Framing.{buffers_taken, mine, object_is, own, seen_else, seen_now, shown_with, sound_with}
+use Rattle.uni_endless.proofs.Framing.{board_of, buffers_taken, drop_past, mine, object_is, own, seen_else, seen_now, shown_with, sound_with}
 use Rattle.uni_endless.proofs.Histories.{acts_then, history_ended, history_kept, open_without, own_told}
 use Rattle.uni_endless.proofs.Orders.{order_ended, order_kept, version_rises}
 use Rattle.uni_endless.proofs.Posting.{keeps_same}
@@ -190,7 +190,7 @@ module _ {O I S R : Type 0} (meaning : O → Sequential S I R) (o : O) (n id : �
 
     -- it has not looked into all of them, or the version that it found lacks its call
     module _ (lacks : r + 1 ≡ n → applied_in (base_of object n l2).image p ≡ made_by l) where
-      shows_on : ShowsBoard meaning o n (record { words = c.words; buffers = with_value c.buffers r p None; views = slice_set c.views id (with_local v read_on) })
+      shows_on : ShowsNext meaning o n g local seat_of (record { words = c.words; buffers = with_value c.buffers r p None; views = slice_set c.views id (with_local v read_on) }) p read_on []
       shows_on =
           let pend : pending_of read_on.stage ≡ pending_of l.stage = sym pending_is in
           let keeps = keeps_same l read_on refl pend in
@@ -210,7 +210,7 @@ module _ {O I S R : Type 0} (meaning : O → Sequential S I R) (o : O) (n id : �
             | inl here ↦ ap (λ (z : Local I S R). announced_by n z) here.1 ∙ announced ∙ ap (λ (z : Local I S R). announced_by n z) (sym local_is ∙ ap local (sym here.0))
             | inr other ↦ ap (λ (z : Local I S R). announced_by n z) other.1
           ]) in
-          shown_with meaning o n id v alone c g local seat_of is at read_on g' c.words (with_value c.buffers r p None) is.word
+          shown_with meaning o n id v alone c g local seat_of is at read_on g' [] (sym (append-nil g.acts)) c.words (with_value c.buffers r p None) is.word
           (buffers_taken meaning o n id v alone c g local seat_of is at read_on r r_in long refl (λ q q_in. posted_same (Reading inv tries (r + 1)) q refl))
           (sound_with object n g g' local p read_on is.sound
           (board_stays object n g local p l read_on local_is g.since open' next' g.acts since_else announced_on (omega arith) keeps told_on asked_on (omega (arith, called)) (is.sound.board.past p p_in) is.sound.board)
@@ -297,7 +297,7 @@ module _ {O I S R : Type 0} (meaning : O → Sequential S I R) (o : O) (n id : �
         longer : made_by done ≡ made_by l + 1
         longer = length-append l.own _
 
-        shows_end : ShowsBoard meaning o n (record { words = c.words; buffers = with_value c.buffers r p None; views = slice_set c.views id (with_local v done) })
+        shows_end : ShowsNext meaning o n g local seat_of (record { words = c.words; buffers = with_value c.buffers r p None; views = slice_set c.views id (with_local v done) }) p done (Respond p (made_by l) reply.0 ∷ [])
         shows_end =
             let in_now : in_of g p ≡ made_by l + 1 = (let a = is.sound.board.rises x base.come p p_in in let b = at_stage.0.0.most in let d = in_is in omega arith) in
             let called_was : called_by l ≡ made_by l + 1 = ap (begun (made_by l)) pending_is in
@@ -313,7 +313,7 @@ module _ {O I S R : Type 0} (meaning : O → Sequential S I R) (o : O) (n id : �
             let g' = later object n g local p l done local_is g.since open' next' acts' in
             let w = its.writer in
             let rd = reader_stays object n g local p l done local_is g.since open' next' acts' since_else announced_on (omega arith) keeps told_on asked_on l2 reader2 in
-            shown_with meaning o n id v alone c g local seat_of is at done g' c.words (with_value c.buffers r p None) is.word
+            shown_with meaning o n id v alone c g local seat_of is at done g' (Respond p (made_by l) reply.0 ∷ []) refl c.words (with_value c.buffers r p None) is.word
             (buffers_taken meaning o n id v alone c g local seat_of is at done r r_in long refl (λ q q_in. posted_same Idle q refl))
             (sound_with object n g g' local p done is.sound
             (board_stays object n g local p l done local_is g.since open' next' acts' since_else announced_on (omega arith) keeps told_on asked_on (let a = longer in omega (arith, called_was)) (is.sound.board.past p p_in) is.sound.board)
@@ -379,12 +379,17 @@ module _ {O I S R : Type 0} (meaning : O → Sequential S I R) (o : O) (n id : �
           goes_on = λ e. absurd (e (ap (λ (z : Version S R). applied_in z.image p) b ∙ in_is));
         }
 
+    none_returned : [] ≡ responses p (made_by l) (drop (length l.own) l.own)
+    none_returned = ap (responses p (made_by l)) (sym (ap (drop (length l.own)) (sym (append-nil l.own)) ∙ drop_past l.own []))
+
     -- the view after it, with all that is so then
-    out : (w : View O I S R) × ShowsBoard meaning o n (record { words = c.words; buffers = with_value c.buffers r p None; views = slice_set c.views id w }) × HasLearned meaning v r found w
+    out : (w : View O I S R) × (acts : List (Act I R)) × ShowsNext meaning o n g local seat_of (with_letter r p None id c w) p w.known.local acts × (acts ≡ returned_by v w) × HasLearned meaning v r found w
     out = elim (lt_cases (r + 1) n) [
       | inl less ↦ (
         with_local v read_on,
+        [],
         shows_on (λ e. absurd (let a = less.0 in omega (arith, e))),
+        none_returned,
         (λ inv' tries' reads' in'.
             let e = same_reading inv' tries' reads' in (
               (λ below. (λ k. with_local v (record (sym l1_is k) { stage = Reading (e.0 k) (e.1 k) (r + 1) }))),
@@ -396,7 +401,9 @@ module _ {O I S R : Type 0} (meaning : O → Sequential S I R) (o : O) (n id : �
           elim (number_cases (applied_in (base_of object n l2).image p) (made_by l + 1)) [
             | inl in_is ↦ (
               with_local v (done last in_is.0),
+              Respond p (made_by l) (reply last in_is.0).0 ∷ [],
               shows_end last in_is.0,
+              ap (responses p (made_by l)) (sym (drop_past l.own _)),
               (λ inv' tries' reads' in'.
                   let e = same_reading inv' tries' reads' in
                   let w = with_local v (done last in_is.0) in (
@@ -406,7 +413,9 @@ module _ {O I S R : Type 0} (meaning : O → Sequential S I R) (o : O) (n id : �
             )
             | inr apart ↦ (
               with_local v read_on,
+              [],
               shows_on (λ z. lacks_of last apart.0),
+              none_returned,
               (λ inv' tries' reads' in'.
                   let e = same_reading inv' tries' reads' in
                   let w = with_local v read_on in (
@@ -417,5 +426,10 @@ module _ {O I S R : Type 0} (meaning : O → Sequential S I R) (o : O) (n id : �
           ]
     ]
 
+  pub learns_move : Moves meaning o n id v (with_letter r p None id) (λ g local c w acts. acts ≡ returned_by v w) (λ c w. HasLearned meaning v r (c.buffers r p) w)
+  learns_move c g local seat_of is at = out c g local seat_of is at
+
   pub learns : AllowsTake (ShowsBoard meaning o n) id v r p (HasLearned meaning v r)
-  learns c shown at = out c shown.0 shown.1.0 shown.1.1.0 shown.1.1.1 at
+  learns c shown at =
+      let h = learns_move c shown.0 shown.1.0 shown.1.1.0 shown.1.1.1 at in
+      (h.0, board_of meaning o n shown.0 shown.1.0 shown.1.1.0 _ p h.0.known.local h.1 h.2, h.4)

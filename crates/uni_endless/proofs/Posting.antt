@@ -1,6 +1,6 @@
 -- The write of an invocation.
-use Rattle.uni_endless.proofs.Vocabulary.{AllowsWrite, Board, Contents, HasPosted, Idle, IsAt, IsOpen, IsPosting, IsShown, IsStageAt, Letter, Local, None, Posting, Sequential, ShowsBoard, Some, Told, View, announced_by, ap, arith, begun, call_news, called_by, get_elem?, goes, if◌then◌else◌, in_of, inl, inr, local_of, lt_cases, made_by, most_calls, nat_eq, number_cases, pending_of, posted, refl, set_at, set_at_elsewhere, set_at_same, slice_set, some, stage_of, subst, sym, told_by, with_local, with_value, ℕ, ◌+◌, ◌<◌, ◌∙◌, ◌≡◌, ◌≢◌, ◌≤◌, ◌⊎◌}
-use Rattle.uni_endless.proofs.Framing.{buffers_written, mine, own, shown_with, sound_with}
+use Rattle.uni_endless.proofs.Vocabulary.{AllowsWrite, Board, Contents, HasPosted, Idle, IsAt, IsOpen, IsPosting, IsShown, IsStageAt, Letter, Local, None, Posting, Sequential, ShowsBoard, Some, Told, View, announced_by, ap, arith, begun, call_news, called_by, get_elem?, goes, if◌then◌else◌, in_of, inl, inr, local_of, lt_cases, made_by, most_calls, nat_eq, number_cases, pending_of, posted, refl, set_at, set_at_elsewhere, set_at_same, slice_set, some, stage_of, subst, sym, told_by, with_local, with_value, ℕ, ◌+◌, ◌<◌, ◌∙◌, ◌≡◌, ◌≢◌, ◌≤◌, ◌⊎◌, Act, Invoke, List, Moves, ShowsNext, append-nil, with_letter, [], ◌∷◌}
+use Rattle.uni_endless.proofs.Framing.{board_of, buffers_written, mine, own, shown_with, sound_with}
 use Rattle.uni_endless.proofs.Histories.{acts_with, history_begun, history_kept, next_with, open_with}
 use Rattle.uni_endless.proofs.Orders.{order_kept}
 use Rattle.uni_endless.proofs.Staying.{KeepsCalls, board_stays, later, locals, others_stay, reader_stays}
@@ -103,7 +103,7 @@ module _ {O I S R : Type 0} (meaning : O → Sequential S I R) (o : O) (n id : �
         elim (since_cases g) [ inl last ↦ (let a = last.1 in omega arith) | inr more ↦ (let a = more.1 in omega arith) ]
 
     -- the first one: the call begins
-    begins : r ≡ 0 → stage_of v ≡ Idle → ShowsBoard meaning o n (record { words = c.words; buffers = with_value c.buffers p r (Some x); views = slice_set c.views id (with_local v l') })
+    begins : r ≡ 0 → stage_of v ≡ Idle → ShowsNext meaning o n g local seat_of (record { words = c.words; buffers = with_value c.buffers p r (Some x); views = slice_set c.views id (with_local v l') }) p l' (Invoke p (made_by l) inv ∷ [])
     begins zero idle =
         let object = meaning o in
         let idle_at : (in_of g p ≡ made_by l) × (made_by l ≤ most_calls) = subst (IsStageAt object n g local p l) idle its.stage in
@@ -119,7 +119,7 @@ module _ {O I S R : Type 0} (meaning : O → Sequential S I R) (o : O) (n id : �
         let local' = locals object n g local p l l' local_is (since' g) open' next' acts' in
         let w = its.writer in
         let rd = reader_stays object n g local p l l' local_is (since' g) open' next' acts' since_else announced_on (omega arith) keeps told_on asked_on l its.reader in
-        shown_with meaning o n id v alone c g local seat_of is at l' g' c.words (with_value c.buffers p r (Some x)) is.word (buffers_written meaning o n id v alone c g local seat_of is at l' refl r x posted_here posted_else)
+        shown_with meaning o n id v alone c g local seat_of is at l' g' (Invoke p (made_by l) inv ∷ []) refl c.words (with_value c.buffers p r (Some x)) is.word (buffers_written meaning o n id v alone c g local seat_of is at l' refl r x posted_here posted_else)
         (sound_with object n g g' local p l' is.sound
         (board_stays object n g local p l l' local_is (since' g) open' next' acts' since_else announced_on (omega arith) keeps told_on asked_on (omega (arith, called_was)) past is.sound.board)
         (λ q q_in apart h. others_stay object n g local p l l' local_is (since' g) open' next' acts' since_else announced_on (omega arith) keeps told_on asked_on q apart h)
@@ -139,7 +139,7 @@ module _ {O I S R : Type 0} (meaning : O → Sequential S I R) (o : O) (n id : �
         (order_kept object n g local p l l' local_is (since' g) open' next' acts' is.sound.order p_in refl refl))
 
     -- a further one
-    goes_on : stage_of v ≡ Posting inv r → ShowsBoard meaning o n (record { words = c.words; buffers = with_value c.buffers p r (Some x); views = slice_set c.views id (with_local v l') })
+    goes_on : stage_of v ≡ Posting inv r → ShowsNext meaning o n g local seat_of (record { words = c.words; buffers = with_value c.buffers p r (Some x); views = slice_set c.views id (with_local v l') }) p l' []
     goes_on on =
         let object = meaning o in
         let at_post : IsOpen object n g local p l inv × (1 ≤ r) × (r ≤ n) = subst (IsStageAt object n g local p l) on its.stage in
@@ -153,7 +153,7 @@ module _ {O I S R : Type 0} (meaning : O → Sequential S I R) (o : O) (n id : �
         let g' = later object n g local p l l' local_is (since' g) open' next' g.acts in
         let w = its.writer in
         let rd = reader_stays object n g local p l l' local_is (since' g) open' next' g.acts since_else announced_on (omega arith) keeps told_on asked_on l its.reader in
-        shown_with meaning o n id v alone c g local seat_of is at l' g' c.words (with_value c.buffers p r (Some x)) is.word (buffers_written meaning o n id v alone c g local seat_of is at l' refl r x posted_here posted_else)
+        shown_with meaning o n id v alone c g local seat_of is at l' g' [] (sym (append-nil g.acts)) c.words (with_value c.buffers p r (Some x)) is.word (buffers_written meaning o n id v alone c g local seat_of is at l' refl r x posted_here posted_else)
         (sound_with object n g g' local p l' is.sound
         (board_stays object n g local p l l' local_is (since' g) open' next' g.acts since_else announced_on (omega arith) keeps told_on asked_on (omega (arith, called)) past is.sound.board)
         (λ q q_in apart h. others_stay object n g local p l l' local_is (since' g) open' next' g.acts since_else announced_on (omega arith) keeps told_on asked_on q apart h)
@@ -172,12 +172,19 @@ module _ {O I S R : Type 0} (meaning : O → Sequential S I R) (o : O) (n id : �
         (history_kept object n g local p l l' local_is (since' g) is.sound.history p_in refl pending)
         (order_kept object n g local p l l' local_is (since' g) open' next' g.acts is.sound.order p_in refl refl))
 
+  -- the acts of it
+  abbrev pub MakesPost : List (Act I R) → Type 0
+  MakesPost acts = (r ≡ 0 → acts ≡ Invoke p (made_by l) inv ∷ []) × (r ≢ 0 → acts ≡ [])
+
+  pub posts_move : Moves meaning o n id v (with_letter p r (Some x) id) (λ g local c w acts. MakesPost acts) (λ c w. HasPosted v r x w)
+  posts_move c g local seat_of is at = elim posting [
+    | inl idle ↦ (with_local v l', Invoke p (made_by l) inv ∷ [], begins c g local seat_of is at idle.0 idle.1, ((λ e. refl), (λ no. absurd (no idle.0))), told_play)
+    | inr on ↦
+        let at_post : IsOpen (meaning o) n g local p l inv × (1 ≤ r) × (r ≤ n) = subst (IsStageAt (meaning o) n g local p l) on (its c g local seat_of is at).stage in
+        (with_local v l', [], goes_on c g local seat_of is at on, ((λ e. absurd (let a = at_post.1 in omega (arith, e))), (λ no. refl)), told_play)
+  ]
+
   pub posts : AllowsWrite (ShowsBoard meaning o n) id v p r x (HasPosted v r x)
-  posts c shown at = (
-    with_local v l',
-    elim posting [
-      | inl idle ↦ begins c shown.0 shown.1.0 shown.1.1.0 shown.1.1.1 at idle.0 idle.1
-      | inr on ↦ goes_on c shown.0 shown.1.0 shown.1.1.0 shown.1.1.1 at on
-    ],
-    told_play,
-  )
+  posts c shown at =
+      let h = posts_move c shown.0 shown.1.0 shown.1.1.0 shown.1.1.1 at in
+      (h.0, board_of meaning o n shown.0 shown.1.0 shown.1.1.0 _ p h.0.known.local h.1 h.2, h.4)

@@ -1,7 +1,7 @@
 -- The load of S with which an attempt begins.
-use Rattle.uni_endless.proofs.Vocabulary.{AllowsChange, AreOrdered, Board, Contents, HasCome, HasLast, HasStarted, Idle, Image, IsAt, IsHistory, IsOpen, IsPending, IsShown, IsSound, IsStageAt, IsWriter, Letter, Local, Posting, Reading, Ready, Sequential, ShowsBoard, Some, Stage, Told, Version, View, Writing, announced_at, announced_by, ap, applied_in, arith, begun, call_news, called_by, first_image, get_elem?, image_from, in_of, inl, inr, length, local_of, lt_cases, made_by, most_calls, number_cases, number_in, pending_of, posted, posted_at, process_in, refl, set_at, set_at-cases, set_at_same, slice_set, some, started, subst, sym, take, with_local, word_of, written_then, ℕ, ◌*◌, ◌+◌, ◌<◌, ◌∙◌, ◌≡◌, ◌≢◌, ◌≤◌}
+use Rattle.uni_endless.proofs.Vocabulary.{AllowsChange, AreOrdered, Board, Contents, HasCome, HasLast, HasStarted, Idle, Image, IsAt, IsHistory, IsOpen, IsPending, IsShown, IsSound, IsStageAt, IsWriter, Letter, Local, Posting, Reading, Ready, Sequential, ShowsBoard, Some, Stage, Told, Version, View, Writing, announced_at, announced_by, ap, applied_in, arith, begun, call_news, called_by, first_image, get_elem?, image_from, in_of, inl, inr, length, local_of, lt_cases, made_by, most_calls, number_cases, number_in, pending_of, posted, posted_at, process_in, refl, set_at, set_at-cases, set_at_same, slice_set, some, started, subst, sym, take, with_local, word_of, written_then, ℕ, ◌*◌, ◌+◌, ◌<◌, ◌∙◌, ◌≡◌, ◌≢◌, ◌≤◌, Moves, ShowsNext, append-nil, with_word, []}
 use Rattle.std.proofs.lemmas.List.{take_all}
-use Rattle.uni_endless.proofs.Framing.{buffers_same, mine, own, shown_with, sound_with}
+use Rattle.uni_endless.proofs.Framing.{board_of, buffers_same, mine, own, shown_with, sound_with}
 use Rattle.uni_endless.proofs.Histories.{history_kept}
 use Rattle.uni_endless.proofs.Orders.{order_kept}
 use Rattle.uni_endless.proofs.Posting.{keeps_same}
@@ -132,7 +132,7 @@ module _ {O I S R : Type 0} (meaning : O → Sequential S I R) (o : O) (n id : �
             (λ r r_in. same ∙ sym (ap (λ s. posted_at l s r) x.2)),
           )
 
-    shows : ShowsBoard meaning o n (record { words = set_at c.words 0 word; buffers = c.buffers; views = slice_set c.views id (with_local v l') })
+    shows : ShowsNext meaning o n g local seat_of (record { words = set_at c.words 0 word; buffers = c.buffers; views = slice_set c.views id (with_local v l') }) p l' []
     shows =
         let pend : pending_of l'.stage ≡ pending_of l.stage = sym pending_is in
         let keeps = keeps_same l l' refl pend in
@@ -150,7 +150,7 @@ module _ {O I S R : Type 0} (meaning : O → Sequential S I R) (o : O) (n id : �
         let rd = reader_stays object n g local p l l' local_is g.since open' next' g.acts since_else announced_on (omega arith) keeps told_on asked_on l its.reader in
         let present : (x : Version S R) → HasCome object n g x → number_in word ≤ x.number → x.image ≡ g.image =
         (λ x come late. present_image object n g local is.sound.history is.sound.order x come (let a = number_is in omega (arith, late))) in
-        shown_with meaning o n id v alone c g local seat_of is at l' g' (set_at c.words 0 word) c.buffers (set_at_same c.words 0 word ∙ is.word) (buffers_same meaning o n id v alone c g local seat_of is at l' refl f.5)
+        shown_with meaning o n id v alone c g local seat_of is at l' g' [] (sym (append-nil g.acts)) (set_at c.words 0 word) c.buffers (set_at_same c.words 0 word ∙ is.word) (buffers_same meaning o n id v alone c g local seat_of is at l' refl f.5)
         (sound_with object n g g' local p l' is.sound
         (board_stays object n g local p l l' local_is g.since open' next' g.acts since_else announced_on (omega arith) keeps told_on asked_on (omega (arith, called)) (is.sound.board.past p p_in) is.sound.board)
         (λ q q_in apart h. others_stay object n g local p l l' local_is g.since open' next' g.acts since_else announced_on (omega arith) keeps told_on asked_on q apart h)
@@ -212,9 +212,10 @@ module _ {O I S R : Type 0} (meaning : O → Sequential S I R) (o : O) (n id : �
           (λ k. with_local v (started l (e.0 k) (e.1 k) word)),
         )
 
+  pub starts_move : Moves meaning o n id v (with_word (λ x. x) id) (λ g local c w acts. acts ≡ []) (λ c w. HasStarted v (c.words 0) w)
+  starts_move c g local seat_of is at = (with_local v (started l inv tries (c.words 0)), [], shows c g local seat_of is at, refl, told c g local seat_of is at)
+
   pub starts : AllowsChange (ShowsBoard meaning o n) id v 0 (λ x. x) (HasStarted v)
-  starts c shown at = (
-    with_local v (started l inv tries (c.words 0)),
-    shows c shown.0 shown.1.0 shown.1.1.0 shown.1.1.1 at,
-    told c shown.0 shown.1.0 shown.1.1.0 shown.1.1.1 at,
-  )
+  starts c shown at =
+      let h = starts_move c shown.0 shown.1.0 shown.1.1.0 shown.1.1.1 at in
+      (h.0, board_of meaning o n shown.0 shown.1.0 shown.1.1.0 _ p h.0.known.local h.1 h.2, h.4)

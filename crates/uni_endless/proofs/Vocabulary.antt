@@ -1,5 +1,5 @@
 -- The names that the proofs of this crate share.
-pub use Rattle.std.proofs.Common.{Bool, Contains, List, None, Option, Some, [], ap, arith, drop, eqb, false, get_or-set_other, get_or-set_same, if◌then◌else◌, inl, inr, length, length-append, length-set, map, nat_eq, nat_lt, refl, replicate, set, slice_get, slice_index_or, slice_set, subst, suc, sym, take, true, zero, ℕ, ⊎_elim, ◌%◌, ◌*◌, ◌++◌, ◌+◌, ◌-◌, ◌/◌, ◌<◌, ◌∙◌, ◌∷◌, ◌≡◌, ◌≢◌, ◌≤◌, ◌⊎◌}
+pub use Rattle.std.proofs.Common.{append-nil, Bool, Contains, List, None, Option, Some, [], ap, arith, drop, eqb, false, get_or-set_other, get_or-set_same, if◌then◌else◌, inl, inr, length, length-append, length-set, map, nat_eq, nat_lt, refl, replicate, set, slice_get, slice_index_or, slice_set, subst, suc, sym, take, true, zero, ℕ, ⊎_elim, ◌%◌, ◌*◌, ◌++◌, ◌+◌, ◌-◌, ◌/◌, ◌<◌, ◌∙◌, ◌∷◌, ◌≡◌, ◌≢◌, ◌≤◌, ◌⊎◌}
 pub use Rattle.std.proofs.lemmas.List.{length-map, length-replicate, map-append}
 pub use Rattle.std.proofs.lemmas.List.Elements.{Contains-append_cases, Contains-append_left}
 pub use Rattle.std.proofs.lemmas.Option.{slice_get_within}
@@ -35,3 +35,5 @@ pub use Rattle.uni_endless.specs.declared.view.View.{View}
 pub use lib.ListN.{get_elem?}
 pub use mathlib.Core.Option.{none, some, some-injective, some-ne-none}
 pub use prog.Atomic.{either}
+pub use Rattle.uni_any.specs.Laws.{responses}
+pub use Rattle.uni_endless.specs.Laws.{Moves, ShowsNext, returned_by, with_letter, with_word}

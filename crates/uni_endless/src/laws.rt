@@ -1,12 +1,22 @@
 //! What the rule means, each law the contract of a function with an empty body.
-ghost use Rattle.std.specs.Prelude.{◌≡◌, Contains, List, Some, ℕ, ◌+◌, ◌<◌, ◌≤◌, slice_get};
+ghost use Rattle.std.specs.Prelude.{◌≡◌, ◌≢◌, Contains, List, None, Some, ℕ, ◌+◌, ◌<◌, ◌≤◌, ◌==◌, [], ◌∷◌, ◌++◌};
+ghost use Rattle.std.specs.Prelude.{map, slice_get};
+ghost use prog.Atomic.{either};
+ghost use Rattle.uni_model.specs.AtomicObject.Act.{Invoke, Linearize};
 ghost use Rattle.triple_buffers.specs.Contents.{Contents};
 ghost use Rattle.uni_any.specs.Final.{IsLinearized, ProcessCalls};
 ghost use Rattle.uni_any.specs.declared.view.Returned.{Returned};
-ghost use Rattle.uni_endless.specs.Board.{Board, announced_by, in_of, number_in};
-ghost use Rattle.uni_endless.specs.Laws.{IsToldBy};
+ghost use Rattle.uni_endless.specs.Board.{Board, announced_by, block_news, call_news, in_of, made_by, number_in};
+ghost use Rattle.uni_endless.specs.Board.{word_of};
+ghost use Rattle.uni_endless.specs.Invariant.{HasBatch, most_calls};
+ghost use Rattle.uni_endless.specs.News.{told_by};
+ghost use Rattle.uni_endless.specs.Plays.{HasBrought, HasLaid, HasLearned, HasPosted, HasStarted};
+ghost use Rattle.uni_endless.specs.Plays.{IsLaying, IsPending, IsPosting, local_of, stage_of};
+ghost use Rattle.uni_endless.specs.Laws.{IsToldBy, Moves, returned_by, with_letter, with_word};
 ghost use Rattle.uni_endless.specs.Shown.{IsShown, Letter};
+ghost use Rattle.uni_any.specs.declared.view.Image.{Image};
 ghost use Rattle.uni_endless.specs.declared.view.Local.{Local};
+ghost use Rattle.uni_endless.specs.declared.view.Stage.TheVariants.{Reading, Writing};
 ghost use Rattle.uni_endless.specs.declared.view.View.{View};
 
 use seq_object::SeqObject;
@@ -41,4 +51,54 @@ pub fn announced_is_in_soon<O: SeqObject>()
         (c : Contents (Letter O.Inv O.State O.Resp) (View O O.Inv O.State O.Resp)) (p : ℕ) →
         IsShown n O.sequential o g local seat_of c → p < n → g.since p + 2 ≤ g.number
         → announced_by n (local p) ≤ in_of g p }
+{}
+
+/// The first write of an announcement begins a call: the history has its invocation more. Further ones append nothing.
+pub fn announcement_invokes<O: SeqObject>()
+    ensures { (o : O) (n id r : ℕ) (inv : O.Inv) (letter : Letter O.Inv O.State O.Resp)
+        (v : View O O.Inv O.State O.Resp) →
+        v.known.count ≡ 1 → r < n → IsPosting inv r v → made_by (local_of v) < most_calls
+        → told_by letter ≡ call_news (local_of v) inv
+        → Moves O.sequential o n id v (with_letter v.known.first r (Some letter) id)
+        (λ g local c w acts. (r ≡ 0 → acts ≡ Invoke v.known.first (made_by (local_of v)) inv ∷ [])
+        × (r ≢ 0 → acts ≡ []))
+        (λ c w. HasPosted v r letter w) }
+{}
+
+/// The exchange of S that finds what the attempt began with linearizes pending calls, at most one of each process, in
+/// the order of their processes: those that make its block of the version before. And the own call, which is one of
+/// them, returns. Another exchange appends nothing.
+pub fn exchange_linearizes<O: SeqObject>()
+    ensures { (o : O) (n id tries : ℕ) (inv : O.Inv) (image : Image O.State O.Resp)
+        (v : View O O.Inv O.State O.Resp) →
+        v.known.count ≡ 1 → v.known.processes ≡ n → stage_of v ≡ Writing inv tries image n
+        → Moves O.sequential o n id v (with_word (λ found. either (found == (local_of v).word)
+        (word_of (number_in (local_of v).word + 1) v.known.first) found) id)
+        (λ g local c w acts. (c.words 0 ≡ (local_of v).word → (batch : HasBatch (O.sequential o) n g local image)
+        × (acts ≡ map (λ d. Linearize d) batch.calls ++ returned_by v w))
+        × (c.words 0 ≢ (local_of v).word → acts ≡ [])) (λ c w. HasBrought v (c.words 0) w) }
+{}
+
+/// The last look of an attempt ends the call where it is in the version that was found: the history has its response
+/// more. Another look appends nothing.
+pub fn look_responds<O: SeqObject>()
+    ensures { (o : O) (n id tries r : ℕ) (inv : O.Inv) (v : View O O.Inv O.State O.Resp) →
+        v.known.count ≡ 1 → v.known.processes ≡ n → r < n → stage_of v ≡ Reading inv tries r
+        → Moves O.sequential o n id v (with_letter r v.known.first None id)
+        (λ g local c w acts. acts ≡ returned_by v w)
+        (λ c w. HasLearned O.sequential v r (c.buffers r v.known.first) w) }
+{}
+
+/// The other steps append nothing: the load of S with which an attempt begins, and the write of a block.
+pub fn other_steps_append_nothing<O: SeqObject>()
+    ensures load { (o : O) (n id tries : ℕ) (inv : O.Inv) (v : View O O.Inv O.State O.Resp) →
+        v.known.count ≡ 1 → IsPending inv tries v → v.known.processes ≡ n
+        → Moves O.sequential o n id v (with_word (λ x. x) id)
+        (λ g local c w acts. acts ≡ []) (λ c w. HasStarted v (c.words 0) w) }
+    ensures block { (o : O) (n id tries r : ℕ) (inv : O.Inv) (image : Image O.State O.Resp)
+        (letter : Letter O.Inv O.State O.Resp) (v : View O O.Inv O.State O.Resp) →
+        v.known.count ≡ 1 → v.known.processes ≡ n → r < n → IsLaying O.sequential inv tries image r v
+        → told_by letter ≡ block_news (local_of v) inv image
+        → Moves O.sequential o n id v (with_letter v.known.first r (Some letter) id)
+        (λ g local c w acts. acts ≡ []) (λ c w. HasLaid O.sequential v r letter w) }
 {}

@@ -1,0 +1,9 @@
+use Rattle.uni_endless.proofs.Laying.{lays_move}
+use Rattle.uni_endless.proofs.Starting.{starts_move}
+use Rattle.uni_endless.proofs.laws.other_steps_append_nothing.Goals as goal
+
+pub returns-clause-load : goal.returns-clause-load
+returns-clause-load g c o n id tries inv v alone pending processes = starts_move g.O.SeqObject.sequential o n id v alone inv tries pending processes
+
+pub returns-clause-block : goal.returns-clause-block
+returns-clause-block g c o n id tries r inv image letter v alone processes inside laying news = lays_move g.O.SeqObject.sequential o n id v alone processes inv tries image r inside laying letter news
