@@ -18,8 +18,8 @@ use seq_object::SeqObject;
 use std::alloc::{AllocError, Global};
 use std::sync::Arc;
 
-/// How many calls a seat may make: 2^50.
-pub const MOST_CALLS: u64 = 1 << 50;
+/// The greatest number of calls of a seat: 2^50.
+pub const MAX_CALLS: u64 = 1_125_899_906_842_624;
 
 impl<O: SeqObject> EndlessSeat<O> {
     /// Writes the invocation of the next call for all. The error says that memory was refused.
@@ -80,7 +80,7 @@ impl<O: SeqObject> EndlessSeat<O> {
     /// Herlihy's (1991), and that a version is copied and one word exchanged too (1993).
     ///
     /// Errors, in this order: `Pending` where the seat has a call pending, `Spent` where it has made all its calls,
-    /// `MOST_CALLS`: nothing is changed; `Memory`: where the call was not announced, nothing is changed; where it was,
+    /// `MAX_CALLS`: nothing is changed; `Memory`: where the call was not announced, nothing is changed; where it was,
     /// it is pending: it may take effect, and `resume` goes on with it. The invocation is dropped where it isn't
     /// announced.
     pub fn apply(
@@ -113,7 +113,7 @@ impl<O: SeqObject> EndlessSeat<O> {
         if self.asked.is_some() {
             return Err(EndlessFault::Pending);
         }
-        if self.made >= MOST_CALLS {
+        if self.made >= MAX_CALLS {
             return Err(EndlessFault::Spent);
         }
         let Ok(()) = self.announce(alloc, shared, inv) else {

@@ -14,9 +14,9 @@ mod steps;
 mod view;
 mod writing;
 
-pub use apply::MOST_CALLS;
+pub use apply::MAX_CALLS;
 pub use news::{Block, News};
-pub use open::{EndlessOpenFault, MOST_PROCESSES};
+pub use open::EndlessOpenFault;
 pub use rule::{ObjectBuffers, ObjectParty, Setup};
 pub use seat::{EndlessAnswer, EndlessFault, EndlessResumeFault, EndlessSeat, EndlessShared};
 pub use view::{Known, Local, Stage, Told, Version, View};

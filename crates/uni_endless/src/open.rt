@@ -18,9 +18,7 @@ use std::sync::Arc;
 use thiserror::Error;
 use triple_buffers::{Buffers, Layout, Parties};
 use uni_any::blank_rows;
-
-/// The greatest number of processes.
-pub const MOST_PROCESSES: u64 = 64;
+use uni_model::MAX_PROCESSES;
 
 /// Why an object is not opened.
 #[derive(Debug, Clone, Copy, PartialEq, Eq, Drop, Error)]
@@ -189,7 +187,7 @@ impl<O: SeqObject> EndlessShared<O> {
         ensures seats { IfOk result (λ opened. AreFirstSeats opened.0 n opened.1.items) }
         ensures own { IfOk result (λ opened. All (IsSeatOf opened.0) opened.1.items) }
     {
-        if n < 1 || n > MOST_PROCESSES {
+        if n < 1 || n > MAX_PROCESSES {
             return Err(EndlessOpenFault::BadCount);
         }
         let Ok(opened) = EndlessShared::with_seats(alloc, object, n) else {
