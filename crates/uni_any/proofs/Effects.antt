@@ -4,11 +4,11 @@ use Rattle.uni_any.specs.Execution.{call_of, calls_between, pending_call}
 use Rattle.uni_any.proofs.Batches.{applied_from, contains_cons, contains_first, contains_later, not_empty, rising_from, row_from}
 
 -- the calls by which an image has more than another one
-module _ {I S R : Type 0} (local : ℕ → Local I S R) (before after' : Image S R) where
+module _ {I S R : Type 0} (pending : ℕ → List (Invoked I)) (before after' : Image S R) where
   pub calls_are : (count q : ℕ) (calls : List (Invoked I)) → IsRising q calls
-      → ((c : Invoked I) → Contains calls c → (c.process < q + count) × (pending_call c.process (local c.process) ≡ c ∷ []) × (applied_in after' c.process ≢ applied_in before c.process))
+      → ((c : Invoked I) → Contains calls c → (c.process < q + count) × (pending c.process ≡ c ∷ []) × (applied_in after' c.process ≢ applied_in before c.process))
       → ((z : ℕ) → q ≤ z → z < q + count → ((c : Invoked I) × Contains calls c × (c.process ≡ z)) ⊎ (applied_in after' z ≡ applied_in before z))
-      → calls_between local before after' q count ≡ calls
+      → calls_between pending before after' q count ≡ calls
   calls_are zero q [] rising each all = refl
   calls_are zero q (c ∷ cs) rising each all = absurd (let a = (each c (contains_first c cs)).0 in let b = rising.0 in omega arith)
   calls_are (suc k) q calls rising each all = elim (number_cases (applied_in after' q) (applied_in before q)) [
@@ -17,7 +17,7 @@ module _ {I S R : Type 0} (local : ℕ → Local I S R) (before after' : Image S
     | inr more ↦ rw more.1 (one_first (λ ds. calls_are k (q + 1) ds) calls rising each all more.0)
   ] where
     none_first : (cs : List (Invoked I)) → IsRising q cs
-        → ((c : Invoked I) → Contains cs c → (c.process < q + suc k) × (pending_call c.process (local c.process) ≡ c ∷ []) × (applied_in after' c.process ≢ applied_in before c.process))
+        → ((c : Invoked I) → Contains cs c → (c.process < q + suc k) × (pending c.process ≡ c ∷ []) × (applied_in after' c.process ≢ applied_in before c.process))
         → applied_in after' q ≡ applied_in before q → IsRising (q + 1) cs
     none_first [] up each same = tt
     none_first (d ∷ ds) up each same =
@@ -25,12 +25,12 @@ module _ {I S R : Type 0} (local : ℕ → Local I S R) (before after' : Image S
         ((let u = up.0 in omega (arith, apart)), up.1)
 
     one_first : ((ds : List (Invoked I)) → IsRising (q + 1) ds
-        → ((c : Invoked I) → Contains ds c → (c.process < q + 1 + k) × (pending_call c.process (local c.process) ≡ c ∷ []) × (applied_in after' c.process ≢ applied_in before c.process))
+        → ((c : Invoked I) → Contains ds c → (c.process < q + 1 + k) × (pending c.process ≡ c ∷ []) × (applied_in after' c.process ≢ applied_in before c.process))
         → ((z : ℕ) → q + 1 ≤ z → z < q + 1 + k → ((c : Invoked I) × Contains ds c × (c.process ≡ z)) ⊎ (applied_in after' z ≡ applied_in before z))
-        → calls_between local before after' (q + 1) k ≡ ds) → (cs : List (Invoked I)) → IsRising q cs
-        → ((c : Invoked I) → Contains cs c → (c.process < q + suc k) × (pending_call c.process (local c.process) ≡ c ∷ []) × (applied_in after' c.process ≢ applied_in before c.process))
+        → calls_between pending before after' (q + 1) k ≡ ds) → (cs : List (Invoked I)) → IsRising q cs
+        → ((c : Invoked I) → Contains cs c → (c.process < q + suc k) × (pending c.process ≡ c ∷ []) × (applied_in after' c.process ≢ applied_in before c.process))
         → ((z : ℕ) → q ≤ z → z < q + suc k → ((c : Invoked I) × Contains cs c × (c.process ≡ z)) ⊎ (applied_in after' z ≡ applied_in before z))
-        → applied_in after' q ≢ applied_in before q → pending_call q (local q) ++ calls_between local before after' (q + 1) k ≡ cs
+        → applied_in after' q ≢ applied_in before q → pending q ++ calls_between pending before after' (q + 1) k ≡ cs
     one_first later_are [] up each all apart = elim (all q (omega arith) (omega arith)) [
       | inl there ↦ absurd (not_empty there.0 there.1)
       | inr same ↦ absurd (apart same)
@@ -43,8 +43,8 @@ module _ {I S R : Type 0} (local : ℕ → Local I S R) (before after' : Image S
           ]
           | inr same ↦ absurd (apart same)
         ] in
-        let first : pending_call q (local q) ≡ d ∷ [] = subst (λ z. pending_call z (local z) ≡ d ∷ []) here (each d (contains_first d ds)).1 in
-        let others : calls_between local before after' (q + 1) k ≡ ds = later_are ds (subst (λ z. IsRising (z + 1) ds) here up.1)
+        let first : pending q ≡ d ∷ [] = subst (λ z. pending z ≡ d ∷ []) here (each d (contains_first d ds)).1 in
+        let others : calls_between pending before after' (q + 1) k ≡ ds = later_are ds (subst (λ z. IsRising (z + 1) ds) here up.1)
         (λ c has. let e = each c (contains_later d ds c has) in let b = e.0 in ((omega arith), e.1, e.2))
         (λ z from below. elim (all z (omega arith) (omega arith)) [
           | inl there ↦ elim (contains_cons d ds there.0 there.1) [
@@ -78,9 +78,9 @@ module _ {S I R : Type 0} (object : Sequential S I R) (sizes : Sizes) where
 
   -- so they are the calls by which the attempt's image has more than that with which it began
   pub effects_are : (local : ℕ → Local I S R) (base image : Image S R) (g : Board I S R) → base ≡ g.image → IsSound object sizes g local → (batch : HasBatch object sizes g sizes.processes image)
-      → calls_between local base image 0 sizes.processes ≡ batch.calls
+      → calls_between (λ q. pending_call q (local q)) base image 0 sizes.processes ≡ batch.calls
   effects_are local base image g base_is sound batch =
-      calls_are local base image sizes.processes 0 batch.calls batch.rising
+      calls_are (λ q. pending_call q (local q)) base image sizes.processes 0 batch.calls batch.rising
       (λ c has.
       let c_in : c.process < sizes.processes = (batch.below c has).1 in
       let a = batch.asked c has in

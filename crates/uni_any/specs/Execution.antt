@@ -53,12 +53,12 @@ pending_call p l = call_of p (length l.own) (pending_of l.stage)
 
 -- The calls by which an image has more than another one, of so many processes from p on: their pending calls, in the
 -- order of processes.
-abbrev pub calls_between : {I S R : Type 0} → (local : ℕ → Local I S R) → (before after : Image S R) → (p count : ℕ)
-    → List (Invoked I)
-calls_between local before after p zero = []
-calls_between local before after p (suc count) =
-    (if applied_in after p == applied_in before p then [] else pending_call p (local p))
-    ++ calls_between local before after (p + 1) count
+abbrev pub calls_between : {I S R : Type 0} → (pending : (q : ℕ) → List (Invoked I)) → (before after : Image S R)
+    → (p count : ℕ) → List (Invoked I)
+calls_between pending before after p zero = []
+calls_between pending before after p (suc count) =
+    (if applied_in after p == applied_in before p then [] else pending p)
+    ++ calls_between pending before after (p + 1) count
 
 module _ {S I R : Type 0} (object : Sequential S I R) (sizes : Sizes) where
   -- process p, which stands there
@@ -189,7 +189,7 @@ module _ {S I R : Type 0} (object : Sequential S I R) (sizes : Sizes) where
           becomes = new;
           homes = m.homes;
           leaves = returns (has_block mine new image) inv reply;
-          acts = map (λ c. Linearize c) (calls_between m.local mine.base image 0 sizes.processes)
+          acts = map (λ c. Linearize c) (calls_between (λ q. pending_call q (m.local q)) mine.base image 0 sizes.processes)
               ++ Respond p made reply ∷ [];
         }
     effect_of (Fail inv tries image at other) = load_of 0 (goes mine (Ready inv (tries + 1)))
@@ -236,23 +236,12 @@ module _ {S I R : Type 0} (object : Sequential S I R) (sizes : Sizes) where
   }
 
 -- two processes, each with a pending call; the second of them is in
-abbrev sample_local : ℕ → Local ℕ ℕ ℕ
-sample_local p = record {
-  stage = Ready (5 + p) 0;
-  after = 0;
-  own = [];
-  word = 0;
-  base = record { state = 0; rows = [] };
-  taken = [];
-  steps = 0;
-}
-
 abbrev sample_image : (second : ℕ) → Image ℕ ℕ
 sample_image second = record {
   state = 0;
   rows = record { applied = 0; reply = None } ∷ record { applied = second; reply = Some 7 } ∷ [];
 }
 
-sample_between : calls_between sample_local (sample_image 0) (sample_image 1) 0 2
+sample_between : calls_between (λ q. call_of q 0 (Some (5 + q))) (sample_image 0) (sample_image 1) 0 2
     ≡ record { process = 1; nth = 0; inv = 6 } ∷ []
 sample_between = refl

@@ -19,3 +19,5 @@ pub mod Ends
 pub mod Attempts
 pub mod Seating
 pub mod Meaning
+pub mod Executing
+pub mod Progressing

@@ -20,7 +20,7 @@ module _ {O I S R : Type 0} (meaning : O → Sequential S I R) (o : O) (n : ℕ)
   none_in : (q : ℕ) → in_of g q ≡ 0
   none_in q = ap (λ (z : _). z.applied) (copies n q (blank {R = R}))
 
-  none_seen : (q : ℕ) → seen_of object n (at_rest object n) q ≡ first_told object n
+  pub none_seen : (q : ℕ) → seen_of object n (at_rest object n) q ≡ first_told object n
   none_seen q = copies n q (first_told object n)
 
   -- the start is the one version
@@ -51,7 +51,7 @@ module _ {O I S R : Type 0} (meaning : O → Sequential S I R) (o : O) (n : ℕ)
     };
   }
 
-  sound' : IsSound object n g local
+  pub sound' : IsSound object n g local
   sound' = record {
     board = record {
       process = (let a = few.0 in omega arith);

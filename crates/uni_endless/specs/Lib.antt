@@ -7,3 +7,5 @@ pub mod Standing
 pub mod Seats
 pub mod Drafts
 pub mod Laws
+pub mod Execution
+pub mod Progress

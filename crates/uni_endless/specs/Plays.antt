@@ -32,6 +32,23 @@ first_view meaning o n = record {
   known = record { processes = n; first = 0; count = n; local = at_rest (meaning o) n };
 }
 
+module _ {I S R : Type 0} where
+  -- the invocation is written next for process r
+  abbrev pub IsPostingAt : I → (r : ℕ) → Stage I S R → Type 0
+  IsPostingAt inv r stage = ((r ≡ 0) × (stage ≡ Idle)) ⊎ (stage ≡ Posting inv r)
+
+  -- a call is pending: it is announced to all of n, or so many attempts have failed, or one was left
+  abbrev pub IsPendingAt : (n : ℕ) → I → (tries : ℕ) → Stage I S R → Type 0
+  IsPendingAt n inv tries stage =
+      (stage ≡ Ready inv tries)
+      ⊎ ((tries ≡ 0) × ((stage ≡ Posting inv n) ⊎ ((t : ℕ) × (r : ℕ) × (stage ≡ Reading inv t r))))
+
+  -- the block is written next for process r: the version that was found with the calls that come next
+  abbrev pub IsLayingAt : Sequential S I R → (n : ℕ) → I → (tries : ℕ) → Image S R → (r : ℕ) → Local I S R → Type 0
+  IsLayingAt object n inv tries image r l =
+      ((r ≡ 0) × (l.stage ≡ Reading inv tries n) × (image ≡ drafted object (base_of object n l).image l.seen))
+      ⊎ (l.stage ≡ Writing inv tries image r)
+
 module _ {O I S R : Type 0} where
   abbrev pub local_of : View O I S R → Local I S R
   local_of v = v.known.local
@@ -46,20 +63,15 @@ module _ {O I S R : Type 0} where
   abbrev pub goes : View O I S R → Stage I S R → View O I S R
   goes v stage = with_local v (record v.known.local { stage = stage })
 
-  -- the invocation is written next for process r
   abbrev pub IsPosting : I → (r : ℕ) → View O I S R → Type 0
-  IsPosting inv r v = ((r ≡ 0) × (stage_of v ≡ Idle)) ⊎ (stage_of v ≡ Posting inv r)
+  IsPosting inv r v = IsPostingAt inv r (stage_of v)
 
   abbrev pub HasPosted : View O I S R → (to : ℕ) → Letter I S R → View O I S R → Type 0
   HasPosted v to letter w =
       (inv : I) → IsPosting inv to v → told_by letter ≡ call_news (local_of v) inv → w ≡ goes v (Posting inv (to + 1))
 
-  -- a call is pending: it is announced, or so many attempts have failed, or one was left
   abbrev pub IsPending : I → (tries : ℕ) → View O I S R → Type 0
-  IsPending inv tries v =
-      (stage_of v ≡ Ready inv tries)
-      ⊎ ((tries ≡ 0) × ((stage_of v ≡ Posting inv v.known.processes)
-      ⊎ ((t : ℕ) × (r : ℕ) × (stage_of v ≡ Reading inv t r))))
+  IsPending inv tries v = IsPendingAt v.known.processes inv tries (stage_of v)
 
 -- what is written for all as an attempt begins
 abbrev pub written_then : {I S R : Type 0} → Local I S R → Stage I S R → Told I S R
@@ -117,12 +129,9 @@ module _ {O I S R : Type 0} where
       (from + 1 < v.known.processes → w ≡ with_local v (record l { stage = Reading inv tries (from + 1) }))
       × (from + 1 ≡ v.known.processes → HasFound meaning v inv tries l w)
 
-  -- the block is written next for process r: the version that was found with the calls that come next
   abbrev pub IsLaying : (O → Sequential S I R) → I → (tries : ℕ) → Image S R → (r : ℕ) → View O I S R → Type 0
   IsLaying meaning inv tries image r v =
-      ((r ≡ 0) × (stage_of v ≡ Reading inv tries v.known.processes)
-      × (image ≡ drafted (meaning v.object) (base_of (meaning v.object) v.known.processes (local_of v)).image (local_of v).seen))
-      ⊎ (stage_of v ≡ Writing inv tries image r)
+      IsLayingAt (meaning v.object) v.known.processes inv tries image r (local_of v)
 
   abbrev pub HasLaid : (O → Sequential S I R) → View O I S R → (to : ℕ) → Letter I S R → View O I S R → Type 0
   HasLaid meaning v to letter w =

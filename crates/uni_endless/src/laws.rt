@@ -12,6 +12,9 @@ ghost use Rattle.uni_endless.specs.Invariant.{HasBatch, most_calls};
 ghost use Rattle.uni_endless.specs.News.{told_by};
 ghost use Rattle.uni_endless.specs.Plays.{HasBrought, HasLaid, HasLearned, HasPosted, HasStarted};
 ghost use Rattle.uni_endless.specs.Plays.{IsLaying, IsPending, IsPosting, local_of, stage_of};
+ghost use Rattle.uni_endless.specs.Execution.{Execution, KeepsOrder, history, last_moment, opened_moment};
+ghost use Rattle.uni_model.specs.Executions.{IsLinearizedInTime};
+ghost use Rattle.uni_endless.specs.Progress.{KeepsBound, NeverBlocks};
 ghost use Rattle.uni_endless.specs.Laws.{IsToldBy, Moves, returned_by, with_letter, with_word};
 ghost use Rattle.uni_endless.specs.Shown.{IsShown, Letter};
 ghost use Rattle.uni_any.specs.declared.view.Image.{Image};
@@ -101,4 +104,30 @@ pub fn other_steps_append_nothing<O: SeqObject>()
         → told_by letter ≡ block_news (local_of v) inv image
         → Moves O.sequential o n id v (with_letter v.known.first r (Some letter) id)
         (λ g local c w acts. acts ≡ []) (λ c w. HasLaid O.sequential v r letter w) }
+{}
+
+/// Every execution from the opening, in which the processes take their steps on words and buffers in any order, is
+/// linearizable in real time: each call takes effect at one of the steps between its announcement and its last one. And
+/// strongly: where an execution goes on, only further calls come behind those that took effect.
+pub fn every_execution_is_linearizable<O: SeqObject>()
+    ensures linearized { (o : O) (n : ℕ) → 1 ≤ n → n ≤ 64
+        → (e : Execution {R = O.Resp} (O.sequential o) n (opened_moment (O.sequential o) n))
+        → IsLinearizedInTime (O.sequential o) (history (O.sequential o) n e) }
+    ensures strongly { (o : O) (n : ℕ)
+        → (e : Execution {R = O.Resp} (O.sequential o) n (opened_moment (O.sequential o) n))
+        (more : Execution (O.sequential o) n (last_moment (O.sequential o) n e))
+        → KeepsOrder (O.sequential o) n e more }
+{}
+
+/// The construction is wait-free in every execution: a process in the midst of a call can always take a step that the
+/// call counts, where it has an owner of what it writes, as it has where its memory isn't refused; and no call takes
+/// more than `12 * n + 5` steps on words, whatever the other processes do. A call that is left in an attempt, for want
+/// of memory, is counted from the load with which it begins anew.
+pub fn every_call_is_wait_free<O: SeqObject>()
+    ensures blocks { (o : O) (n : ℕ) → 1 ≤ n → n ≤ 64
+        → (e : Execution {R = O.Resp} (O.sequential o) n (opened_moment (O.sequential o) n))
+        → NeverBlocks (O.sequential o) n e }
+    ensures bound { (o : O) (n : ℕ) → 1 ≤ n → n ≤ 64
+        → (e : Execution {R = O.Resp} (O.sequential o) n (opened_moment (O.sequential o) n))
+        → KeepsBound (O.sequential o) n e }
 {}

@@ -72,3 +72,4 @@ pub mod SoleRun
 pub mod Local
 pub mod Project
 pub mod Universal
+pub mod Executions

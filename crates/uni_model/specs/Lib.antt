@@ -29,3 +29,4 @@ pub mod Tight
 pub mod StrongLinearizable
 pub mod HerlihyWing
 pub mod Locality
+pub mod Executions
