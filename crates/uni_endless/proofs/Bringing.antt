@@ -1,11 +1,11 @@
 -- The exchange that brings a block in: the calls that it applied take effect, and the own call returns.
-use Rattle.uni_endless.proofs.Vocabulary.{AcceptsAll-append, Act, AllowsChange, AreOrdered, Board, Contents, HasBrought, HasCome, HasDrafted, HasLast, HasTaken, Idle, Image, Invoke, Invoked, IsAt, IsBoard, IsHistory, IsOpen, IsOrdered, IsReader, IsShown, IsStageAt, IsTold, IsTrying, IsWhole, Letter, Linearize, List, Local, None, Option, Posting, Reading, Ready, Respond, Returned, Sequential, ShowsBoard, Some, Stage, Told, Version, View, Writing, [], acts_by, announced_at, announced_by, ap, applied_in, arith, at_start, base_of, begun, block_news, brought, called_by, either, ending, get_elem?, in_of, inl, inr, length, length-append, local_of, lt_cases, made_by, map, missed, number_in, pending_of, plain, posted, posted_at, process_in, refl, response_at, row_in, sequential_acts, set_at, set_at-cases, set_at_elsewhere, set_at_same, slice_set, some, stage_of, subst, sym, with_local, word_of, ℕ, ◌++◌, ◌+◌, ◌<◌, ◌∙◌, ◌∷◌, ◌≡◌, ◌≢◌, ◌≤◌, ◌⊎◌, HasBatch, Moves, ShowsNext, append-nil, responses, returned_by, with_word}
+use Rattle.uni_endless.proofs.Vocabulary.{AcceptsAll-append, Act, HasFollowed, AllowsChange, AreOrdered, Board, Contents, HasBrought, HasCome, HasDrafted, HasLast, HasTaken, Idle, Image, Invoke, Invoked, IsAt, IsBoard, IsHistory, IsOpen, IsOrdered, IsReader, IsShown, IsStageAt, IsTold, IsTrying, IsWhole, Letter, Linearize, List, Local, None, Option, Posting, Reading, Ready, Respond, Returned, Sequential, ShowsBoard, Some, Stage, Told, Version, View, Writing, [], acts_by, announced_at, announced_by, ap, applied_in, arith, at_start, base_of, begun, block_news, brought, called_by, either, ending, get_elem?, in_of, inl, inr, length, length-append, local_of, lt_cases, made_by, map, missed, number_in, pending_of, plain, posted, posted_at, process_in, refl, response_at, row_in, sequential_acts, set_at, set_at-cases, set_at_elsewhere, set_at_same, slice_set, some, stage_of, subst, sym, with_local, word_of, ℕ, ◌++◌, ◌+◌, ◌<◌, ◌∙◌, ◌∷◌, ◌≡◌, ◌≢◌, ◌≤◌, ◌⊎◌, HasBatch, Moves, ShowsNext, append-nil, responses, returned_by, with_word}
 use Rattle.std.proofs.Common.{append_assoc, ◌==◌}
 use Rattle.atomic_table.proofs.Lists.{exchanged}
 use Rattle.uni_endless.proofs.Framing.{board_of, buffers_same, drop_past, mine, own, shown_with, sound_with}
 use Rattle.uni_endless.proofs.Growing.{accepted_then, agreed', agreed_then, acts_lin, board_then, calls, calls_then, come_cases, come_new, come_up, image_then, in_least, in_most, order1, place_before, shadows, still_taken, taken_then}
 use Rattle.uni_endless.proofs.Histories.{history_kept, own_told}
-use Rattle.uni_endless.proofs.Orders.{order_kept}
+use Rattle.uni_endless.proofs.Orders.{followed_more, order_kept}
 use Rattle.uni_endless.proofs.Posting.{keeps_same}
 use Rattle.uni_endless.proofs.Starting.{present_image}
 use Rattle.uni_endless.proofs.Staying.{board_stays, later, others_stay, reader_stays}
@@ -402,6 +402,10 @@ module _ {O I S R : Type 0} (meaning : O → Sequential S I R) (o : O) (n id : �
               | inl at_p ↦ subst (λ (z : Local I S R). IsOrdered object g'.atomic.agreed g'.calls_in g'.number q z.after z.own) (sym at_p.1) (subst (λ k. IsOrdered object g'.atomic.agreed g'.calls_in g'.number k l'.after l'.own) (sym at_p.0)
                   (subst (λ k. IsOrdered object g'.atomic.agreed g'.calls_in g'.number p k (l.own ++ record { inv = inv; reply = x; after = l.after; version = k } ∷ [])) here returned))
               | inr other ↦ subst (λ (z : Local I S R). IsOrdered object g'.atomic.agreed g'.calls_in g'.number q z.after z.own) (sym other.1) (o.each q q_in)
+            ];
+            followed = λ q q_in. elim (set_at-cases local p l' q) [
+              | inl at_p ↦ subst (λ (z : Local I S R). HasFollowed z.after z.own) (sym at_p.1) (followed_more l.own l.after (ending l inv x (number_in l.word + 1)) (subst (λ (z : Local I S R). HasFollowed z.after z.own) local_is (is.sound.order.followed p p_in)) (let a = rises in omega arith))
+              | inr other ↦ subst (λ (z : Local I S R). HasFollowed z.after z.own) (sym other.1) (is.sound.order.followed q q_in)
             ];
           }
 

@@ -9,7 +9,7 @@ use Rattle.uni_any.specs.Execution.{call_of, calls_between}
 use Rattle.uni_model.proofs.Executions.{kept_along, linearized_by}
 use Rattle.uni_model.specs.Executions.{IsLinearizedInTime}
 use Rattle.uni_endless.specs.Execution.{CanTake, Execution, Moment, history, last_moment, opened_moment, acts_of, after, effect_of, found_by, pending_call, present_in, seeing}
-use Rattle.uni_endless.specs.Execution.Next.{Bring, Fail, Lay, Learn, Post, Return, Start}
+use Rattle.uni_endless.specs.Execution.Next.{Bring, Fail, Lay, Learn, Post, Return, See, Start, View as Views}
 use Rattle.uni_endless.proofs.Bringing.{brings_move}
 use Rattle.uni_endless.proofs.Framing.{drop_past}
 use Rattle.uni_endless.proofs.Laying.{lays_move}
@@ -18,6 +18,7 @@ use Rattle.uni_endless.proofs.Looks.{seen_fields}
 use Rattle.uni_endless.proofs.Opening as Opening
 use Rattle.uni_endless.proofs.Posting.{posts_move}
 use Rattle.uni_endless.proofs.Starting.{present_image, starts_move}
+use Rattle.uni_endless.proofs.Viewing.{sees_move, views_move}
 
 -- the calls that an exchange brings in are those by which its block has more than the present version
 module _ {S I R : Type 0} (object : Sequential S I R) (n : ℕ) (g : Board I S R) (local : ℕ → Local I S R) (sound : IsSound object n g local) (image : Image S R) (batch : HasBatch object n g local image) where
@@ -218,6 +219,20 @@ module _ {O I S R : Type 0} (meaning : O → Sequential S I R) (o : O) (n : ℕ)
         (λ w. (exchanged m.word l.word (word_of (number_in l.word + 1) p) (λ y. y ≡ m.word) (λ e. absurd (other e)) (λ e. refl), refl))
         (λ w said. ap local_then ((said inv tries image whole).1 other))
         (λ w made said makes. makes.1 other)
+    step_holds m acts h p inside (Views idle) =
+        let v = view_at m.local p in
+        moved m acts h p inside (Views idle) (with_word (λ x. x) p) _ _
+        (views_move meaning o n p v refl refl idle)
+        (λ w. (refl, refl))
+        (λ w said. ap local_then (said idle).2)
+        (λ w made said makes. makes)
+    step_holds m acts h p inside (See r idle r_in named follows) =
+        let v = view_at m.local p in
+        moved m acts h p inside (See r idle r_in named follows) (with_letter r p None p) _ _
+        (sees_move meaning o n p v refl refl idle r r_in named follows)
+        (λ w. (refl, refl))
+        (λ w said. ap local_then (said idle (sym named) follows).2)
+        (λ w made said makes. makes)
 
     pub opening_holds : Holds (opened_moment object n) []
     opening_holds = record {

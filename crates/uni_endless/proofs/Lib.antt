@@ -5,6 +5,7 @@ pub mod Histories
 pub mod Orders
 pub mod Posting
 pub mod Starting
+pub mod Seeing
 pub mod Learning
 pub mod Drafting
 pub mod Laying
@@ -21,3 +22,4 @@ pub mod Seating
 pub mod Meaning
 pub mod Executing
 pub mod Progressing
+pub mod Viewing

@@ -8,6 +8,10 @@ pub seen_fields : {I S R : Type 0} (l : Local I S R) (r : ℕ) (found : Option (
 seen_fields l r None = (refl, refl, refl, refl)
 seen_fields l r (Some letter) = (refl, refl, refl, refl)
 
+pub seen_stage : {I S R : Type 0} (l : Local I S R) (r : ℕ) (found : Option (Letter I S R)) → (with_seen l r found).stage ≡ l.stage
+seen_stage l r None = refl
+seen_stage l r (Some letter) = refl
+
 module _ {O I S R : Type 0} (meaning : O → Sequential S I R) where
   -- whatever else it does, it has seen that then, and has brought in what it had
   pub learned_keeps : (v w : View O I S R) (from : ℕ) → from < v.known.processes → (inv : I) (tries : ℕ) → stage_of v ≡ Reading inv tries from → (found : Option (Letter I S R)) → HasLearned meaning v from found w

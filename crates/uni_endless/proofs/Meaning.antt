@@ -1,6 +1,9 @@
 -- What the rule means.
-use Rattle.uni_endless.proofs.Vocabulary.{Board, Contains, Contents, Image, IsOrdered, IsShown, IsTold, Letter, List, Local, None, Option, Returned, Sequential, Some, StandsIn, View, acts_by, announced_by, ap, arith, in_of, number_in, pending_of, refl, slice_get, subst, sym, word_of, ℕ, ◌+◌, ◌/◌, ◌<◌, ◌∙◌, ◌≡◌, ◌≤◌}
-use Rattle.uni_any.proofs.Batches.{state_from}
+use Rattle.uni_endless.proofs.Vocabulary.{[], applied_in, blank, HasCome, inl, inr, Invoked, length-replicate, Row, take, Version, ◌∷◌, Board, Contains, Contents, Image, IsOrdered, IsShown, IsTold, Letter, List, Local, None, Option, Returned, Sequential, Some, StandsIn, View, acts_by, announced_by, ap, arith, in_of, number_in, pending_of, refl, slice_get, subst, sym, word_of, ℕ, ◌+◌, ◌/◌, ◌<◌, ◌∙◌, ◌≡◌, ◌≤◌}
+use Rattle.std.proofs.Common.{cond, fold, ◌==◌}
+use Rattle.uni_any.proofs.Batches.{contains_cons, counted_from, not_empty, state_from}
+use Rattle.uni_any.proofs.Opening.{copies}
+use Rattle.uni_endless.specs.Versions.{IsVersionOf}
 use Rattle.uni_any.specs.Final.{IsLinearized, ProcessCalls, acts_told}
 use Rattle.uni_endless.specs.Laws.{IsToldBy}
 use Rattle.uni_endless.specs.News.{first_image}
@@ -34,8 +37,8 @@ module _ {O I S R : Type 0} (meaning : O → Sequential S I R) (o : O) (n : ℕ)
       = subst (λ own. IsOrdered object g.atomic.agreed g.calls_in g.number its.process (local its.process).after own) are.1 (is.sound.order.each its.process are.0) in
       order.stand k call at
 
-  pub linearized_at : (known : List (ProcessCalls I R)) → ((its : ProcessCalls I R) → Contains known its → IsToldBy c.views its) → IsLinearized object n known g.image.state
-  linearized_at known by =
+  pub linearized_with : (known : List (ProcessCalls I R)) → ((its : ProcessCalls I R) → Contains known its → AreCalls its) → IsLinearized object n known g.image.state
+  linearized_with known are =
       let history = is.sound.history in
       record {
         acts = g.acts;
@@ -44,11 +47,24 @@ module _ {O I S R : Type 0} (meaning : O → Sequential S I R) (o : O) (n : ℕ)
         linearized = (g.acts, g.atomic, refl, history.accepted, refl);
         state_is = sym (state_from object (first_image object n) g.atomic.agreed) ∙ ap (λ (z : Image S R). z.state) history.image;
         inside = λ x has. (history.agreed x has).0;
-        own_is = λ its has. told_acts its (told_calls its (by its has));
+        own_is = λ its has. told_acts its (are its has);
         calls_in_version = g.calls_in;
         rising = is.sound.order.rising;
-        stand = λ its has k call at. told_order its (told_calls its (by its has)) k call at;
+        stand = λ its has k call at. told_order its (are its has) k call at;
       }
+
+  pub linearized_at : (known : List (ProcessCalls I R)) → ((its : ProcessCalls I R) → Contains known its → IsToldBy c.views its) → IsLinearized object n known g.image.state
+  linearized_at known by = linearized_with known (λ its has. told_calls its (by its has))
+
+  -- of one process alone
+  one_is : (its z : ProcessCalls I R) → Contains (its ∷ []) z → z ≡ its
+  one_is its z has = elim (contains_cons its [] z has) [
+    | inl same ↦ sym same
+    | inr none ↦ absurd (not_empty z none)
+  ]
+
+  one_alone : (its z : ProcessCalls I R) → Contains (its ∷ []) z → AreCalls its → AreCalls z
+  one_alone its z has are = subst AreCalls (sym (one_is its z has)) are
 
   pub come_at : (p k : ℕ) (call : Returned I R) → p < n → slice_get (local p).own k ≡ Some call → call.version ≤ number_in (c.words 0)
   come_at p k call inside at =
@@ -59,3 +75,26 @@ module _ {O I S R : Type 0} (meaning : O → Sequential S I R) (o : O) (n : ℕ)
 
   pub soon_at : (p : ℕ) → p < n → g.since p + 2 ≤ g.number → announced_by n (local p) ≤ in_of g p
   soon_at p inside late = is.sound.board.soon p inside late
+
+  -- a version that has come, no older than the one that a process follows
+  pub version_come : (its : ProcessCalls I R) → its.process < n → (local its.process).own ≡ its.own → pending_of (local its.process).stage ≡ its.pending
+      → (x : Version S R) → HasCome object n g x → (local its.process).after ≤ x.number → IsVersionOf object n (its ∷ []) x.number x.image
+  unfolding linearized_with
+  version_come its inside own pending x come follows =
+      let calls : List (Invoked I) = take (g.calls_in x.number) g.atomic.agreed in
+      let long = length-replicate {A = Row R} n blank in
+      record {
+        last = g.image.state;
+        history = linearized_with (its ∷ []) (λ z has. one_alone its z has (inside, own, pending));
+        calls = calls;
+        calls_are = refl;
+        state_is = sym (state_from object (first_image object n) calls) ∙ ap (λ (z : Image S R). z.state) (sym come.1);
+        rows = λ q q_in.
+            ap (λ (z : Image S R). applied_in z q) come.1 ∙ counted_from object (first_image object n) calls q (omega (arith, long, q_in))
+            ∙ ap (λ k. fold (λ a (d : Invoked I). a + cond (d.process == q) 1 0) k calls) (ap (λ (z : Row R). z.applied) (copies n q blank));
+        within = λ z has k call at.
+            let same : z ≡ its = one_is its z has in
+            let followed = is.sound.order.followed its.process inside in
+            let a = subst (λ xs. (k : ℕ) (d : Returned I R) → slice_get xs k ≡ Some d → d.version ≤ (local its.process).after) own followed k call (ap (λ (y : ProcessCalls I R). slice_get y.own k) (sym same) ∙ at) in
+            omega (arith, follows);
+      }

@@ -79,6 +79,7 @@ module _ {O I S R : Type 0} (meaning : O → Sequential S I R) (o : O) (n : ℕ)
         known = λ k call at. absurd (let e : slice_get [] k ≡ Some call = at in cc);
         stand = λ k call at. absurd (let e : slice_get [] k ≡ Some call = at in cc);
       };
+      followed = λ p p_in k call at. absurd (let e : slice_get [] k ≡ Some call = at in cc);
     };
   }
 

@@ -1,5 +1,5 @@
 -- The order of calls and versions, as a process goes on.
-use Rattle.uni_endless.proofs.Vocabulary.{Act, AreOrdered, Board, Contains, HasTaken, Invoked, IsOrdered, List, Local, Option, Returned, Sequential, Some, StandsIn, [], arith, ending, inl, inr, length-append, lt_cases, made_by, refl, set_at-cases, slice_get, subst, sym, ℕ, ◌++◌, ◌+◌, ◌<◌, ◌∷◌, ◌≡◌, ◌≤◌}
+use Rattle.uni_endless.proofs.Vocabulary.{Act, AreOrdered, Board, Contains, HasFollowed, HasTaken, Invoked, IsOrdered, List, Local, Option, Returned, Sequential, Some, StandsIn, [], arith, ending, inl, inr, length, length-append, lt_cases, made_by, refl, set_at-cases, slice_get, subst, sym, ℕ, ◌++◌, ◌+◌, ◌<◌, ◌∷◌, ◌≡◌, ◌≤◌}
 use Rattle.uni_endless.proofs.Staying.{later, locals}
 use Rattle.uni_any.proofs.Ordering.{get_snoc}
 use Rattle.std.proofs.Common.{suc, zero}
@@ -9,19 +9,30 @@ contained [] k x e = absurd cc
 contained (y ∷ ys) zero x e = (0, omega arith, cc)
 contained (y ∷ ys) (suc k) x e = (let h = contained ys k x e in (suc h.0, (let b = h.1 in omega arith), h.2))
 
+-- one call more, in the version that is followed then
+pub followed_more : {I R : Type 0} (own : List (Returned I R)) (after : ℕ) (call : Returned I R) → HasFollowed after own → after ≤ call.version → HasFollowed call.version (own ++ call ∷ [])
+followed_more own after call was more k c at = elim (get_snoc own call k c at) [
+  | inl old ↦ (let a = was k c old in omega (arith, more))
+  | inr new ↦ subst (λ (d : Returned _ _). d.version ≤ call.version) new.1 (omega arith)
+]
+
 module _ {S I R : Type 0} (object : Sequential S I R) (n : ℕ) (g : Board I S R) (local : ℕ → Local I S R) (p : ℕ) (l l' : Local I S R) (is : local p ≡ l)
     (since' : ℕ → ℕ) (open' : ℕ → Option (Invoked I)) (next' : ℕ → ℕ) (acts' : List (Act I R)) (was : AreOrdered object n g local) where
   abbrev Ordered : (q after : ℕ) → List (Returned I R) → Type 0
   Ordered q after own = IsOrdered object g.atomic.agreed g.calls_in g.number q after own
 
   -- one process has another order
-  pub order_with : Ordered p l'.after l'.own → AreOrdered object n (later object n g local p l l' is since' open' next' acts') (locals object n g local p l l' is since' open' next' acts')
-  order_with h = record {
+  pub order_with : Ordered p l'.after l'.own → HasFollowed l'.after l'.own → AreOrdered object n (later object n g local p l l' is since' open' next' acts') (locals object n g local p l l' is since' open' next' acts')
+  order_with h f = record {
     counted = was.counted;
     rising = was.rising;
     each = λ q q_in. elim (set_at-cases local p l' q) [
       | inl here ↦ subst (λ (z : Local I S R). Ordered q z.after z.own) (sym here.1) (subst (λ k. Ordered k l'.after l'.own) (sym here.0) h)
       | inr other ↦ subst (λ (z : Local I S R). Ordered q z.after z.own) (sym other.1) (was.each q q_in)
+    ];
+    followed = λ q q_in. elim (set_at-cases local p l' q) [
+      | inl here ↦ subst (λ (z : Local I S R). HasFollowed z.after z.own) (sym here.1) f
+      | inr other ↦ subst (λ (z : Local I S R). HasFollowed z.after z.own) (sym other.1) (was.followed q q_in)
     ];
   }
 
@@ -29,9 +40,23 @@ module _ {S I R : Type 0} (object : Sequential S I R) (n : ℕ) (g : Board I S R
     its : Ordered p l.after l.own
     its = subst (λ (z : Local I S R). Ordered p z.after z.own) is (was.each p p_in)
 
+    its_followed : HasFollowed l.after l.own
+    its_followed = subst (λ (z : Local I S R). HasFollowed z.after z.own) is (was.followed p p_in)
+
     -- one that has returned from no other call, and follows no other version
     pub order_kept : l'.own ≡ l.own → l'.after ≡ l.after → AreOrdered object n (later object n g local p l l' is since' open' next' acts') (locals object n g local p l l' is since' open' next' acts')
     order_kept own after = order_with (subst (λ k. Ordered p l'.after k) (sym own) (subst (λ k. Ordered p k l.own) (sym after) its))
+        (subst (λ k. HasFollowed l'.after k) (sym own) (subst (λ k. HasFollowed k l.own) (sym after) its_followed))
+
+    -- or follows a later one that has come, with all its calls in
+    pub order_viewed : (in_is : (c : Invoked I) → Contains g.atomic.agreed c → c.process ≡ p → c.nth < length l.own) → l'.own ≡ l.own → l.after ≤ l'.after → l'.after ≤ g.number
+        → AreOrdered object n (later object n g local p l l' is since' open' next' acts') (locals object n g local p l l' is since' open' next' acts')
+    order_viewed in_is own more known = order_with (subst (λ k. Ordered p l'.after k) (sym own) (record {
+      reached = known;
+      later = λ c j at mine from. absurd (let b = in_is c (contained g.atomic.agreed j c at) mine in omega (arith, from));
+      known = its.known;
+      stand = its.stand;
+    })) (subst (λ k. HasFollowed l'.after k) (sym own) (λ k call at. let a = its_followed k call at in omega (arith, more)))
 
     -- its call returns, which is in this version
     module _ (inv : I) (x : R) (number : ℕ) (known : number ≤ g.number) (taken : HasTaken object g.atomic.agreed (record { process = p; nth = made_by l; inv = inv }) x) (before : taken.place < g.calls_in number)
@@ -61,3 +86,4 @@ module _ {S I R : Type 0} (object : Sequential S I R) (n : ℕ) (g : Board I S R
 
       pub order_ended : l'.own ≡ l.own ++ ending l inv x number ∷ [] → l'.after ≡ number → AreOrdered object n (later object n g local p l l' is since' open' next' acts') (locals object n g local p l l' is since' open' next' acts')
       order_ended own after = order_with (subst (λ k. Ordered p l'.after k) (sym own) (subst (λ k. Ordered p k (l.own ++ ending l inv x number ∷ [])) (sym after) ordered))
+          (subst (λ k. HasFollowed l'.after k) (sym own) (subst (λ k. HasFollowed k (l.own ++ ending l inv x number ∷ [])) (sym after) (followed_more l.own l.after (ending l inv x number) its_followed (let a = version_rises in omega arith))))

@@ -3,12 +3,12 @@ use Rattle.uni_endless.proofs.Vocabulary.{HasFound, Idle, Image, IsStageAt, List
 use Rattle.std.proofs.Common.{◌==◌}
 use Rattle.uni_model.specs.Executions.Execution.{Ends, Takes}
 use Rattle.uni_endless.specs.Execution.{CanTake, Execution, Moment, acts_of, after, effect_of, found_by, history, last_moment, opened_moment, seeing}
-use Rattle.uni_endless.specs.Execution.Next.{Bring, Fail, Lay, Learn, Post, Return, Start}
+use Rattle.uni_endless.specs.Execution.Next.{Bring, Fail, Lay, Learn, Post, Return, See, Start, View as Views}
 use Rattle.uni_endless.specs.Progress.{HasOwner, KeepsBound, NeverBlocks, StepOfCall, counted, so_far, steps_of_call}
 use Rattle.uni_endless.proofs.Bringing.{brings_move}
 use Rattle.uni_endless.proofs.Executing.{Holds, contents_at, history_holds, opening_holds, seat_at, shown, step_holds, view_at}
 use Rattle.uni_endless.proofs.Learning.{learns_move}
-use Rattle.uni_endless.proofs.Looks.{seen_fields}
+use Rattle.uni_endless.proofs.Looks.{seen_fields, seen_stage}
 
 -- how many steps are left of processes n, after so many failed attempts: once all buffers are looked into, and before S is loaded
 abbrev once_looked : (n tries : ℕ) → ℕ
@@ -79,6 +79,9 @@ module _ {O I S R : Type 0} (meaning : O → Sequential S I R) (o : O) (n : ℕ)
         let w' = subst (λ k. IsWithin n k taken) at w in let x = w'.1 in omega (arith, x)
     within_after (Fail inv tries image at other) taken w =
         let w' = subst (λ k. IsWithin n k taken) at w in let x = w'.1 in omega (arith, x)
+
+    within_after (Views idle) taken w = w
+    within_after (See r idle r_in named follows) taken w = subst (λ k. IsWithin n k taken) (sym (seen_stage its r (m.buffers r p))) w
 
     -- a process in the midst of a call can take a step of it
     looks_on : (inv : I) (tries r : ℕ) → its.stage ≡ Reading inv tries r → r < n → StepOfCall object n m p

@@ -33,6 +33,25 @@ versions_few object n g local few sound come =
     omega arith) in
     (let v = sound.board.versions in omega (arith, all, long, few))
 
+-- what a load of S finds
+module _ {O I S R : Type 0} (meaning : O → Sequential S I R) (o : O) (n : ℕ) (g : Board I S R) (local : ℕ → Local I S R) (seat_of : ℕ → ℕ) (c : Contents (Letter I S R) (View O I S R)) (is : IsShown n meaning o g local seat_of c) where
+  pub loaded_number : number_in (c.words 0) ≡ g.number
+  loaded_number = (let a = is.word in let b = is.sound.board.process in let d = is.few.1 in let e : number_in (c.words 0) ≡ number_in (word_of g.number g.process) = ap number_in a in omega (arith, b, d, e))
+
+  pub loaded_process : process_in (c.words 0) ≡ g.process
+  loaded_process = (let a = is.word in let b = is.sound.board.process in let d = is.few.1 in let e : process_in (c.words 0) ≡ process_in (word_of g.number g.process) = ap process_in a in omega (arith, b, d, e))
+
+  -- its process has brought that version in, whatever one process has learned
+  pub loaded_known : (p : ℕ) (l' : Local I S R) → l'.last ≡ (local p).last → number_in (c.words 0) ≤ (set_at local p l' (process_in (c.words 0))).last.number
+  loaded_known p l' same =
+      let q_in : process_in (c.words 0) < n = (let a = loaded_process in let b = is.sound.board.process in omega arith) in
+      let brought_in = (is.sound.each (process_in (c.words 0)) q_in).writer.present (sym loaded_process) in
+      let number = loaded_number in
+      elim (set_at-cases local p l' (process_in (c.words 0))) [
+        | inl here ↦ (let e = ap (λ (z : Local I S R). z.last.number) here.1 in let d = ap (λ (z : Version S R). z.number) same in let f = ap (λ k. (local k).last.number) here.0 in omega (arith, brought_in))
+        | inr other ↦ (let e = ap (λ (z : Local I S R). z.last.number) other.1 in omega (arith, brought_in))
+      ]
+
 module _ {O I S R : Type 0} (meaning : O → Sequential S I R) (o : O) (n id : ℕ) (v : View O I S R) (alone : v.known.count ≡ 1) (inv : I) (tries : ℕ) (pending : IsPending inv tries v) (processes : v.known.processes ≡ n) where
   abbrev l : Local I S R
   l = local_of v
@@ -87,10 +106,10 @@ module _ {O I S R : Type 0} (meaning : O → Sequential S I R) (o : O) (n id : �
     its = mine meaning o n id v alone c g local seat_of is at
 
     number_is : number_in word ≡ g.number
-    number_is = (let a = is.word in let b = is.sound.board.process in let d = is.few.1 in let e : number_in word ≡ number_in (word_of g.number g.process) = ap number_in a in omega (arith, b, d, e))
+    number_is = loaded_number meaning o n g local seat_of c is
 
     process_is : process_in word ≡ g.process
-    process_is = (let a = is.word in let b = is.sound.board.process in let d = is.few.1 in let e : process_in word ≡ process_in (word_of g.number g.process) = ap process_in a in omega (arith, b, d, e))
+    process_is = loaded_process meaning o n g local seat_of c is
 
     -- what it has written for all, and at which version it announced it
     facts : IsOpen object n g local p l inv × ((written_then l l.stage).call ≡ made_by l + 1) × ((written_then l l.stage).inv ≡ Some inv) × HasLast object n g local l (written_then l l.stage)
@@ -188,12 +207,7 @@ module _ {O I S R : Type 0} (meaning : O → Sequential S I R) (o : O) (n id : �
           reader = record {
             long = rd.long;
             process = (let a = process_is in let b = is.sound.board.process in omega arith);
-            known = elim (set_at-cases local p l' (process_in word)) [
-              | inl here ↦ (let a = number_is in let b = process_is in let d = w.present (sym b ∙ here.0) in let e = ap (λ (z : Local I S R). z.last.number) here.1 in omega arith)
-              | inr other ↦
-                  let q_in : process_in word < n = (let a = process_is in let b = is.sound.board.process in omega arith) in
-                  (let a = number_is in let b = process_is in let d = (is.sound.each (process_in word) q_in).writer.present (sym b) in let e = ap (λ (z : Local I S R). z.last.number) other.1 in omega arith)
-            ];
+            known = loaded_known meaning o n g local seat_of c is p l' (ap (λ (z : Local I S R). z.last) (sym local_is));
             old = inl is.word;
             called = rd.called;
             inv = rd.inv;

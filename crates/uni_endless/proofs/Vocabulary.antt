@@ -22,9 +22,9 @@ pub use Rattle.uni_any.specs.declared.view.Image.{Image}
 pub use Rattle.uni_any.specs.declared.view.Returned.{Returned}
 pub use Rattle.triple_buffers.specs.Contents.{AllowsChange, AllowsSplit, AllowsTake, AllowsWrite, Contents, with_value}
 pub use Rattle.uni_endless.specs.Board.{Board, HasCome, announced_at, announced_by, begun, block_news, call_news, called_by, in_of, made_by, number_in, opened, pending_of, posted, posted_at, process_in, word_of}
-pub use Rattle.uni_endless.specs.Invariant.{AreOrdered, HasBatch, HasDrafted, HasLast, HasLooked, HasTaken, IsAnnounced, IsAt, IsBase, IsBoard, IsHistory, IsOpen, IsReader, IsSound, IsStageAt, IsTold, IsTrying, IsWhole, IsWriter, base_of, most_calls, seen_of}
+pub use Rattle.uni_endless.specs.Invariant.{AreOrdered, HasBatch, HasDrafted, HasFollowed, HasLast, HasLooked, HasTaken, IsAnnounced, IsAt, IsBase, IsBoard, IsHistory, IsOpen, IsReader, IsSound, IsStageAt, IsTold, IsTrying, IsWhole, IsWriter, base_of, most_calls, seen_of}
 pub use Rattle.uni_endless.specs.News.{calls_due, drafted, due, first_image, first_told, first_version, found_in, told_by}
-pub use Rattle.uni_endless.specs.Plays.{HasBrought, HasFound, HasLaid, HasLearned, HasPosted, HasStarted, IsLaying, IsPending, IsPosting, at_rest, brought, ending, first_alone, first_view, goes, local_of, missed, others, returns, stage_of, started, with_local, with_seen, written_then}
+pub use Rattle.uni_endless.specs.Plays.{HasBrought, HasFound, HasLaid, HasLearned, HasPosted, HasSeen, HasStarted, HasViewed, IsLaying, IsPending, IsPosting, at_rest, brought, calls_of, ending, first_alone, first_view, goes, local_of, missed, others, returns, stage_of, started, viewing, with_local, with_seen, written_then}
 pub use Rattle.uni_endless.specs.Shown.{IsShown, Letter, ShowsBoard, Tells, known_then}
 pub use Rattle.uni_endless.specs.declared.view.Local.{Local}
 pub use Rattle.uni_endless.specs.declared.view.Stage.{Stage}

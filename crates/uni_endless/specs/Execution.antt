@@ -12,11 +12,11 @@ use Rattle.uni_endless.specs.Board.{block_news, call_news, made_by, number_in, p
 use Rattle.uni_model.specs.Executions as Executions
 use Rattle.uni_endless.specs.Invariant.{base_of, most_calls}
 use Rattle.uni_endless.specs.News.{told_by}
-use Rattle.uni_endless.specs.Plays.{IsLayingAt, IsPendingAt, IsPostingAt, at_rest, brought, missed, returns, started, with_seen}
+use Rattle.uni_endless.specs.Plays.{IsLayingAt, IsPendingAt, IsPostingAt, at_rest, brought, missed, returns, started, viewing, with_seen}
 use Rattle.uni_endless.specs.Shown.{Letter}
 use Rattle.uni_endless.specs.declared.view.Local.{Local}
 use Rattle.uni_endless.specs.declared.view.Stage.{Stage}
-use Rattle.uni_endless.specs.declared.view.Stage.TheVariants.{Posting, Reading, Writing}
+use Rattle.uni_endless.specs.declared.view.Stage.TheVariants.{Idle, Posting, Reading, Writing}
 use Rattle.uni_endless.specs.declared.view.Version.{Version}
 
 -- the word S, what lies in the buffer of each process for each, and where each process stands
@@ -71,6 +71,9 @@ module _ {S I R : Type 0} (object : Sequential S I R) (n : ℕ) where
       Bring : (inv : I) (tries : ℕ) (image : Image S R) (reply : R) → mine.stage ≡ Writing inv tries image n
           → m.word ≡ mine.word → (row_in image p).reply ≡ Some reply → Next
       Fail : (inv : I) (tries : ℕ) (image : Image S R) → mine.stage ≡ Writing inv tries image n → m.word ≢ mine.word → Next
+      -- between calls S is loaded, and then what the process that it names has written is taken
+      View : mine.stage ≡ Idle → Next
+      See : (r : ℕ) → mine.stage ≡ Idle → r < n → process_in mine.word ≡ r → mine.after ≡ number_in mine.word → Next
 
     -- a step that leaves S as it was and makes no act: it leaves this in the buffers, and the process here
     abbrev pub quiet : ((from to : ℕ) → Option (Letter I S R)) → Local I S R → Effect I S R
@@ -108,6 +111,8 @@ module _ {S I R : Type 0} (object : Sequential S I R) (n : ℕ) where
           ++ Respond p (made_by mine) reply ∷ [];
     }
     effect_of (Fail inv tries image lays other) = quiet m.buffers (missed mine inv tries image)
+    effect_of (View idle) = quiet m.buffers (viewing mine m.word)
+    effect_of (See r idle inside named follows) = quiet (taken r) (record (seeing r) { after = (found_by r).number })
 
   -- process p can take such a step; the moment after it; and the acts that it makes
   abbrev pub CanTake : Moment I S R → (p : ℕ) → Type 0

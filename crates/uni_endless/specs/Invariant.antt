@@ -36,6 +36,10 @@ pub record HasTaken {S I R : Type 0} (object : Sequential S I R) (agreed : List 
   pub there : slice_get agreed place ≡ Some call
   pub reply_is : response_at object object.initial (map inv_of agreed) place ≡ Some reply
 
+-- each of these calls is in a version no later than this
+abbrev pub HasFollowed : {I R : Type 0} → (after : ℕ) → List (Returned I R) → Type 0
+HasFollowed {I} {R} after own = (k : ℕ) (call : Returned I R) → slice_get own k ≡ Some call → call.version ≤ after
+
 module _ {S I R : Type 0} (object : Sequential S I R) (n : ℕ) where
   -- what was taken last of process q
   abbrev pub seen_of : Local I S R → (q : ℕ) → Told I S R
@@ -169,11 +173,13 @@ module _ {S I R : Type 0} (object : Sequential S I R) (n : ℕ) where
       pub past : (q : ℕ) → q < n → g.since q ≤ g.number
       pub versions : g.number ≤ sum (map applied_of g.image.rows)
 
-    -- all calls are in the present version, a later version has no fewer, and each process has its order
+    -- all calls are in the present version, a later version has no fewer, each process has its order, and each of its
+    -- calls that have returned is in the version that it follows
     pub record AreOrdered : Type 0 where
       pub counted : (v : ℕ) → g.number ≤ v → g.calls_in v ≡ length g.atomic.agreed
       pub rising : (v w : ℕ) → v ≤ w → g.calls_in v ≤ g.calls_in w
       pub each : (p : ℕ) → p < n → IsOrdered object g.atomic.agreed g.calls_in g.number p (local p).after (local p).own
+      pub followed : (p : ℕ) → p < n → HasFollowed (local p).after (local p).own
 
     pub record IsSound : Type 0 where
       pub board : IsBoard

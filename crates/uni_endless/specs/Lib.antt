@@ -1,6 +1,7 @@
 pub mod News
 pub mod Board
 pub mod Invariant
+pub mod Versions
 pub mod Plays
 pub mod Shown
 pub mod Standing

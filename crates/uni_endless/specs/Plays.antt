@@ -3,12 +3,14 @@ use Rattle.std.specs.Prelude.{◌≡◌, ◌≢◌, ◌⊎◌, ℕ, ◌+◌, ◌
 use Rattle.std.specs.Prelude.{slice_set}
 use Rattle.seq_object.specs.Sequential.{Sequential}
 use Rattle.uni_any.specs.Content.{applied_in, row_in}
+use Rattle.uni_any.specs.Final.{ProcessCalls}
 use Rattle.uni_any.specs.declared.view.Image.{Image}
 use Rattle.uni_any.specs.declared.view.Returned.{Returned}
-use Rattle.uni_endless.specs.Board.{block_news, call_news, made_by, number_in, process_in}
+use Rattle.uni_endless.specs.Board.{block_news, call_news, made_by, number_in, pending_of, process_in}
 use Rattle.uni_endless.specs.Invariant.{IsWhole, base_of, most_calls, seen_of}
 use Rattle.uni_endless.specs.News.{drafted, first_told, first_version, told_by}
 use Rattle.uni_endless.specs.Shown.{Letter}
+use Rattle.uni_endless.specs.Versions.{IsVersionOf}
 use Rattle.uni_endless.specs.declared.view.Local.{Local}
 use Rattle.uni_endless.specs.declared.view.Stage.{Stage}
 use Rattle.uni_endless.specs.declared.view.Stage.TheVariants.{Idle, Posting, Ready, Reading, Writing}
@@ -98,6 +100,13 @@ abbrev pub returns : {I S R : Type 0} → Local I S R → I → R → (number : 
 returns l inv reply number =
     record l { stage = Idle; after = number; own = l.own ++ ending l inv reply number ∷ [] }
 
+abbrev pub viewing : {I S R : Type 0} → Local I S R → (word : ℕ) → Local I S R
+viewing l word = record l { word = word; after = number_in word }
+
+-- the calls of the one process of a seat
+abbrev pub calls_of : {O I S R : Type 0} → View O I S R → ProcessCalls I R
+calls_of v = record { process = v.known.first; own = v.known.local.own; pending = pending_of v.known.local.stage }
+
 module _ {O I S R : Type 0} where
   abbrev pub HasStarted : View O I S R → ℕ → View O I S R → Type 0
   HasStarted v word w =
@@ -158,6 +167,24 @@ module _ {O I S R : Type 0} where
       (found ≡ l.word → (x : R) × ((row_in image v.known.first).reply ≡ Some x) × (l.after < number_in l.word + 1)
       × (w ≡ with_local v (brought l inv x image)))
       × (found ≢ l.word → w ≡ with_local v (missed l inv tries image))
+
+  -- between calls S is loaded, and the seat follows the version that it names
+  abbrev pub HasViewed : View O I S R → ℕ → View O I S R → Type 0
+  HasViewed v word w =
+      stage_of v ≡ Idle
+      → (process_in word < v.known.processes) × ((local_of v).after ≤ number_in word)
+      × (w ≡ with_local v (viewing (local_of v) word))
+
+  -- then what the process that S named has written is taken; in it is that version, or a later one, which the seat follows
+  -- from then on
+  abbrev pub HasSeen : (O → Sequential S I R) → View O I S R → (from : ℕ) → Option (Letter I S R) → View O I S R → Type 0
+  HasSeen meaning v from found w =
+      stage_of v ≡ Idle → from ≡ process_in (local_of v).word → (local_of v).after ≡ number_in (local_of v).word
+      → let l = with_seen (local_of v) from found in
+      let version = base_of (meaning v.object) v.known.processes l in
+      ((local_of v).after ≤ version.number)
+      × IsVersionOf (meaning v.object) v.known.processes (calls_of v ∷ []) version.number version.image
+      × (w ≡ with_local v (record l { after = version.number }))
 
   -- the first process of a seat, and the others
   abbrev pub first_alone : View O I S R → View O I S R

@@ -3,7 +3,7 @@ use Rattle.std.specs.Prelude.{◌≡◌, ◌≢◌, ℕ, ◌+◌, ◌*◌, ◌�
 use Rattle.seq_object.specs.Sequential.{Sequential}
 use Rattle.uni_endless.specs.Board.{block_news, call_news}
 use Rattle.uni_endless.specs.Execution.{CanTake, Execution, Moment, after, last_moment, opened_moment}
-use Rattle.uni_endless.specs.Execution.Next.{Bring, Fail, Lay, Learn, Post, Return, Start}
+use Rattle.uni_endless.specs.Execution.Next.{Bring, Fail, Post, See, Start, View}
 use Rattle.uni_model.specs.Executions as Executions
 use Rattle.uni_endless.specs.Invariant.{base_of}
 use Rattle.uni_endless.specs.News.{drafted, told_by}
@@ -26,12 +26,16 @@ module _ {S I R : Type 0} (object : Sequential S I R) (n : ℕ) where
   words_of m p (Start inv tries pending) = 1
   words_of m p (Bring inv tries image reply lays same has) = 1
   words_of m p (Fail inv tries image lays other) = 1
+  words_of m p (View idle) = 1
   words_of m p step = 2
 
-  -- where a process has taken so many steps on words for its latest call, so many with those of one more
+  -- Where a process has taken so many steps on words for its latest call, so many with those of one more. To look which
+  -- version has come is no step of a call.
   abbrev pub counted : (m : Moment I S R) (p : ℕ) → CanTake object n m p → (taken : ℕ) → ℕ
   counted m p (Post inv r letter posts inside few tells) taken = so_far (m.local p).stage taken + 2
   counted m p (Start inv tries pending) taken = so_far (m.local p).stage taken + 1
+  counted m p (View idle) taken = taken
+  counted m p (See r idle inside named follows) taken = taken
   counted m p step taken = taken + words_of m p step
 
   -- how many process p has taken for its latest call at the end, where it had taken so many before

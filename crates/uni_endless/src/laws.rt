@@ -7,10 +7,10 @@ ghost use Rattle.triple_buffers.specs.Contents.{Contents};
 ghost use Rattle.uni_any.specs.Final.{IsLinearized, ProcessCalls};
 ghost use Rattle.uni_any.specs.declared.view.Returned.{Returned};
 ghost use Rattle.uni_endless.specs.Board.{Board, announced_by, block_news, call_news, in_of, made_by, number_in};
-ghost use Rattle.uni_endless.specs.Board.{word_of};
+ghost use Rattle.uni_endless.specs.Board.{process_in, word_of};
 ghost use Rattle.uni_endless.specs.Invariant.{HasBatch, most_calls};
 ghost use Rattle.uni_endless.specs.News.{told_by};
-ghost use Rattle.uni_endless.specs.Plays.{HasBrought, HasLaid, HasLearned, HasPosted, HasStarted};
+ghost use Rattle.uni_endless.specs.Plays.{HasBrought, HasLaid, HasLearned, HasPosted, HasSeen, HasStarted, HasViewed};
 ghost use Rattle.uni_endless.specs.Plays.{IsLaying, IsPending, IsPosting, local_of, stage_of};
 ghost use Rattle.uni_endless.specs.Execution.{Execution, KeepsOrder, history, last_moment, opened_moment};
 ghost use Rattle.uni_model.specs.Executions.{IsLinearizedInTime};
@@ -19,7 +19,7 @@ ghost use Rattle.uni_endless.specs.Laws.{IsToldBy, Moves, returned_by, with_lett
 ghost use Rattle.uni_endless.specs.Shown.{IsShown, Letter};
 ghost use Rattle.uni_any.specs.declared.view.Image.{Image};
 ghost use Rattle.uni_endless.specs.declared.view.Local.{Local};
-ghost use Rattle.uni_endless.specs.declared.view.Stage.TheVariants.{Reading, Writing};
+ghost use Rattle.uni_endless.specs.declared.view.Stage.TheVariants.{Idle, Reading, Writing};
 ghost use Rattle.uni_endless.specs.declared.view.View.{View};
 
 use seq_object::SeqObject;
@@ -92,7 +92,8 @@ pub fn look_responds<O: SeqObject>()
         (λ c w. HasLearned O.sequential v r (c.buffers r v.known.first) w) }
 {}
 
-/// The other steps append nothing: the load of S with which an attempt begins, and the write of a block.
+/// The other steps append nothing: the load of S with which an attempt begins, and the write of a block; and between
+/// calls the load of S, and the look into what the process that it names has written.
 pub fn other_steps_append_nothing<O: SeqObject>()
     ensures load { (o : O) (n id tries : ℕ) (inv : O.Inv) (v : View O O.Inv O.State O.Resp) →
         v.known.count ≡ 1 → IsPending inv tries v → v.known.processes ≡ n
@@ -104,6 +105,15 @@ pub fn other_steps_append_nothing<O: SeqObject>()
         → told_by letter ≡ block_news (local_of v) inv image
         → Moves O.sequential o n id v (with_letter v.known.first r (Some letter) id)
         (λ g local c w acts. acts ≡ []) (λ c w. HasLaid O.sequential v r letter w) }
+    ensures view { (o : O) (n id : ℕ) (v : View O O.Inv O.State O.Resp) →
+        v.known.count ≡ 1 → v.known.processes ≡ n → stage_of v ≡ Idle
+        → Moves O.sequential o n id v (with_word (λ x. x) id)
+        (λ g local c w acts. acts ≡ []) (λ c w. HasViewed v (c.words 0) w) }
+    ensures see { (o : O) (n id r : ℕ) (v : View O O.Inv O.State O.Resp) →
+        v.known.count ≡ 1 → v.known.processes ≡ n → stage_of v ≡ Idle → r < n
+        → process_in (local_of v).word ≡ r → (local_of v).after ≡ number_in (local_of v).word
+        → Moves O.sequential o n id v (with_letter r v.known.first None id)
+        (λ g local c w acts. acts ≡ []) (λ c w. HasSeen O.sequential v r (c.buffers r v.known.first) w) }
 {}
 
 /// Every execution from the opening, in which the processes take their steps on words and buffers in any order, is
