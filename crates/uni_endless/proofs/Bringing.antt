@@ -1,9 +1,12 @@
 -- The exchange that brings a block in: the calls that it applied take effect, and the own call returns.
-use Rattle.uni_endless.proofs.Vocabulary.{AcceptsAll-append, Act, HasFollowed, AllowsChange, AreOrdered, Board, Contents, HasBrought, HasCome, HasDrafted, HasLast, HasTaken, Idle, Image, Invoke, Invoked, IsAt, IsBoard, IsHistory, IsOpen, IsOrdered, IsReader, IsShown, IsStageAt, IsTold, IsTrying, IsWhole, Letter, Linearize, List, Local, None, Option, Posting, Reading, Ready, Respond, Returned, Sequential, ShowsBoard, Some, Stage, Told, Version, View, Writing, [], acts_by, announced_at, announced_by, ap, applied_in, arith, at_start, base_of, begun, block_news, brought, called_by, either, ending, get_elem?, in_of, inl, inr, length, length-append, local_of, lt_cases, made_by, map, missed, number_in, pending_of, plain, posted, posted_at, process_in, refl, response_at, row_in, sequential_acts, set_at, set_at-cases, set_at_elsewhere, set_at_same, slice_set, some, stage_of, subst, sym, with_local, word_of, ℕ, ◌++◌, ◌+◌, ◌<◌, ◌∙◌, ◌∷◌, ◌≡◌, ◌≢◌, ◌≤◌, ◌⊎◌, HasBatch, Moves, ShowsNext, append-nil, responses, returned_by, with_word}
+use Rattle.uni_endless.proofs.Vocabulary.{IsStep, moment_of, AcceptsAll-append, Act, HasFollowed, AllowsChange, AreOrdered, Board, Contents, HasBrought, HasCome, HasDrafted, HasLast, HasTaken, Idle, Image, Invoke, Invoked, IsAt, IsBoard, IsHistory, IsOpen, IsOrdered, IsReader, IsShown, IsStageAt, IsTold, IsTrying, IsWhole, Letter, Linearize, List, Local, None, Option, Posting, Reading, Ready, Respond, Returned, Sequential, ShowsBoard, Some, Stage, Told, Version, View, Writing, [], acts_by, announced_at, announced_by, ap, applied_in, arith, at_start, base_of, begun, block_news, brought, called_by, either, ending, get_elem?, in_of, inl, inr, length, length-append, local_of, lt_cases, made_by, map, missed, number_in, pending_of, plain, posted, posted_at, process_in, refl, response_at, row_in, sequential_acts, set_at, set_at-cases, set_at_elsewhere, set_at_same, slice_set, some, stage_of, subst, sym, with_local, word_of, ℕ, ◌++◌, ◌+◌, ◌<◌, ◌∙◌, ◌∷◌, ◌≡◌, ◌≢◌, ◌≤◌, ◌⊎◌, HasBatch, Moves, ShowsNext, append-nil, responses, returned_by, with_word}
 use Rattle.std.proofs.Common.{append_assoc, ◌==◌}
 use Rattle.atomic_table.proofs.Lists.{exchanged}
-use Rattle.uni_endless.proofs.Framing.{board_of, buffers_same, drop_past, mine, own, shown_with, sound_with}
+use Rattle.uni_endless.proofs.Framing.{keeps_rule, buffers_same, drop_past, mine, own, shown_with, sound_with}
 use Rattle.uni_endless.proofs.Growing.{accepted_then, agreed', agreed_then, acts_lin, board_then, calls, calls_then, come_cases, come_new, come_up, image_then, in_least, in_most, order1, place_before, shadows, still_taken, taken_then}
+use Rattle.uni_endless.specs.Execution.{present_in}
+use Rattle.uni_endless.specs.Execution.Next.{Bring, Fail}
+use Rattle.uni_endless.proofs.Effects.{effects_are, present_is}
 use Rattle.uni_endless.proofs.Histories.{history_kept, own_told}
 use Rattle.uni_endless.proofs.Orders.{followed_more, order_kept}
 use Rattle.uni_endless.proofs.Posting.{keeps_same}
@@ -429,14 +432,31 @@ module _ {O I S R : Type 0} (meaning : O → Sequential S I R) (o : O) (n id : �
         (found ≡ l.word → (batch : HasBatch (meaning o) n g local image) × (acts ≡ map (λ d. Linearize d) batch.calls ++ returned_by v w))
         × (found ≢ l.word → acts ≡ [])
 
+    -- it is a step of an execution, by which S becomes this
+    abbrev IsStepTo : (becomes : ℕ) → View O I S R → List (Act I R) → Type 0
+    IsStepTo becomes w acts = IsStep (meaning o) n (moment_of c local) p l (record { word = becomes; buffers = c.buffers; leaves = w.known.local; acts = acts })
+
+    step_hit : (e : c.words 0 ≡ l.word) → IsStepTo new (with_local v (l' e)) (map (λ d. Linearize d) (drafted e).batch.calls ++ Respond p (made_by l) (x e) ∷ [])
+    step_hit e = (
+      Bring inv tries image (x e) stage e (reply e).1,
+      (λ k. record {
+        word = new;
+        buffers = c.buffers;
+        leaves = brought l inv (x e) image;
+        acts = map (λ d. Linearize d) (effects_are (meaning o) n g local is.sound image (drafted e).batch (present_in (moment_of c local)).image (present_is meaning o n g local seat_of c is) k) ++ Respond p (made_by l) (x e) ∷ [];
+      }),
+    )
+
     out : (w : View O I S R) × (acts : List (Act I R)) × ShowsNext meaning o n g local seat_of (with_word (λ found. either (found == l.word) new found) id c w) p w.known.local acts × MakesBring (c.words 0) w acts × HasBrought v (c.words 0) w
-    out = exchanged (c.words 0) l.word new (λ y. (w : View O I S R) × (acts : List (Act I R)) × ShowsNext meaning o n g local seat_of (record { words = set_at c.words 0 y; buffers = c.buffers; views = slice_set c.views id w }) p w.known.local acts × MakesBring (c.words 0) w acts × HasBrought v (c.words 0) w)
+        × IsStepTo (either (c.words 0 == l.word) new (c.words 0)) w acts
+    out = exchanged (c.words 0) l.word new (λ y. (w : View O I S R) × (acts : List (Act I R)) × ShowsNext meaning o n g local seat_of (record { words = set_at c.words 0 y; buffers = c.buffers; views = slice_set c.views id w }) p w.known.local acts × MakesBring (c.words 0) w acts × HasBrought v (c.words 0) w × IsStepTo y w acts)
         (λ e. (
           with_local v (l' e),
           _,
           hit e,
           ((λ z. ((drafted e).batch, ap (λ rs. map (λ d. Linearize d) ((drafted e).batch).calls ++ rs) (ap (responses p (made_by l)) (sym (drop_past l.own _))))), (λ z. absurd (z e))),
           told_play (c.words 0) (with_local v (l' e)) (λ z. (x e, (reply e).1, rises e, refl)) (λ z. absurd (z e)),
+          step_hit e,
         ))
         (λ z. (
           with_local v (missed l inv tries image),
@@ -444,6 +464,7 @@ module _ {O I S R : Type 0} (meaning : O → Sequential S I R) (o : O) (n id : �
           miss z,
           ((λ e. absurd (z e)), (λ y. refl)),
           told_play (c.words 0) (with_local v (missed l inv tries image)) (λ e. absurd (z e)) (λ y. refl),
+          (Fail inv tries image stage z, refl),
         ))
 
   pub brings_move : Moves meaning o n id v (with_word (λ found. either (found == l.word) new found) id) (λ g local c w acts. (c.words 0 ≡ l.word → (batch : HasBatch (meaning o) n g local image) × (acts ≡ map (λ d. Linearize d) batch.calls ++ returned_by v w))
@@ -451,6 +472,4 @@ module _ {O I S R : Type 0} (meaning : O → Sequential S I R) (o : O) (n id : �
   brings_move c g local seat_of is at = out c g local seat_of is at
 
   pub brings : AllowsChange (ShowsBoard meaning o n) id v 0 (λ found. either (found == l.word) new found) (HasBrought v)
-  brings c shown at =
-      let h = brings_move c shown.0 shown.1.0 shown.1.1.0 shown.1.1.1 at in
-      (h.0, board_of meaning o n shown.0 shown.1.0 shown.1.1.0 _ p h.0.known.local h.1 h.2, h.4)
+  brings c shown at = keeps_rule meaning o n id v alone (with_word (λ found. either (found == l.word) new found) id) _ _ brings_move c shown at

@@ -3,9 +3,7 @@ use Rattle.uni_endless.proofs.Vocabulary.{AcceptsAll, HasCome, ending, at_start,
 use Rattle.atomic_table.proofs.Lists.{exchanged}
 use Rattle.uni_model.proofs.Each.{at_each, each_of, from_each}
 use Rattle.uni_model.specs.AtomicObject.{Invoked}
-use Rattle.uni_any.proofs.Batches.{applied_from, row_from}
-use Rattle.uni_any.proofs.Effects.{calls_are}
-use Rattle.uni_any.specs.Execution.{call_of, calls_between}
+use Rattle.uni_endless.proofs.Effects.{effects_are, present_is}
 use Rattle.uni_model.proofs.Executions.{kept_along, linearized_by}
 use Rattle.uni_model.specs.Executions.{IsLinearizedInTime}
 use Rattle.uni_endless.specs.Execution.{CanTake, Execution, Moment, history, last_moment, opened_moment, acts_of, after, effect_of, found_by, pending_call, present_in, seeing}
@@ -17,31 +15,8 @@ use Rattle.uni_endless.proofs.Learning.{learns_move}
 use Rattle.uni_endless.proofs.Looks.{seen_fields}
 use Rattle.uni_endless.proofs.Opening as Opening
 use Rattle.uni_endless.proofs.Posting.{posts_move}
-use Rattle.uni_endless.proofs.Starting.{present_image, starts_move}
+use Rattle.uni_endless.proofs.Starting.{starts_move}
 use Rattle.uni_endless.proofs.Viewing.{sees_move, views_move}
-
--- the calls that an exchange brings in are those by which its block has more than the present version
-module _ {S I R : Type 0} (object : Sequential S I R) (n : ℕ) (g : Board I S R) (local : ℕ → Local I S R) (sound : IsSound object n g local) (image : Image S R) (batch : HasBatch object n g local image) where
-  pub effects_are : (before : Image S R) → before ≡ g.image → calls_between (λ q. pending_call q (local q)) before image 0 n ≡ batch.calls
-  effects_are before same =
-      let long : length g.image.rows ≡ n = ap (λ (z : Image S R). length z.rows) (sym (present_is.2)) ∙ (sound.board.whole present_is.0 present_is.1).long in
-      calls_are (λ q. pending_call q (local q)) before image n 0 batch.calls batch.rising
-      (λ c has.
-      let c_in : c.process < n = batch.below c has in
-      let a = batch.asked c has in
-      let more : applied_in image c.process ≡ in_of g c.process + 1 = ap (λ (z : Image S R). applied_in z c.process) batch.image_is
-      ∙ applied_from object g.image 0 batch.calls c batch.rising has (λ d has'. let z = batch.below d has' in omega (arith, z, long)) in
-      let was : applied_in before c.process ≡ in_of g c.process = ap (λ (z : Image S R). applied_in z c.process) same in (
-        (omega arith),
-        (λ k. call_of c.process (sym a.1 k) (a.2 k)),
-        (λ e. omega (arith, more, was, e)),
-      ))
-      (λ z from below. elim (row_from object g.image batch.calls z) [
-        | inl there ↦ inl there
-        | inr row ↦ inr (ap (λ (i : Image S R). applied_in i z) batch.image_is ∙ ap (λ r. r.applied) row ∙ sym (ap (λ (i : Image S R). applied_in i z) same))
-      ]) where
-        present_is : (x : Version S R) × HasCome object n g x × (x.image ≡ g.image)
-        present_is = (let w = (sound.each g.process sound.board.process).writer in ((local g.process).last, w.last, present_image object n g local sound.history sound.order (local g.process).last w.last (let a = w.present refl in omega arith)))
 
 module _ {O I S R : Type 0} (meaning : O → Sequential S I R) (o : O) (n : ℕ) where
   abbrev object : Sequential S I R
@@ -86,9 +61,6 @@ module _ {O I S R : Type 0} (meaning : O → Sequential S I R) (o : O) (n : ℕ)
 
     pub seat_at : (m : Moment I S R) (p : ℕ) → p < n → get_elem? (each_of (view_at m.local) n) p ≡ some (view_at m.local p)
     seat_at m p inside = at_each (view_at m.local) n p inside
-
-    pub number_is : (m : Moment I S R) (acts : List (Act I R)) (h : Holds m acts) → process_in m.word ≡ h.board.process
-    number_is m acts h = (let a = h.word_is in let b = h.sound.board.process in let d = few.1 in let e : process_in m.word ≡ process_in (word_of h.board.number h.board.process) = ap process_in a in omega (arith, b, d, e))
 
     -- one step of a process that moves the board
     moved : (m : Moment I S R) (acts : List (Act I R)) (h : Holds m acts) (p : ℕ) (inside : p < n) (next : CanTake object n m p)
@@ -206,9 +178,7 @@ module _ {O I S R : Type 0} (meaning : O → Sequential S I R) (o : O) (n : ℕ)
         (λ w said. local_brought m p inv tries image reply same has w (said inv tries image whole))
         (λ w made said makes.
         let t = makes.0 same in
-        let present : (present_in m).image ≡ h.board.image =
-        ap (λ q. (m.local q).last.image) (number_is m acts h)
-        ∙ (let x = (h.sound.each h.board.process h.sound.board.process).writer in present_image object n h.board m.local h.sound.history h.sound.order (m.local h.board.process).last x.last (let a = x.present refl in omega arith)) in
+        let present = present_is meaning o n h.board m.local (λ q. q) (contents_at m) (shown m acts h) in
         t.1 ∙ (λ k. map (λ c. Linearize c) (sym (effects_are object n h.board m.local h.sound image t.0 (present_in m).image present) k)
         ++ (ap (λ (z : Local I S R). responses p (length l.own) (drop (length l.own) z.own)) (local_brought m p inv tries image reply same has w (said inv tries image whole)) ∙ ap (responses p (length l.own)) (drop_past l.own _)) k))
     step_holds m acts h p inside (Fail inv tries image whole other) =

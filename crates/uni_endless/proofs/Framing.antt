@@ -1,6 +1,8 @@
 -- A step of a seat of one process keeps the rule: what has to be shown of the board and of its process.
-use Rattle.uni_endless.proofs.Vocabulary.{Act, AreOrdered, Board, Contents, IsAt, IsBoard, IsHistory, IsShown, IsSound, Letter, Local, None, Option, Sequential, ShowsBoard, Some, Tells, View, ap, arith, at_set, first_told, get_elem?, get_or-set_other, get_or-set_same, inl, inr, known_then, length, posted, seen_of, set, set_at, set_at-cases, set_at_elsewhere, set_at_same, slice_index_or, slice_set, some, subst, sym, told_by, with_local, with_value, word_of, ℕ, ⊎_elim, ◌<◌, ◌∙◌, ◌≡◌, ◌≢◌, ◌⊎◌, List, ShowsNext, drop, refl, [], ◌∷◌, ◌++◌}
+use Rattle.uni_endless.proofs.Vocabulary.{IsStep, Moves, moment_of, Act, AreOrdered, Board, Contents, IsAt, IsBoard, IsHistory, IsShown, IsSound, Letter, Local, None, Option, Sequential, ShowsBoard, Some, Tells, View, ap, arith, at_set, first_told, get_elem?, get_or-set_other, get_or-set_same, inl, inr, known_then, length, posted, seen_of, set, set_at, set_at-cases, set_at_elsewhere, set_at_same, slice_index_or, slice_set, some, subst, sym, told_by, with_local, with_value, word_of, ℕ, ⊎_elim, ◌<◌, ◌∙◌, ◌≡◌, ◌≢◌, ◌⊎◌, List, ShowsNext, drop, refl, [], ◌∷◌, ◌++◌}
 use Rattle.triple_buffers.proofs.Flipping.{value_cases}
+use Rattle.uni_model.proofs.Executions.{runs_on}
+use Rattle.uni_endless.specs.Execution.{CanTake, Effect, acts_of, after, changed}
 
 -- one process gets another local, and the others stay where they are
 pub sound_with : {S I R : Type 0} (object : Sequential S I R) (n : ℕ) (g g' : Board I S R) (local : ℕ → Local I S R) (p : ℕ) (l' : Local I S R) → IsSound object n g local
@@ -143,9 +145,30 @@ module _ {O I S R : Type 0} (meaning : O → Sequential S I R) (o : O) (n id : �
               ] ∙ is.buffers from to from_in to_in ∙ sym (posted_is from to to_in)
         ]
 
--- it shows a board
-pub board_of : {O I S R : Type 0} (meaning : O → Sequential S I R) (o : O) (n : ℕ) (g : Board I S R) (local : ℕ → Local I S R) (seat_of : ℕ → ℕ) (c : Contents (Letter I S R) (View O I S R)) (p : ℕ) (l : Local I S R) (acts : List (Act I R)) → ShowsNext meaning o n g local seat_of c p l acts → ShowsBoard meaning o n c
-board_of meaning o n g local seat_of c p l acts h = (h.0, (set_at local p l, (seat_of, h.1)))
+-- so a step that moves a board keeps the rule
+pub keeps_rule : {O I S R : Type 0} (meaning : O → Sequential S I R) (o : O) (n id : ℕ) (v : View O I S R) (alone : v.known.count ≡ 1)
+    (next : Contents (Letter I S R) (View O I S R) → View O I S R → Contents (Letter I S R) (View O I S R))
+    (makes : Board I S R → (ℕ → Local I S R) → Contents (Letter I S R) (View O I S R) → View O I S R → List (Act I R) → Type 0) (says : Contents (Letter I S R) (View O I S R) → View O I S R → Type 0)
+    → Moves meaning o n id v next makes says → (c : Contents (Letter I S R) (View O I S R)) → ShowsBoard meaning o n c → get_elem? c.views id ≡ some v → (w : View O I S R) × ShowsBoard meaning o n (next c w) × says c w
+keeps_rule {O} {I} {S} {R} meaning o n id v alone next makes says moves c shown at =
+    let object = meaning o in
+    let g = shown.0 in
+    let local = shown.1.0 in
+    let seat_of = shown.1.1.0 in
+    let is = shown.1.1.1 in
+    let run = shown.1.1.2 in
+    let h = moves c g local seat_of is at in
+    let p = v.known.first in
+    let m = moment_of c local in
+    let mine = own meaning o n id v alone c g local seat_of is at in
+    let effect : Effect I S R = record { word = (next c h.0).words 0; buffers = (next c h.0).buffers; leaves = h.0.known.local; acts = h.1 } in
+    let step : IsStep object n m p (local p) effect = subst (λ l. IsStep object n m p l effect) (sym mine.2) h.5 in
+    let on = runs_on n (CanTake object n) (after object n) (acts_of object n) run.0 m run.1 p mine.0 step.0 in
+    (h.0, (h.2.0, (set_at local p h.0.known.local, (seat_of, h.2.1, (
+      on.0,
+      on.1 ∙ ap (changed object n m p) step.1,
+      on.2 ∙ (λ k. run.2 k ++ (step.1 k).acts) ∙ sym h.2.2,
+    )))), h.4)
 
 -- what follows so many elements
 pub drop_past : {A : Type 0} (xs ys : List A) → drop (length xs) (xs ++ ys) ≡ ys

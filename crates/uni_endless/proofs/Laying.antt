@@ -1,7 +1,9 @@
 -- The write of a block.
 use Rattle.uni_endless.proofs.Vocabulary.{AllowsWrite, Board, Contents, HasDrafted, HasLaid, Image, IsAnnounced, IsAt, IsLaying, IsShown, IsStageAt, IsTrying, IsWhole, Letter, Local, Reading, Sequential, ShowsBoard, Some, Told, View, Writing, announced_at, announced_by, ap, arith, base_of, begun, block_news, called_by, drafted, get_elem?, goes, in_of, inl, inr, local_of, lt_cases, made_by, pending_of, posted, posted_at, refl, slice_set, some, subst, sym, told_by, with_local, with_value, word_of, ℕ, ◌+◌, ◌<◌, ◌∙◌, ◌≡◌, ◌≢◌, Moves, ShowsNext, append-nil, with_letter, []}
 use Rattle.uni_endless.proofs.Drafting.{draft_is, draft_whole}
-use Rattle.uni_endless.proofs.Framing.{board_of, buffers_written, mine, object_is, own, shown_with, sound_with}
+use Rattle.uni_endless.proofs.Framing.{keeps_rule, buffers_written, mine, object_is, own, shown_with, sound_with}
+use Rattle.uni_endless.specs.Execution.Next.{Lay}
+use Rattle.uni_endless.specs.Plays.{IsLayingAt}
 use Rattle.uni_endless.proofs.Histories.{history_kept}
 use Rattle.uni_endless.proofs.Orders.{order_kept}
 use Rattle.uni_endless.proofs.Posting.{keeps_same}
@@ -127,9 +129,14 @@ module _ {O I S R : Type 0} (meaning : O → Sequential S I R) (o : O) (n id : �
         (order_kept object n g local p l l' local_is g.since open' next' g.acts is.sound.order p_in refl refl))
 
   pub lays_move : Moves meaning o n id v (with_letter p r (Some x) id) (λ g local c w acts. acts ≡ []) (λ c w. HasLaid meaning v r x w)
-  lays_move c g local seat_of is at = (with_local v l', [], shows c g local seat_of is at, refl, told_play)
+  lays_move c g local seat_of is at = (
+    with_local v l',
+    [],
+    shows c g local seat_of is at,
+    refl,
+    told_play,
+    (Lay inv tries r image x (subst (λ k. IsLayingAt (meaning o) k inv tries image r l) processes (subst (λ u. IsLayingAt (meaning u) v.known.processes inv tries image r l) (object_is meaning o n id v alone c g local seat_of is at) laying)) r_in news, refl),
+  )
 
   pub lays : AllowsWrite (ShowsBoard meaning o n) id v p r x (HasLaid meaning v r x)
-  lays c shown at =
-      let h = lays_move c shown.0 shown.1.0 shown.1.1.0 shown.1.1.1 at in
-      (h.0, board_of meaning o n shown.0 shown.1.0 shown.1.1.0 _ p h.0.known.local h.1 h.2, h.4)
+  lays c shown at = keeps_rule meaning o n id v alone (with_letter p r (Some x) id) _ _ lays_move c shown at

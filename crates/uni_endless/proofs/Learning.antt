@@ -1,7 +1,8 @@
 -- A process looks into a buffer after the other, and its call ends, or it goes on.
-use Rattle.uni_endless.proofs.Vocabulary.{AllowsTake, Board, Contains, Contents, HasCome, HasFound, HasLast, HasLearned, HasTaken, Idle, Invoked, IsAt, IsBase, IsReader, IsShown, IsStageAt, IsTold, IsWhole, IsWriter, Letter, List, Local, None, Option, Posting, Reading, Ready, Sequential, ShowsBoard, Some, Stage, Told, Version, View, Writing, announced_at, announced_by, ap, applied_in, arith, base_of, begun, called_by, first_told, found_in, get_elem?, in_of, inl, inr, known_then, length, length-append, length-set, local_of, lt_cases, made_by, number_cases, number_in, pending_of, posted, posted_at, process_in, refl, returns, row_in, seen_of, set_at-cases, slice_set, some, stage_of, subst, sym, with_local, with_seen, with_value, word_of, ℕ, ◌+◌, ◌<◌, ◌∙◌, ◌≡◌, ◌≢◌, ◌≤◌, Act, Moves, Respond, ShowsNext, append-nil, drop, responses, returned_by, with_letter, [], ◌∷◌}
+use Rattle.uni_endless.proofs.Vocabulary.{IsStep, moment_of, AllowsTake, Board, Contains, Contents, HasCome, HasFound, HasLast, HasLearned, HasTaken, Idle, Invoked, IsAt, IsBase, IsReader, IsShown, IsStageAt, IsTold, IsWhole, IsWriter, Letter, List, Local, None, Option, Posting, Reading, Ready, Sequential, ShowsBoard, Some, Stage, Told, Version, View, Writing, announced_at, announced_by, ap, applied_in, arith, base_of, begun, called_by, first_told, found_in, get_elem?, in_of, inl, inr, known_then, length, length-append, length-set, local_of, lt_cases, made_by, number_cases, number_in, pending_of, posted, posted_at, process_in, refl, returns, row_in, seen_of, set_at-cases, slice_set, some, stage_of, subst, sym, with_local, with_seen, with_value, word_of, ℕ, ◌+◌, ◌<◌, ◌∙◌, ◌≡◌, ◌≢◌, ◌≤◌, Act, Moves, Respond, ShowsNext, append-nil, drop, responses, returned_by, with_letter, [], ◌∷◌}
 use Rattle.std.proofs.lemmas.List.{set-get_or}
-use Rattle.uni_endless.proofs.Framing.{board_of, buffers_taken, drop_past, mine, object_is, own, seen_else, seen_now, shown_with, sound_with}
+use Rattle.uni_endless.proofs.Framing.{keeps_rule, buffers_taken, drop_past, mine, object_is, own, seen_else, seen_now, shown_with, sound_with}
+use Rattle.uni_endless.specs.Execution.Next.{Learn, Return}
 use Rattle.uni_endless.proofs.Histories.{acts_then, history_ended, history_kept, open_without, own_told}
 use Rattle.uni_endless.proofs.Orders.{order_ended, order_kept, version_rises}
 use Rattle.uni_endless.proofs.Posting.{keeps_same}
@@ -284,8 +285,31 @@ module _ {O I S R : Type 0} (meaning : O → Sequential S I R) (o : O) (n id : �
     none_returned : [] ≡ responses p (made_by l) (drop (length l.own) l.own)
     none_returned = ap (responses p (made_by l)) (sym (ap (drop (length l.own)) (sym (append-nil l.own)) ∙ drop_past l.own []))
 
+    -- it is a step of an execution
+    abbrev IsStepTo : View O I S R → List (Act I R) → Type 0
+    IsStepTo w acts = IsStep object n (moment_of c local) p l (record { word = c.words 0; buffers = with_value c.buffers r p None; leaves = w.known.local; acts = acts })
+
+    step_on : (r + 1 ≡ n → applied_in (base_of object n l2).image p ≢ made_by l + 1) → IsStepTo (with_local v read_on) []
+    step_on lacks = (Learn inv tries r reads r_in (λ last e. lacks last (ap (λ z. applied_in (base_of object n z).image p) (sym l1_is) ∙ e)), (λ k. record {
+      word = c.words 0;
+      buffers = with_value c.buffers r p None;
+      leaves = record (l1_is k) { stage = Reading inv tries (r + 1) };
+      acts = [];
+    }))
+
+    step_end : (last : r + 1 ≡ n) → (in_is : applied_in (base_of object n l2).image p ≡ made_by l + 1) → IsStepTo (with_local v (done last in_is)) (Respond p (made_by l) (reply last in_is).0 ∷ [])
+    step_end last in_is = (
+      Return inv tries r (reply last in_is).0 reads last (ap (λ z. applied_in (base_of object n z).image p) l1_is ∙ in_is) (ap (λ z. (row_in (base_of object n z).image p).reply) l1_is ∙ (reply last in_is).1),
+      (λ k. record {
+        word = c.words 0;
+        buffers = with_value c.buffers r p None;
+        leaves = returns (l1_is k) inv (reply last in_is).0 (base_of object n (l1_is k)).number;
+        acts = Respond p (made_by l) (reply last in_is).0 ∷ [];
+      }),
+    )
+
     -- the view after it, with all that is so then
-    out : (w : View O I S R) × (acts : List (Act I R)) × ShowsNext meaning o n g local seat_of (with_letter r p None id c w) p w.known.local acts × (acts ≡ returned_by v w) × HasLearned meaning v r found w
+    out : (w : View O I S R) × (acts : List (Act I R)) × ShowsNext meaning o n g local seat_of (with_letter r p None id c w) p w.known.local acts × (acts ≡ returned_by v w) × HasLearned meaning v r found w × IsStepTo w acts
     out = elim (lt_cases (r + 1) n) [
       | inl less ↦ (
         with_local v read_on,
@@ -297,6 +321,7 @@ module _ {O I S R : Type 0} (meaning : O → Sequential S I R) (o : O) (n id : �
               (λ below. (λ k. with_local v (record (sym l1_is k) { stage = Reading (e.0 k) (e.1 k) (r + 1) }))),
               (λ last. absurd (let a = less.0 in omega (arith, last, processes))),
             )),
+        step_on (λ e. absurd (let a = less.0 in omega (arith, e))),
       )
       | inr more ↦
           let last : r + 1 ≡ n = (let a = more.0 in omega (arith, r_in)) in
@@ -312,6 +337,7 @@ module _ {O I S R : Type 0} (meaning : O → Sequential S I R) (o : O) (n id : �
                     (λ below. absurd (omega (arith, below, last, processes))),
                     (λ z. subst (λ t. HasFound meaning v inv' t l1 w) e.1 (subst (λ i. HasFound meaning v i tries l1 w) e.0 (found_as w (said_end last in_is.0)))),
                   )),
+              step_end last in_is.0,
             )
             | inr apart ↦ (
               with_local v read_on,
@@ -324,6 +350,7 @@ module _ {O I S R : Type 0} (meaning : O → Sequential S I R) (o : O) (n id : �
                     (λ below. absurd (omega (arith, below, last, processes))),
                     (λ z. subst (λ t. HasFound meaning v inv' t l1 w) e.1 (subst (λ i. HasFound meaning v i tries l1 w) e.0 (found_as w (said_on last apart.0)))),
                   )),
+              step_on (λ z. apart.0),
             )
           ]
     ]
@@ -332,6 +359,4 @@ module _ {O I S R : Type 0} (meaning : O → Sequential S I R) (o : O) (n id : �
   learns_move c g local seat_of is at = out c g local seat_of is at
 
   pub learns : AllowsTake (ShowsBoard meaning o n) id v r p (HasLearned meaning v r)
-  learns c shown at =
-      let h = learns_move c shown.0 shown.1.0 shown.1.1.0 shown.1.1.1 at in
-      (h.0, board_of meaning o n shown.0 shown.1.0 shown.1.1.0 _ p h.0.known.local h.1 h.2, h.4)
+  learns c shown at = keeps_rule meaning o n id v alone (with_letter r p None id) _ _ learns_move c shown at

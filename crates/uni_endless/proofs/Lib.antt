@@ -9,6 +9,7 @@ pub mod Seeing
 pub mod Learning
 pub mod Drafting
 pub mod Laying
+pub mod Effects
 pub mod Growing
 pub mod Bringing
 pub mod Opening

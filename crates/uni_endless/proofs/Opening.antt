@@ -1,6 +1,7 @@
 -- How an object starts, and how a seat of several processes is cut in two.
 use Rattle.uni_endless.proofs.Vocabulary.{AllowsSplit, Board, HasCome, IsAt, IsShown, IsSound, IsWhole, Letter, List, Local, Sequential, ShowsBoard, Some, Tells, Told, Version, View, [], ap, applied_in, arith, at_rest, at_set, blank, first_alone, first_image, first_told, first_view, get_elem?, in_of, inl, inr, length, length-replicate, length-set, opened, others, refl, replicate, seen_of, set, set_at, set_at_elsewhere, set_at_same, slice_get, slice_index_or, some, some-injective, some-ne-none, subst, suc, sym, word_of, zero, ℕ, ◌++◌, ◌+◌, ◌<◌, ◌∙◌, ◌∷◌, ◌≡◌, ◌≤◌, ◌⊎◌}
 use Rattle.triple_buffers.specs.Contents.{opening}
+use Rattle.uni_model.specs.Executions.Execution.{Ends}
 
 pub copies : {A : Type 0} (k i : ℕ) (a : A) → slice_index_or (replicate k a) i a ≡ a
 copies zero i a = refl
@@ -105,6 +106,7 @@ module _ {O I S R : Type 0} (meaning : O → Sequential S I R) (o : O) (n : ℕ)
           seats = seats';
           sound = sound';
         },
+        (Ends, refl, refl),
       ),
     ),
   )
@@ -122,7 +124,7 @@ splits {O} {I} {S} {R} meaning o n id v some_left c shown at =
     let local = shown.1.0 in
     let seat_of = shown.1.1.0 in
     let is = shown.1.1.1 in
-    (g, (local, (set_at seat_of v.known.first (length c.views), record { few = is.few; word = is.word; buffers = is.buffers; seats = seats_later g local seat_of is; sound = is.sound }))) where
+    (g, (local, (set_at seat_of v.known.first (length c.views), record { few = is.few; word = is.word; buffers = is.buffers; seats = seats_later g local seat_of is; sound = is.sound }, shown.1.1.2))) where
       seats_later : (g : Board I S R) (local : ℕ → Local I S R) (seat_of : ℕ → ℕ) → IsShown n meaning o g local seat_of c → (j : ℕ) (u : View O I S R) → get_elem? (set c.views id (others v) ++ first_alone v ∷ []) j ≡ some u
           → Tells n o local (set_at seat_of v.known.first (length c.views)) j u
       seats_later g local seat_of is j u e =

@@ -1,6 +1,8 @@
 -- The write of an invocation.
-use Rattle.uni_endless.proofs.Vocabulary.{AllowsWrite, Board, Contents, HasPosted, Idle, IsAt, IsOpen, IsPosting, IsShown, IsStageAt, Letter, Local, None, Posting, Sequential, ShowsBoard, Some, Told, View, announced_by, ap, arith, begun, call_news, called_by, get_elem?, goes, if◌then◌else◌, in_of, inl, inr, local_of, lt_cases, made_by, most_calls, nat_eq, number_cases, pending_of, posted, refl, set_at, set_at_elsewhere, set_at_same, slice_set, some, stage_of, subst, sym, told_by, with_local, with_value, ℕ, ◌+◌, ◌<◌, ◌∙◌, ◌≡◌, ◌≢◌, ◌≤◌, ◌⊎◌, Act, Invoke, List, Moves, ShowsNext, append-nil, with_letter, [], ◌∷◌}
-use Rattle.uni_endless.proofs.Framing.{board_of, buffers_written, mine, own, shown_with, sound_with}
+use Rattle.uni_endless.proofs.Vocabulary.{IsStep, moment_of, AllowsWrite, Board, Contents, HasPosted, Idle, IsAt, IsOpen, IsPosting, IsShown, IsStageAt, Letter, Local, None, Posting, Sequential, ShowsBoard, Some, Told, View, announced_by, ap, arith, begun, call_news, called_by, get_elem?, goes, if◌then◌else◌, in_of, inl, inr, local_of, lt_cases, made_by, most_calls, nat_eq, number_cases, pending_of, posted, refl, set_at, set_at_elsewhere, set_at_same, slice_set, some, stage_of, subst, sym, told_by, with_local, with_value, ℕ, ◌+◌, ◌<◌, ◌∙◌, ◌≡◌, ◌≢◌, ◌≤◌, ◌⊎◌, Act, Invoke, List, Moves, ShowsNext, append-nil, with_letter, [], ◌∷◌}
+use Rattle.uni_endless.proofs.Framing.{keeps_rule, buffers_written, mine, own, shown_with, sound_with}
+use Rattle.uni_endless.specs.Execution.{Moment, Next}
+use Rattle.uni_endless.specs.Execution.Next.{Post}
 use Rattle.uni_endless.proofs.Histories.{acts_with, history_begun, history_kept, next_with, open_with}
 use Rattle.uni_endless.proofs.Orders.{order_kept}
 use Rattle.uni_endless.proofs.Staying.{KeepsCalls, board_stays, later, locals, others_stay, reader_stays}
@@ -176,15 +178,35 @@ module _ {O I S R : Type 0} (meaning : O → Sequential S I R) (o : O) (n id : �
   abbrev pub MakesPost : List (Act I R) → Type 0
   MakesPost acts = (r ≡ 0 → acts ≡ Invoke p (made_by l) inv ∷ []) × (r ≢ 0 → acts ≡ [])
 
+  -- the step of an execution
+  abbrev step_from : (m : Moment I S R) → Next (meaning o) n m p l
+  step_from m = Post inv r x posting r_in few news
+
+  step_is : (c : Contents (Letter I S R) (View O I S R)) (local : ℕ → Local I S R) (acts : List (Act I R)) → (if nat_eq r 0 then Invoke p (made_by l) inv ∷ [] else []) ≡ acts
+      → IsStep (meaning o) n (moment_of c local) p l (record { word = c.words 0; buffers = with_value c.buffers p r (Some x); leaves = l'; acts = acts })
+  step_is c local acts same = (step_from (moment_of c local), (λ k. record { word = c.words 0; buffers = with_value c.buffers p r (Some x); leaves = l'; acts = same k }))
+
   pub posts_move : Moves meaning o n id v (with_letter p r (Some x) id) (λ g local c w acts. MakesPost acts) (λ c w. HasPosted v r x w)
   posts_move c g local seat_of is at = elim posting [
-    | inl idle ↦ (with_local v l', Invoke p (made_by l) inv ∷ [], begins c g local seat_of is at idle.0 idle.1, ((λ e. refl), (λ no. absurd (no idle.0))), told_play)
+    | inl idle ↦ (
+      with_local v l',
+      Invoke p (made_by l) inv ∷ [],
+      begins c g local seat_of is at idle.0 idle.1,
+      ((λ e. refl), (λ no. absurd (no idle.0))),
+      told_play,
+      step_is c local (Invoke p (made_by l) inv ∷ []) (elim (number_cases r 0) [ inl e ↦ rw e.1 refl | inr e ↦ absurd (e.0 idle.0) ]),
+    )
     | inr on ↦
         let at_post : IsOpen (meaning o) n g local p l inv × (1 ≤ r) × (r ≤ n) = subst (IsStageAt (meaning o) n g local p l) on (its c g local seat_of is at).stage in
-        (with_local v l', [], goes_on c g local seat_of is at on, ((λ e. absurd (let a = at_post.1 in omega (arith, e))), (λ no. refl)), told_play)
+        (
+          with_local v l',
+          [],
+          goes_on c g local seat_of is at on,
+          ((λ e. absurd (let a = at_post.1 in omega (arith, e))), (λ no. refl)),
+          told_play,
+          step_is c local [] (elim (number_cases r 0) [ inl e ↦ absurd (let a = at_post.1 in let b = e.0 in omega arith) | inr e ↦ rw e.1 refl ]),
+        )
   ]
 
   pub posts : AllowsWrite (ShowsBoard meaning o n) id v p r x (HasPosted v r x)
-  posts c shown at =
-      let h = posts_move c shown.0 shown.1.0 shown.1.1.0 shown.1.1.1 at in
-      (h.0, board_of meaning o n shown.0 shown.1.0 shown.1.1.0 _ p h.0.known.local h.1 h.2, h.4)
+  posts c shown at = keeps_rule meaning o n id v alone (with_letter p r (Some x) id) _ _ posts_move c shown at

@@ -1,7 +1,9 @@
 -- The load of S with which an attempt begins.
 use Rattle.uni_endless.proofs.Vocabulary.{AllowsChange, AreOrdered, Board, Contents, HasCome, HasLast, HasStarted, Idle, Image, IsAt, IsHistory, IsOpen, IsPending, IsShown, IsSound, IsStageAt, IsWriter, Letter, Local, Posting, Reading, Ready, Sequential, ShowsBoard, Some, Stage, Told, Version, View, Writing, announced_at, announced_by, ap, applied_in, arith, begun, call_news, called_by, first_image, get_elem?, image_from, in_of, inl, inr, length, local_of, lt_cases, made_by, most_calls, number_cases, number_in, pending_of, posted, posted_at, process_in, refl, set_at, set_at-cases, set_at_same, slice_set, some, started, subst, sym, take, with_local, word_of, written_then, ℕ, ◌*◌, ◌+◌, ◌<◌, ◌∙◌, ◌≡◌, ◌≢◌, ◌≤◌, Moves, ShowsNext, append-nil, with_word, []}
 use Rattle.std.proofs.lemmas.List.{take_all}
-use Rattle.uni_endless.proofs.Framing.{board_of, buffers_same, mine, own, shown_with, sound_with}
+use Rattle.uni_endless.proofs.Framing.{keeps_rule, buffers_same, mine, own, shown_with, sound_with}
+use Rattle.uni_endless.specs.Execution.Next.{Start}
+use Rattle.uni_endless.specs.Plays.{IsPendingAt}
 use Rattle.uni_endless.proofs.Histories.{history_kept}
 use Rattle.uni_endless.proofs.Orders.{order_kept}
 use Rattle.uni_endless.proofs.Posting.{keeps_same}
@@ -227,9 +229,14 @@ module _ {O I S R : Type 0} (meaning : O → Sequential S I R) (o : O) (n id : �
         )
 
   pub starts_move : Moves meaning o n id v (with_word (λ x. x) id) (λ g local c w acts. acts ≡ []) (λ c w. HasStarted v (c.words 0) w)
-  starts_move c g local seat_of is at = (with_local v (started l inv tries (c.words 0)), [], shows c g local seat_of is at, refl, told c g local seat_of is at)
+  starts_move c g local seat_of is at = (
+    with_local v (started l inv tries (c.words 0)),
+    [],
+    shows c g local seat_of is at,
+    refl,
+    told c g local seat_of is at,
+    (Start inv tries (subst (λ k. IsPendingAt k inv tries l.stage) processes pending), refl),
+  )
 
   pub starts : AllowsChange (ShowsBoard meaning o n) id v 0 (λ x. x) (HasStarted v)
-  starts c shown at =
-      let h = starts_move c shown.0 shown.1.0 shown.1.1.0 shown.1.1.1 at in
-      (h.0, board_of meaning o n shown.0 shown.1.0 shown.1.1.0 _ p h.0.known.local h.1 h.2, h.4)
+  starts c shown at = keeps_rule meaning o n id v alone (with_word (λ x. x) id) _ _ starts_move c shown at

@@ -1,6 +1,7 @@
 -- Between calls: the load of S, and the look into what the process that it names has written.
 use Rattle.uni_endless.proofs.Vocabulary.{AllowsChange, AllowsTake, Board, Contents, HasCome, HasSeen, HasViewed, Idle, Image, Invoked, IsAt, IsReader, IsShown, IsStageAt, Letter, List, Local, Moves, None, Option, Sequential, ShowsBoard, Some, Told, Version, View, [], announced_by, ap, applied_in, append-nil, arith, base_of, begun, calls_of, called_by, first_image, get_elem?, image_from, in_of, known_then, length, local_of, made_by, number_in, pending_of, posted, posted_at, process_in, refl, seen_of, set_at, set_at_same, slice_set, some, stage_of, subst, sym, take, viewing, with_letter, with_local, with_seen, with_value, with_word, word_of, inl, ShowsNext, Contains, ℕ, ◌+◌, ◌<◌, ◌∙◌, ◌∷◌, ◌≡◌, ◌≢◌, ◌≤◌}
-use Rattle.uni_endless.proofs.Framing.{AreBuffers, board_of, buffers_same, buffers_taken, mine, object_is, own, shown_with, sound_with}
+use Rattle.uni_endless.proofs.Framing.{AreBuffers, keeps_rule, buffers_same, buffers_taken, mine, object_is, own, shown_with, sound_with}
+use Rattle.uni_endless.specs.Execution.Next.{See, View as Views}
 use Rattle.uni_endless.proofs.Histories.{history_kept}
 use Rattle.uni_endless.proofs.Meaning.{version_come}
 use Rattle.uni_endless.proofs.Orders.{order_viewed}
@@ -151,18 +152,29 @@ module _ {O I S R : Type 0} (meaning : O → Sequential S I R) (o : O) (n id : �
           )
 
   pub views_move : Moves meaning o n id v (with_word (λ i. i) id) (λ g local c w acts. acts ≡ []) (λ c w. HasViewed v (c.words 0) w)
-  views_move c g local seat_of is at = (with_local v (viewing l (c.words 0)), [], shows_loaded c g local seat_of is at, refl, told_loaded c g local seat_of is at)
-
-  pub sees_move : (r : ℕ) → r < n → process_in l.word ≡ r → l.after ≡ number_in l.word → Moves meaning o n id v (with_letter r p None id) (λ g local c w acts. acts ≡ []) (λ c w. HasSeen meaning v r (c.buffers r p) w)
-  sees_move r r_in here follows_it c g local seat_of is at =
-      (with_local v (l3 c g local seat_of is at r r_in here follows_it), [], shows_seen c g local seat_of is at r r_in here follows_it, refl, told_seen c g local seat_of is at r r_in here follows_it)
+  views_move c g local seat_of is at =
+      (with_local v (viewing l (c.words 0)), [], shows_loaded c g local seat_of is at, refl, told_loaded c g local seat_of is at, (Views idle, refl))
 
   pub views : AllowsChange (ShowsBoard meaning o n) id v 0 (λ i. i) (HasViewed v)
-  views c shown at =
-      let h = views_move c shown.0 shown.1.0 shown.1.1.0 shown.1.1.1 at in
-      (h.0, board_of meaning o n shown.0 shown.1.0 shown.1.1.0 _ p h.0.known.local h.1 h.2, h.4)
+  views c shown at = keeps_rule meaning o n id v alone (with_word (λ i. i) id) _ _ views_move c shown at
 
-  pub sees : (r : ℕ) → r < n → process_in l.word ≡ r → l.after ≡ number_in l.word → AllowsTake (ShowsBoard meaning o n) id v r p (HasSeen meaning v r)
-  sees r r_in here follows_it c shown at =
-      let h = sees_move r r_in here follows_it c shown.0 shown.1.0 shown.1.1.0 shown.1.1.1 at in
-      (h.0, board_of meaning o n shown.0 shown.1.0 shown.1.1.0 _ p h.0.known.local h.1 h.2, h.4)
+  module _ (r : ℕ) (r_in : r < n) (here : process_in l.word ≡ r) (follows_it : l.after ≡ number_in l.word) where
+    pub sees_move : Moves meaning o n id v (with_letter r p None id) (λ g local c w acts. acts ≡ []) (λ c w. HasSeen meaning v r (c.buffers r p) w)
+    sees_move c g local seat_of is at = (
+      with_local v (l3 c g local seat_of is at r r_in here follows_it),
+      [],
+      shows_seen c g local seat_of is at r r_in here follows_it,
+      refl,
+      told_seen c g local seat_of is at r r_in here follows_it,
+      (See r idle r_in here follows_it, (λ k. record {
+        word = c.words 0;
+        buffers = with_value c.buffers r p None;
+        leaves = record (same k) { after = (base_of object n (same k)).number };
+        acts = [];
+      })),
+    ) where
+      same : with_seen l r (c.buffers r p) ≡ l2 c g local seat_of is at r r_in here follows_it
+      same = l1_is c g local seat_of is at r r_in here follows_it
+
+    pub sees : AllowsTake (ShowsBoard meaning o n) id v r p (HasSeen meaning v r)
+    sees c shown at = keeps_rule meaning o n id v alone (with_letter r p None id) _ _ sees_move c shown at

@@ -25,7 +25,8 @@ pub use Rattle.uni_endless.specs.Board.{Board, HasCome, announced_at, announced_
 pub use Rattle.uni_endless.specs.Invariant.{AreOrdered, HasBatch, HasDrafted, HasFollowed, HasLast, HasLooked, HasTaken, IsAnnounced, IsAt, IsBase, IsBoard, IsHistory, IsOpen, IsReader, IsSound, IsStageAt, IsTold, IsTrying, IsWhole, IsWriter, base_of, most_calls, seen_of}
 pub use Rattle.uni_endless.specs.News.{calls_due, drafted, due, first_image, first_told, first_version, found_in, told_by}
 pub use Rattle.uni_endless.specs.Plays.{HasBrought, HasFound, HasLaid, HasLearned, HasPosted, HasSeen, HasStarted, HasViewed, IsLaying, IsPending, IsPosting, at_rest, brought, calls_of, ending, first_alone, first_view, goes, local_of, missed, others, returns, stage_of, started, viewing, with_local, with_seen, written_then}
-pub use Rattle.uni_endless.specs.Shown.{IsShown, Letter, ShowsBoard, Tells, known_then}
+pub use Rattle.uni_endless.specs.Shown.{IsShown, Letter, Tells, known_then}
+pub use Rattle.uni_endless.specs.Ran.{HasRun, IsStep, ShowsBoard, moment_of}
 pub use Rattle.uni_endless.specs.declared.view.Local.{Local}
 pub use Rattle.uni_endless.specs.declared.view.Stage.{Stage}
 pub use Rattle.uni_endless.specs.declared.view.Stage.TheVariants.{Idle, Posting, Ready, Reading, Writing}

@@ -6,6 +6,7 @@ use Rattle.uni_model.specs.AtomicObject.{Act, set_at}
 use Rattle.uni_any.specs.Laws.{responses}
 use Rattle.uni_any.specs.Final.{ProcessCalls}
 use Rattle.uni_endless.specs.Board.{Board, pending_of}
+use Rattle.uni_endless.specs.Ran.{IsStep, moment_of}
 use Rattle.uni_endless.specs.Shown.{IsShown, Letter}
 use Rattle.uni_endless.specs.declared.view.Local.{Local}
 use Rattle.uni_endless.specs.declared.view.View.{View}
@@ -30,7 +31,8 @@ module _ {O S I R : Type 0} (meaning : O → Sequential S I R) (o : O) (n : ℕ)
       (g' : Board I S R) × IsShown n meaning o g' (set_at local p l) seat_of then × (g'.acts ≡ g.acts ++ acts)
 
   -- Where a board is shown, a step of the seat id can leave what is next, with a new view of the seat, so that a board is shown
-  -- whose history has more acts: `makes` says which, and `says` what the seat is told.
+  -- whose history has more acts: `makes` says which, and `says` what the seat is told. It is a step that its process can take
+  -- in an execution.
   abbrev pub Moves : (id : ℕ) → View O I S R → (next : Contents (Letter I S R) (View O I S R) → View O I S R → Contents (Letter I S R) (View O I S R))
       → (makes : Board I S R → (local : ℕ → Local I S R) → Contents (Letter I S R) (View O I S R) → View O I S R → List (Act I R) → Type 0)
       → (says : Contents (Letter I S R) (View O I S R) → View O I S R → Type 0) → Type 0
@@ -39,6 +41,12 @@ module _ {O S I R : Type 0} (meaning : O → Sequential S I R) (o : O) (n : ℕ)
       → IsShown n meaning o g local seat_of c → get_elem? c.views id ≡ some v
       → (w : View O I S R) × (acts : List (Act I R)) × ShowsNext g local seat_of (next c w) v.known.first w.known.local acts
       × makes g local c w acts × says c w
+      × IsStep (meaning o) n (moment_of c local) v.known.first v.known.local (record {
+        word = (next c w).words 0;
+        buffers = (next c w).buffers;
+        leaves = w.known.local;
+        acts = acts;
+      })
 
 module _ {O I S R : Type 0} where
   -- there is next: the word S of this, a value written, or none where one was taken

@@ -10,3 +10,4 @@ pub mod Drafts
 pub mod Laws
 pub mod Execution
 pub mod Progress
+pub mod Ran

@@ -38,9 +38,3 @@ module _ {O I S R : Type 0} (n : ℕ) where
         → known_then (c.buffers from to) (seen_of (meaning o) n (local to) from) ≡ posted (local from) to
     pub seats : (id : ℕ) (v : View O I S R) → get_elem? c.views id ≡ some v → Tells o local seat_of id v
     pub sound : IsSound (meaning o) n g local
-
--- the rule: they show some board
-abbrev pub ShowsBoard : {O I S R : Type 0} → (O → Sequential S I R) → O → (n : ℕ) → Contents (Letter I S R) (View O I S R)
-    → Type 0
-ShowsBoard {O} {I} {S} {R} meaning o n c =
-    (g : Board I S R) × ((local : ℕ → Local I S R) × ((seat_of : ℕ → ℕ) × IsShown n meaning o g local seat_of c))

@@ -34,7 +34,7 @@ pub struct Boards<O> {
 }
 
 impl<O: SeqObject> BufferRule<NewsOf<O>, ViewOf<O>, Setup<O>> for Boards<O> {
-    ghost use Rattle.uni_endless.specs.Shown.{ShowsBoard};
+    ghost use Rattle.uni_endless.specs.Ran.{ShowsBoard};
     ghost use Rattle.uni_endless.specs.Plays.{first_view};
 
     ghost holds = { λ key. ShowsBoard O.sequential key.object key.processes };

@@ -10,6 +10,10 @@ use Rattle.uni_model.specs.Executions.Execution.{Ends, Takes}
 use Rattle.uni_model.specs.Linearizable.{observed}
 
 module _ {M : Type 0} (n : ℕ) (Step : (m : M) (p : ℕ) → Type 0) (after : (m : M) (p : ℕ) → Step m p → M) where
+  last-goes_on : {m : M} (e : Execution n Step after m) (more : Execution n Step after (last_moment n Step after e)) → last_moment n Step after (goes_on n Step after e more) ≡ last_moment n Step after more
+  last-goes_on Ends more = refl
+  last-goes_on (Takes p inside step rest) more = last-goes_on rest more
+
   module _ {A : Type 0} (acts : (m : M) (p : ℕ) → Step m p → List A) where
     pub history-goes_on : {m : M} (e : Execution n Step after m) (more : Execution n Step after (last_moment n Step after e))
         → history n Step after acts (goes_on n Step after e more) ≡ history n Step after acts e ++ history n Step after acts more
@@ -24,6 +28,13 @@ module _ {M : Type 0} (n : ℕ) (Step : (m : M) (p : ℕ) → Type 0) (after : (
     kept_along Keeps step_keeps before h (Takes {m = m} p inside step rest) =
         subst (Keeps (last_moment n Step after rest)) (append_assoc before (acts m p step) (history n Step after acts rest))
         (kept_along Keeps step_keeps (before ++ acts m p step) (step_keeps m before h p inside step) rest)
+
+    -- an execution goes on by one step
+    pub runs_on : {first : M} (e : Execution n Step after first) (m : M) → last_moment n Step after e ≡ m → (p : ℕ) → p < n → (step : Step m p)
+        → (more : Execution n Step after first) × (last_moment n Step after more ≡ after m p step) × (history n Step after acts more ≡ history n Step after acts e ++ acts m p step)
+    runs_on {first = first} e m leads p inside = subst (λ z. (step : Step z p) → (more : Execution n Step after first) × (last_moment n Step after more ≡ after z p step) × (history n Step after acts more ≡ history n Step after acts e ++ acts z p step)) leads (λ step.
+        let one : Execution n Step after (last_moment n Step after e) = Takes p inside step Ends in
+        (goes_on n Step after e one, last-goes_on e one, history-goes_on e one ∙ (λ k. history n Step after acts e ++ append-nil (acts (last_moment n Step after e) p step) k)))
 
   pub keeps_order : {I R : Type 0} (acts : (m : M) (p : ℕ) → Step m p → List (Act I R)) {m : M} (e : Execution n Step after m) (more : Execution n Step after (last_moment n Step after e)) → KeepsOrder n Step after acts e more
   keeps_order acts e more = ap points (history-goes_on acts e more) ∙ points-append (history n Step after acts e) (history n Step after acts more)
