@@ -5,7 +5,7 @@ use Rattle.std.specs.Arc.{arc_value}
 use Rattle.uni_any.proofs.Ordering.{get_snoc}
 use Rattle.uni_any.proofs.Seating.{get_index}
 use Rattle.triple_buffers.specs.Parties.{IsPartyOf, number_of, steps_of}
-use Rattle.uni_endless.proofs.Vocabulary.{Letter, List, None, Sequential, Some, View, [], ap, arith, first_alone, first_told, first_version, inl, inr, length, length-append, map, pending_of, refl, replicate, slice_get, slice_index_or, subst, suc, sym, told_by, ℕ, ◌++◌, ◌+◌, ◌<◌, ◌∙◌, ◌∷◌, ◌≡◌}
+use Rattle.uni_endless.proofs.Vocabulary.{Letter, List, None, Sequential, Some, View, [], ap, arith, first_alone, first_told, first_version, inl, inr, length, length-append, map, pending_of, refl, replicate, slice_get, slice_index_or, subst, suc, sym, told_by, ℕ, ◌%◌, ◌++◌, ◌+◌, ◌<◌, ◌∙◌, ◌∷◌, ◌≡◌}
 use Rattle.uni_endless.specs.News.{inv_as, version_as}
 use Rattle.uni_endless.specs.Seats.{AreFirstSeats, IsFirstSeat, IsSeatOf, StandsAt, object_of, processes_of, rest_of, view_in}
 use Rattle.uni_endless.specs.declared.seat.EndlessSeat.{EndlessSeat}
@@ -26,9 +26,9 @@ all_alike f b (x ∷ xs) each = (λ k. (each 0 x (omega arith)) k ∷ all_alike 
 
 module _ {O I S R : Type 0} (meaning : O → Sequential S I R) (shared : EndlessShared O S I R) (p : ℕ) where
   pub first_seat : (seat : EndlessSeat O S I R) → IsPartyOf shared.buffers seat.party → number_of seat.party ≡ p → view_in seat ≡ first_alone (rest_of meaning (object_of shared) (processes_of shared) p) → steps_of seat.party ≡ 0
-      → seat.p ≡ p → seat.made ≡ 0 → seat.asked ≡ None → p < processes_of shared → version_as (arc_value seat.last) ≡ first_version (meaning (object_of shared)) (processes_of shared)
+      → seat.p ≡ p → seat.made ≡ 0 → seat.asked ≡ None → seat.named ≡ 0 → p < processes_of shared → version_as (arc_value seat.last) ≡ first_version (meaning (object_of shared)) (processes_of shared)
       → length seat.seen.items ≡ processes_of shared → All (λ c. told_by c ≡ first_told (meaning (object_of shared)) (processes_of shared)) seat.seen.items → IsFirstSeat shared p seat
-  first_seat seat own number view steps p_is made asked inside last long each = record {
+  first_seat seat own number view steps p_is made asked named inside last long each = record {
     own = record {
       kept = record {
         place = record {
@@ -44,6 +44,7 @@ module _ {O I S R : Type 0} (meaning : O → Sequential S I R) (shared : Endless
         last = ap (λ (z : View O I S R). z.known.local.last) view ∙ sym last;
         seen = ap (λ (z : View O I S R). z.known.local.seen) view ∙ sym (all_alike told_by (first_told (meaning (object_of shared)) (processes_of shared)) seat.seen.items each ∙ ap (λ k. replicate k (first_told (meaning (object_of shared)) (processes_of shared))) long);
         long = long;
+        named = (let z = ap (λ k. k % 64) named in let a = inside in omega arith);
       };
       made = ap (λ (z : View O I S R). length z.known.local.own) view ∙ sym made;
       few = (let m = made in omega arith);

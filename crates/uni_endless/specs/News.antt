@@ -20,13 +20,16 @@ abbrev pub inv_as : {I : Type 0} → Option (Arc I Global) → Option I
 inv_as None = None
 inv_as (Some arc) = Some (arc_value arc)
 
-abbrev pub told_by : {I S R : Type 0} → Arc (News I (Block S R)) Global → Told I S R
-told_by arc = record {
-  call = (arc_value arc).call;
-  inv = inv_as (arc_value arc).inv;
-  last = version_as (arc_value (arc_value arc).last);
-  next = version_as (arc_value (arc_value arc).next);
+abbrev pub told_as : {I S R : Type 0} → News I (Block S R) → Told I S R
+told_as news = record {
+  call = news.call;
+  inv = inv_as news.inv;
+  last = version_as (arc_value news.last);
+  next = version_as (arc_value news.next);
 }
+
+abbrev pub told_by : {I S R : Type 0} → Arc (News I (Block S R)) Global → Told I S R
+told_by arc = told_as (arc_value arc)
 
 -- the version that a process has brought in, of those that it told, where it is known to have brought in version v: the
 -- one that it brought in last where this is no older, and else the next one

@@ -6,9 +6,10 @@ use Rattle.std.specs.declared.alloc.Global.{Global}
 use Rattle.std.specs.declared.sync.Arc.{Arc}
 use Rattle.seq_object.specs.Sequential.{Sequential}
 use Rattle.triple_buffers.specs.Parties.{key_of, number_of, steps_of, view_of}
+use Rattle.uni_any.specs.Final.{ProcessCalls}
 use Rattle.uni_any.specs.declared.view.Returned.{Returned}
 use Rattle.uni_endless.specs.Board.{made_by, pending_of, process_in}
-use Rattle.uni_endless.specs.Invariant.{most_calls}
+use Rattle.uni_endless.specs.Invariant.{base_of, most_calls}
 use Rattle.uni_endless.specs.News.{told_by, version_as}
 use Rattle.uni_endless.specs.Plays.{HasFound, at_rest, local_of, stage_of}
 use Rattle.uni_endless.specs.Standing.{IsPlaceOf}
@@ -18,6 +19,7 @@ use Rattle.uni_endless.specs.declared.seat.EndlessShared.{EndlessShared}
 use Rattle.uni_endless.specs.declared.view.Local.{Local}
 use Rattle.uni_endless.specs.declared.view.Stage.{Stage}
 use Rattle.uni_endless.specs.declared.view.Stage.TheVariants.{Idle, Ready, Reading}
+use Rattle.uni_endless.specs.declared.view.Version.{Version}
 use Rattle.uni_endless.specs.declared.view.View.{View}
 
 -- no call is pending, or one is whose memory was refused
@@ -59,6 +61,15 @@ module _ {O S I R : Type 0} where
   abbrev pub word_steps_of : EndlessSeat O S I R → ℕ
   word_steps_of seat = steps_of seat.party
 
+  -- the calls of its process
+  abbrev pub known_calls : EndlessSeat O S I R → ProcessCalls I R
+  known_calls seat = record { process = process_of seat; own = own_calls seat; pending = pending_call seat }
+
+  -- the version that it has found
+  abbrev pub version_seen : (O → Sequential S I R) → EndlessShared O S I R → EndlessSeat O S I R → Version S R
+  version_seen meaning shared seat =
+      base_of (meaning (object_of shared)) (processes_of shared) (record (local_in seat) { word = seat.named })
+
   -- the seat has what its process knows
   pub record IsKept (shared : EndlessShared O S I R) (seat : EndlessSeat O S I R) : Type 0 where
     pub place : IsPlaceOf shared.buffers seat.party
@@ -67,6 +78,7 @@ module _ {O S I R : Type 0} where
     pub last : (local_in seat).last ≡ version_as (arc_value seat.last)
     pub seen : (local_in seat).seen ≡ map told_by seat.seen.items
     pub long : length seat.seen.items ≡ processes_of shared
+    pub named : process_in seat.named < processes_of shared
 
   -- The seat is one of this object's.
   pub record IsSeatOf (shared : EndlessShared O S I R) (seat : EndlessSeat O S I R) : Type 0 where
@@ -108,7 +120,7 @@ pub record HasLookedAt {O I S R : Type 0} (meaning : O → Sequential S I R) (v 
   pub few : word < 64 * (64 * most_calls + 1)
   pub found : HasFound meaning v inv tries local w
 
--- the steps of an announcement, of an attempt, of a call that is announced, and of a call, at most
+-- the steps of an announcement, of a look, of an attempt, of a read, of a call that is announced, and of a call, at most
 abbrev pub announce_steps : ℕ → ℕ
 announce_steps n = 2 * n
 
@@ -117,6 +129,9 @@ look_steps n = 2 * n + 1
 
 abbrev pub attempt_steps : ℕ → ℕ
 attempt_steps n = 4 * n + 2
+
+abbrev pub read_steps : ℕ
+read_steps = 3
 
 abbrev pub resume_steps : ℕ → ℕ
 resume_steps n = 10 * n + 5

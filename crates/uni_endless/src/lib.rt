@@ -8,6 +8,7 @@ pub mod laws;
 mod looking;
 mod news;
 mod open;
+mod reading;
 mod rule;
 mod seat;
 mod steps;
@@ -18,5 +19,7 @@ pub use apply::MAX_CALLS;
 pub use news::{Block, News};
 pub use open::EndlessOpenFault;
 pub use rule::{ObjectBuffers, ObjectParty, Setup};
-pub use seat::{EndlessAnswer, EndlessFault, EndlessResumeFault, EndlessSeat, EndlessShared};
+pub use seat::{
+    CallPending, EndlessAnswer, EndlessFault, EndlessResumeFault, EndlessSeat, EndlessShared,
+};
 pub use view::{Known, Local, Stage, Told, Version, View};

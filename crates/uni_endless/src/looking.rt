@@ -60,11 +60,6 @@ impl<O: SeqObject> EndlessSeat<O> {
         ensures { (n : ℕ) → version_as result.now
             ≡ base_of (O.sequential (view_in self.now).object) n (local_in self.now) }
     {
-        let news = &self.seen[(word % SPAN) as usize];
-        if news.last.number < word / SPAN {
-            &news.next
-        } else {
-            &news.last
-        }
+        self.seen[(word % SPAN) as usize].found(word / SPAN)
     }
 }

@@ -1,4 +1,7 @@
 //! What a process tells the others.
+ghost use Rattle.std.specs.Prelude.{◌≡◌};
+ghost use Rattle.uni_endless.specs.News.{found_in, told_as, version_as};
+
 use std::alloc::Global;
 use std::sync::Arc;
 use uni_any::Row;
@@ -21,4 +24,18 @@ pub struct News<I, B> {
     pub inv: Option<Arc<I, Global>>,
     pub last: Arc<B, Global>,
     pub next: Arc<B, Global>,
+}
+
+impl<I, S, R> News<I, Block<S, R>> {
+    /// The block that the writer has brought in, of those that it tells, where it is known to have brought in the version
+    /// of this number: the one that it brought in last where that is no older, and else the next one.
+    pub(crate) fn found(&self, number: u64) -> &Block<S, R>
+        ensures { version_as result.now ≡ found_in (told_as self.now) number }
+    {
+        if self.last.number < number {
+            &self.next
+        } else {
+            &self.last
+        }
+    }
 }

@@ -121,6 +121,7 @@ impl<O: SeqObject> EndlessShared<O> {
             asked: None,
             last,
             seen,
+            named: 0,
         })
     }
 

@@ -87,6 +87,24 @@ impl<O: SeqObject> WordPlay<ViewOf<O>> for Brings {
     ghost then = { λ first second. HasBrought };
 }
 
+/// The load of S between calls.
+pub struct Views;
+
+impl<O: SeqObject> WordPlay<ViewOf<O>> for Views {
+    ghost use Rattle.uni_endless.specs.Plays.{HasViewed};
+
+    ghost then = { λ first second. HasViewed };
+}
+
+/// The take, between calls, of what the process that S named has told.
+pub struct Sees;
+
+impl<O: SeqObject> TakePlay<NewsOf<O>, ViewOf<O>> for Sees {
+    ghost use Rattle.uni_endless.specs.Plays.{HasSeen};
+
+    ghost then = { HasSeen O.sequential };
+}
+
 /// The words and buffers of an object.
 pub type ObjectBuffers<O> = Buffers<NewsOf<O>, ViewOf<O>, Setup<O>, Boards<O>>;
 

@@ -29,6 +29,7 @@ pub struct EndlessSeat<O: SeqObject> {
     pub(crate) asked: Option<Arc<O::Inv, Global>>,
     pub(crate) last: Arc<BlockOf<O>, Global>,
     pub(crate) seen: Vec<NewsOf<O>>,
+    pub(crate) named: u64,
 }
 
 /// The reply to a call, and a version of the object in which the call is. Versions count from 0, the start.
@@ -53,6 +54,11 @@ pub enum EndlessFault {
     #[error("out of memory")]
     Memory,
 }
+
+/// A call is pending: `resume` goes on with it.
+#[derive(Debug, Clone, Copy, PartialEq, Eq, Drop, Error)]
+#[error("a call is pending")]
+pub struct CallPending;
 
 /// Why a pending call has no reply.
 #[derive(Debug, Clone, Copy, PartialEq, Eq, Drop, Error)]

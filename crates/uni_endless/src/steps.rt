@@ -1,15 +1,17 @@
 //! Each step of a process, on a word or on a buffer.
 ghost use Rattle.std.specs.Prelude.{◌≡◌, ◌+◌, ◌<◌, ◌≤◌, ℕ};
-ghost use Rattle.uni_endless.specs.Board.{block_news, call_news, made_by, number_in, word_of};
+ghost use Rattle.uni_endless.specs.Board.{block_news, call_news, made_by, number_in, process_in, word_of};
 ghost use Rattle.uni_endless.specs.Invariant.{most_calls};
 ghost use Rattle.uni_endless.specs.News.{told_by};
-ghost use Rattle.uni_endless.specs.Plays.{HasBrought, HasLaid, HasLearned, HasPosted, HasStarted};
+ghost use Rattle.uni_endless.specs.Plays.{HasBrought, HasLaid, HasLearned, HasPosted, HasSeen, HasStarted, HasViewed};
 ghost use Rattle.uni_endless.specs.Plays.{IsLaying, IsPending, IsPosting, local_of, stage_of};
 ghost use Rattle.uni_endless.specs.Standing.{IsPlaceOf};
-ghost use Rattle.uni_endless.specs.declared.view.Stage.TheVariants.{Reading, Writing};
+ghost use Rattle.uni_endless.specs.declared.view.Stage.TheVariants.{Idle, Reading, Writing};
 ghost use Rattle.triple_buffers.specs.Parties.{key_of, number_of, steps_of, view_of};
 
-use crate::rule::{Brings, Lays, Learns, NewsOf, ObjectBuffers, ObjectParty, Posts, Starts};
+use crate::rule::{
+    Brings, Lays, Learns, NewsOf, ObjectBuffers, ObjectParty, Posts, Sees, Starts, Views,
+};
 use seq_object::SeqObject;
 
 /// Writes the invocation of the next call for a process.
@@ -94,4 +96,33 @@ pub(crate) fn bring<O: SeqObject>(
     ensures one_step { steps_of party.new ≡ steps_of party.old + 1 }
 {
     buffers.compare_exchange::<Brings>(party, 0, old, new)
+}
+
+/// Loads S, between calls.
+pub(crate) fn view<O: SeqObject>(buffers: &ObjectBuffers<O>, party: &mut ObjectParty<O>) -> u64
+    requires place { IsPlaceOf buffers.now party.old }
+    requires idle { stage_of (view_of party.old) ≡ Idle }
+    ensures place { IsPlaceOf buffers.now party.new × (number_of party.new ≡ number_of party.old) }
+    ensures told { HasViewed (view_of party.old) result (view_of party.new) }
+    ensures one_step { steps_of party.new ≡ steps_of party.old + 1 }
+{
+    buffers.load::<Views>(party, 0)
+}
+
+/// Takes, between calls, what the process that S named has written.
+pub(crate) fn see<O: SeqObject>(
+    buffers: &ObjectBuffers<O>,
+    party: &mut ObjectParty<O>,
+    from: u64,
+) -> Option<NewsOf<O>>
+    requires place { IsPlaceOf buffers.now party.old }
+    requires inside { from < (key_of buffers.now).processes }
+    requires idle { stage_of (view_of party.old) ≡ Idle }
+    requires named { process_in (local_of (view_of party.old)).word ≡ from }
+    requires follows { (local_of (view_of party.old)).after ≡ number_in (local_of (view_of party.old)).word }
+    ensures place { IsPlaceOf buffers.now party.new × (number_of party.new ≡ number_of party.old) }
+    ensures told { HasSeen O.sequential (view_of party.old) from result (view_of party.new) }
+    ensures few_steps { steps_of party.new ≤ steps_of party.old + 2 }
+{
+    buffers.take::<Sees>(party, from)
 }

@@ -22,4 +22,5 @@ returns-clause-kept g c =
       last = ap (λ (z : View _ _ _ _). z.known.local.last) left ∙ was.last;
       seen = ap (λ (z : View _ _ _ _). z.known.local.seen) left ∙ was.seen;
       long = was.long;
+      named = was.named;
     }

@@ -39,6 +39,7 @@ returns-then-found-word-clause-kept g c =
       last = m.1 ∙ was.last;
       seen = m.2 ∙ was.seen;
       long = was.long;
+      named = was.named;
     }
 
 pub returns-then-found-word-clause-brought : goal.returns-then-found-word-clause-brought
@@ -75,6 +76,7 @@ returns-clause-kept g c =
       last = h.3 ∙ (λ k. record { number = (ap (λ w. number_in w + 1) c.requires.word.0 ∙ sym c.requires.number) k; image = image });
       seen = h.4 ∙ was.seen;
       long = was.long;
+      named = was.named;
     }
 
 pub returns-clause-brought : goal.returns-clause-brought

@@ -11,4 +11,4 @@ returns-clause-seat g c =
     let same = c.finish.ensures.same in
     let inv = arc_value p.0 in
     let e = finished_ok (view_in c.args.self.now) (view_in c.finish.new.self) inv (processes_of c.args.shared.now) c.finish.result c.in_ok-answer.answer c.in_ok-answer.was (c.finish.ensures.finished p.0 p.1 p.2) in
-    (seat_ended c.args.shared.now c.args.self.now _ inv c.in_ok-answer.answer c.requires.made (ap (λ n. n + 1) same.1, refl) (record { place = k.place; number = k.number; inside = k.inside; last = k.last; seen = k.seen; long = k.long }) e, same.0)
+    (seat_ended c.args.shared.now c.args.self.now _ inv c.in_ok-answer.answer c.requires.made (ap (λ n. n + 1) same.1, refl) (record { place = k.place; number = k.number; inside = k.inside; last = k.last; seen = k.seen; long = k.long; named = k.named }) e, same.0)

@@ -14,6 +14,7 @@ loop-r-init g c =
         last = ap (λ (v : View _ _ _ _). v.known.local.last) h.2 ∙ was.last;
         seen = ap (λ (v : View _ _ _ _). v.known.local.seen) h.2 ∙ was.seen;
         long = was.long;
+        named = was.named;
       },
       ap (λ k. k.processes) c.key.ensures,
       (refl, refl, refl, refl),

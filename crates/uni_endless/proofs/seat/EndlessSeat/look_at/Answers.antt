@@ -16,4 +16,5 @@ returns-in-Some-clause-kept g c =
       last = keeps.1 ∙ was.last;
       seen = keeps.0 ∙ ap (λ f. (with_seen v.known.local c.args.r f).seen) c.in-Some.is ∙ ap (λ xs. slice_set xs c.args.r (told_by c.in-Some.news)) was.seen ∙ sym (map-set told_by c.args.self.now.seen.items c.args.r c.in-Some.news);
       long = length-set c.args.self.now.seen.items c.args.r c.in-Some.news ∙ was.long;
+      named = was.named;
     }

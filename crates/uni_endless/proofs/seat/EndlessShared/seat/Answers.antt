@@ -15,7 +15,7 @@ next_party-requires-clause-rule g c =
 pub returns-clause-seat : goal.returns-clause-seat
 returns-clause-seat g c =
     let party = c.in_ok-party.ensures.party in
-    first_seat g.O.SeqObject.sequential c.args.self.now c.args.p _ party.0 (party.1 ∙ c.requires.next.0) (party.2 ∙ ap (λ (z : View _ _ _ _). first_alone z) c.requires.view) party.3 refl refl refl c.requires.next.2
+    first_seat g.O.SeqObject.sequential c.args.self.now c.args.p _ party.0 (party.1 ∙ c.requires.next.0) (party.2 ∙ ap (λ (z : View _ _ _ _). first_alone z) c.requires.view) party.3 refl refl refl refl c.requires.next.2
     (ap version_as c.in_ok-last.ensures ∙ c.requires.start)
     (c.in_ok-seen.ensures.long ∙ ap (λ k. k.processes) c.key.ensures)
     (λ k d inside. told_alike (slice_index_or c.in_ok-seen.seen.items k d) c.args.news.now (c.in_ok-seen.ensures.each k d inside) ∙ c.requires.news)
