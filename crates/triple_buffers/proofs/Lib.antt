@@ -5,3 +5,4 @@ pub mod Flipping
 pub mod Stepping
 pub mod Going
 pub mod Opening
+pub mod Closing

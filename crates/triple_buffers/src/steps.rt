@@ -12,7 +12,7 @@ use crate::rule::{
 
 /// The word of a buffer names the slot that lies between its ends, and is so much more where a value lies there that
 /// wasn't taken.
-const FRESH: u64 = 4;
+pub(crate) const FRESH: u64 = 4;
 
 impl<T, V, K, P: BufferRule<T, V, K>> Buffers<T, V, K, P> {
     /// Loads a word: one step.

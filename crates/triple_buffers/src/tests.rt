@@ -93,6 +93,33 @@ fn a_word(rt: HostRuntime) -> Result<(), Fail> {
     Ok(())
 }
 
+/// At the closing there is what was written last for the party that closes and wasn't taken, and each word.
+#[test]
+fn what_is_closed(rt: HostRuntime) -> Result<(), Fail> {
+    let (numbers, mut first, second) = opened(rt.alloc())?;
+    numbers.write::<Free>(&mut first, 1, 7);
+    numbers.write::<Free>(&mut first, 1, 8);
+    numbers.write::<Free>(&mut first, 0, 9);
+    numbers.compare_exchange::<Free>(&mut first, 0, 0, 5);
+    let closed = numbers.close_with(second);
+    assert!(rt; closed.word(0) == 5);
+    assert!(rt; closed.take(0) == Some(8));
+    Ok(())
+}
+
+/// What was taken isn't there at the closing, nor what another party wrote.
+#[test]
+fn what_was_taken_is_not_closed(rt: HostRuntime) -> Result<(), Fail> {
+    let (numbers, mut first, mut second) = opened(rt.alloc())?;
+    numbers.write::<Free>(&mut first, 1, 7);
+    assert!(rt; numbers.take::<Free>(&mut second, 0) == Some(7));
+    drop(first);
+    numbers.write::<Free>(&mut second, 1, 8);
+    let closed = numbers.close_with(second);
+    assert!(rt; closed.take(0) == None);
+    Ok(())
+}
+
 /// How many numbers a thread writes.
 const NUMBERS: u64 = 20_000;
 
