@@ -24,3 +24,4 @@ pub mod Meaning
 pub mod Executing
 pub mod Progressing
 pub mod Viewing
+pub mod Closing

@@ -1,10 +1,10 @@
 -- What the rule means.
-use Rattle.uni_endless.proofs.Vocabulary.{[], applied_in, blank, HasCome, inl, inr, Invoked, length-replicate, Row, take, Version, ◌∷◌, Board, Contains, Contents, Image, IsOrdered, IsShown, IsTold, Letter, List, Local, None, Option, Returned, Sequential, Some, StandsIn, View, acts_by, announced_by, ap, arith, in_of, number_in, pending_of, refl, slice_get, subst, sym, word_of, ℕ, ◌+◌, ◌/◌, ◌<◌, ◌∙◌, ◌≡◌, ◌≤◌}
+use Rattle.uni_endless.proofs.Vocabulary.{[], applied_in, blank, HasCome, image_from, inl, inr, Invoked, length-replicate, Row, take, Version, ◌∷◌, Board, Contains, Contents, Image, IsOrdered, IsShown, IsTold, Letter, List, Local, None, Option, Returned, Sequential, Some, StandsIn, View, acts_by, announced_by, ap, arith, in_of, number_in, pending_of, refl, slice_get, subst, sym, word_of, ℕ, ◌+◌, ◌/◌, ◌<◌, ◌∙◌, ◌≡◌, ◌≤◌}
 use Rattle.std.proofs.Common.{cond, fold, ◌==◌}
 use Rattle.uni_any.proofs.Batches.{contains_cons, counted_from, not_empty, state_from}
 use Rattle.uni_any.proofs.Opening.{copies}
 use Rattle.uni_endless.specs.Versions.{IsVersionOf}
-use Rattle.uni_any.specs.Final.{IsLinearized, ProcessCalls, acts_told}
+use Rattle.uni_any.specs.Final.{IsLinearized, IsVersion, ProcessCalls, acts_told, calls_among}
 use Rattle.uni_endless.specs.Laws.{IsToldBy}
 use Rattle.uni_endless.specs.News.{first_image}
 
@@ -66,6 +66,21 @@ module _ {O I S R : Type 0} (meaning : O → Sequential S I R) (o : O) (n : ℕ)
   one_alone : (its z : ProcessCalls I R) → Contains (its ∷ []) z → AreCalls its → AreCalls z
   one_alone its z has are = subst AreCalls (sym (one_is its z has)) are
 
+  -- how many calls of a process are in the image of these
+  rows_count : (calls : List (Invoked I)) (image : Image S R) → image ≡ image_from object (first_image object n) calls → (q : ℕ) → q < n → applied_in image q ≡ calls_among q calls
+  rows_count calls image is_from q inside =
+      let long = length-replicate {A = Row R} n blank in
+      ap (λ (z : Image S R). applied_in z q) is_from ∙ counted_from object (first_image object n) calls q (omega (arith, long, inside))
+      ∙ ap (λ k. fold (λ a (d : Invoked I). a + cond (d.process == q) 1 0) k calls) (ap (λ (z : Row R). z.applied) (copies n q blank))
+
+  pub version_at : (known : List (ProcessCalls I R)) → ((its : ProcessCalls I R) → Contains known its → IsToldBy c.views its) → IsVersion object n known g.image
+  unfolding linearized_at linearized_with
+  version_at known by = record { history = linearized_at known by; rows = rows_count g.atomic.agreed g.image (sym is.sound.history.image) }
+
+  pub acts_at : (known : List (ProcessCalls I R)) (by : (its : ProcessCalls I R) → Contains known its → IsToldBy c.views its) → (version_at known by).history.acts ≡ g.acts
+  unfolding version_at linearized_at linearized_with
+  acts_at known by = refl
+
   pub come_at : (p k : ℕ) (call : Returned I R) → p < n → slice_get (local p).own k ≡ Some call → call.version ≤ number_in (c.words 0)
   come_at p k call inside at =
       let known = (is.sound.order.each p inside).known k call at in
@@ -82,16 +97,13 @@ module _ {O I S R : Type 0} (meaning : O → Sequential S I R) (o : O) (n : ℕ)
   unfolding linearized_with
   version_come its inside own pending x come follows =
       let calls : List (Invoked I) = take (g.calls_in x.number) g.atomic.agreed in
-      let long = length-replicate {A = Row R} n blank in
       record {
         last = g.image.state;
         history = linearized_with (its ∷ []) (λ z has. one_alone its z has (inside, own, pending));
         calls = calls;
         calls_are = refl;
         state_is = sym (state_from object (first_image object n) calls) ∙ ap (λ (z : Image S R). z.state) (sym come.1);
-        rows = λ q q_in.
-            ap (λ (z : Image S R). applied_in z q) come.1 ∙ counted_from object (first_image object n) calls q (omega (arith, long, q_in))
-            ∙ ap (λ k. fold (λ a (d : Invoked I). a + cond (d.process == q) 1 0) k calls) (ap (λ (z : Row R). z.applied) (copies n q blank));
+        rows = rows_count calls x.image come.1;
         within = λ z has k call at.
             let same : z ≡ its = one_is its z has in
             let followed = is.sound.order.followed its.process inside in

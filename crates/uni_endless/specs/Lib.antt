@@ -11,3 +11,4 @@ pub mod Laws
 pub mod Execution
 pub mod Progress
 pub mod Ran
+pub mod Closed

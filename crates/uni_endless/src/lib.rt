@@ -3,6 +3,7 @@
 
 mod apply;
 mod attempt;
+mod close;
 mod draft;
 pub mod laws;
 mod looking;
@@ -16,6 +17,7 @@ mod view;
 mod writing;
 
 pub use apply::MAX_CALLS;
+pub use close::LastVersion;
 pub use news::{Block, News};
 pub use open::EndlessOpenFault;
 pub use rule::{ObjectBuffers, ObjectParty, Setup};

@@ -1,0 +1,74 @@
+//! Closing an object.
+ghost use Rattle.std.specs.Prelude.{◌≡◌, ◌<◌, ◌≤◌, ◌∷◌, [], length, map, slice_index_or};
+ghost use Rattle.triple_buffers.specs.Closed.{layout_in, value_in};
+ghost use Rattle.uni_endless.specs.Closed.{HasRunTo, last_version};
+ghost use Rattle.uni_endless.specs.News.{told_by, version_as};
+ghost use Rattle.uni_endless.specs.Seats.{IsSeatOf, known_calls, object_of, processes_of, version_of};
+ghost use Rattle.uni_endless.specs.Shown.{known_then};
+
+use crate::looking::SPAN;
+use crate::rule::NewsOf;
+use crate::seat::{BlockOf, EndlessSeat, EndlessShared};
+use seq_object::SeqObject;
+use triple_buffers::ClosedBuffers;
+
+/// The last version of a closed object.
+#[derive(Drop)]
+pub struct LastVersion<O: SeqObject> {
+    pub(crate) news: NewsOf<O>,
+    pub(crate) number: u64,
+}
+
+impl<O: SeqObject> LastVersion<O> {
+    /// The version: its number, its state, and of each process how many of its calls are in, and the last reply.
+    pub fn block(&self) -> &BlockOf<O>
+        ensures { version_as result.now ≡ last_version self.now }
+    {
+        self.news.found(self.number)
+    }
+}
+
+/// What a process told last: what lies in its buffer, or what was taken of it last.
+fn told_last<O: SeqObject>(
+    closed: ClosedBuffers<NewsOf<O>>,
+    seen: Vec<NewsOf<O>>,
+    process: u64,
+) -> NewsOf<O>
+    requires inside { (process < (layout_in closed).parties) × (process < length seen.items) }
+    ensures { (first : _) → told_by result
+        ≡ known_then (value_in closed process) (slice_index_or (map told_by seen.items) process first) }
+{
+    let mut seen = seen;
+    match closed.take(process) {
+        Some(news) => news,
+        None => seen.swap_remove(process as usize),
+    }
+}
+
+impl<O: SeqObject> EndlessShared<O> {
+    /// Closes the object with the seat of one of its processes, which is one of this object's: its last version. Other
+    /// seats may be dropped. It takes no memory.
+    ///
+    /// The calls of the seat's process, with the replies that they were given, are those of a history that the atomic
+    /// object accepts; where one is pending, it has begun, and may have taken effect. The version has the state after
+    /// the calls of this history, in the order in which they took effect. In that order each of them that has returned
+    /// comes after all calls of the version that its seat had, and is among those of its own version. The number of the
+    /// version is no less than that of the version that the seat has. The history is made by the steps of an execution.
+    ///
+    /// The rows say how many calls of each process have taken effect in that history: so whoever knows how many were
+    /// made sees that the version is the last one. No clause says so by itself, and tests do.
+    pub fn close_with(self, seat: EndlessSeat<O>) -> LastVersion<O>
+        requires seat { IsSeatOf self seat }
+        ensures told { HasRunTo (O.sequential (object_of self)) (processes_of self)
+            (known_calls seat ∷ []) (last_version result).image }
+        ensures late { version_of seat ≤ (last_version result).number }
+    {
+        let EndlessShared { buffers } = self;
+        let EndlessSeat { party, seen, .. } = seat;
+        let closed = buffers.close_with(party);
+        let word = closed.word(0);
+        let news = told_last::<O>(closed, seen, word % SPAN);
+        let number = word / SPAN;
+        LastVersion { news, number }
+    }
+}
