@@ -5,7 +5,7 @@ use Rattle.uni_any.specs.Execution.{moment_of}
 use Rattle.uni_any.specs.Ran.{HasRun}
 use Rattle.uni_any.specs.Final.{IsToldBy, IsVersion, ProcessCalls}
 use Rattle.uni_any.proofs.Batches.{contains_cons, not_empty}
-use Rattle.uni_any.proofs.Meaning.{acts_at, linearized_at, version_at}
+use Rattle.uni_any.proofs.Meaning.{acts_at, version_at}
 use Rattle.uni_any.proofs.Slots.{block_inside}
 
 module _ {O I S R : Type 0} (meaning : O → Sequential S I R) (o : O) (sizes : Sizes) (last : State (Mail I (Block S R)) (View O I S R)) (holds : ShowsBoard meaning o sizes last) (words : List ℕ) (words_are : last.words ≡ words) (p id : ℕ)
@@ -43,10 +43,10 @@ module _ {O I S R : Type 0} (meaning : O → Sequential S I R) (o : O) (sizes : 
       (version_at meaning o sizes g holds.1.0 holds.1.1.0 last is (told_calls ∷ []) told_by)
 
   -- and some execution has made that history
-  pub closed_ran : (state : S) → g.image.state ≡ state → HasRunTo (meaning o) sizes (told_calls ∷ []) state
-  closed_ran state e =
+  pub closed_ran : (version : Image S R) → g.image ≡ version → HasRunTo (meaning o) sizes (told_calls ∷ []) version
+  closed_ran version e =
       subst (λ z. HasRunTo (meaning o) sizes (told_calls ∷ []) z) e
-      (linearized_at meaning o sizes g holds.1.0 holds.1.1.0 last is (told_calls ∷ []) told_by, run.0, run.2 ∙ sym (acts_at meaning o sizes g holds.1.0 holds.1.1.0 last is (told_calls ∷ []) told_by))
+      (version_at meaning o sizes g holds.1.0 holds.1.1.0 last is (told_calls ∷ []) told_by, run.0, run.2 ∙ sym (acts_at meaning o sizes g holds.1.0 holds.1.1.0 last is (told_calls ∷ []) told_by))
 
   pub closed_same : (local_of me).word ≡ slice_index words 0 → (local_of me).base ≡ g.image
   closed_same same = reader.same (same ∙ s_is)

@@ -87,6 +87,6 @@ module _ {O I S R : Type 0} (meaning : O → Sequential S I R) (o : O) (sizes : 
       let here : version_in (slice_index s.words 0) ≡ g.version = ap (λ w. w / 4294967296) word ∙ named in
       omega (arith, known, here)
 
-  pub acts_at : (known : List (ProcessCalls I R)) (by : (its : ProcessCalls I R) → Contains known its → IsToldBy s.views its) → (linearized_at known by).acts ≡ g.acts
-  unfolding linearized_at linearized_in
+  pub acts_at : (known : List (ProcessCalls I R)) (by : (its : ProcessCalls I R) → Contains known its → IsToldBy s.views its) → (version_at known by).history.acts ≡ g.acts
+  unfolding version_at version_with linearized_in
   acts_at known by = refl

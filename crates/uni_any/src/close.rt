@@ -57,7 +57,7 @@ impl<O: SeqObject> AnyShared<O> {
     /// atomic object accepts; where one is pending, it has begun, and may have taken effect. The version
     /// has the state after the calls of this history, in the order in which they took effect. In that order each of
     /// them that has returned comes after all calls of the version that its seat had followed, and is among those of
-    /// its own version. This history is made by the steps on words of an execution, in their order.
+    /// its own version. Such a history is made by the steps on words of an execution, in their order.
     ///
     /// The rows say how many calls of each process have taken effect in that history: so whoever knows how many
     /// were made sees that the version is the last one. No clause says so by itself, and tests do.
@@ -66,7 +66,7 @@ impl<O: SeqObject> AnyShared<O> {
         ensures told { IsVersion (O.sequential (object_of self)) (processes_of self)
             (known_calls seat ∷ []) (image_of (arc_value result)) }
         ensures ran { HasRunTo (O.sequential (object_of self)) (sizes_of self)
-            (known_calls seat ∷ []) (arc_value result).state }
+            (known_calls seat ∷ []) (image_of (arc_value result)) }
     {
         let AnyShared { setup, table } = self;
         let Setup { object, sizes } = setup;

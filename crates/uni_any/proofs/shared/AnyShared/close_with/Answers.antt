@@ -25,7 +25,7 @@ returns-then-s-word g c =
     let s : c.word-s.result ≡ slice_index words 0 = first_word words c.word-s.result c.word-s.ensures in
     let same : (local_of seat.seat.me).word ≡ slice_index words 0 = is.has.word ∙ sym c.if-s-word.true ∙ s in
     let base = closed_same meaning self.setup.object self.setup.sizes final.0 holds words final.2 seat.p seat.seat.id seat.seat.me is.own final.1.1 same in
-    record { told = closed_version meaning self.setup.object self.setup.sizes final.0 holds words final.2 seat.p seat.seat.id seat.seat.me is.own final.1.1 (image_of (arc_value seat.held.block)) (sym base ∙ is.has.base); ran = closed_ran meaning self.setup.object self.setup.sizes final.0 holds words final.2 seat.p seat.seat.id seat.seat.me is.own final.1.1 (arc_value seat.held.block).state (ap (λ (b : Image _ _). b.state) (sym base ∙ is.has.base)) }
+    record { told = closed_version meaning self.setup.object self.setup.sizes final.0 holds words final.2 seat.p seat.seat.id seat.seat.me is.own final.1.1 (image_of (arc_value seat.held.block)) (sym base ∙ is.has.base); ran = closed_ran meaning self.setup.object self.setup.sizes final.0 holds words final.2 seat.p seat.seat.id seat.seat.me is.own final.1.1 (image_of (arc_value seat.held.block)) (sym base ∙ is.has.base) }
 
 pub overflow_sub-s : goal.overflow_sub-s
 overflow_sub-s g c =
@@ -111,4 +111,4 @@ returns g c =
     let tells = closed_told meaning self.setup.object self.setup.sizes final.0 holds words final.2 seat.p seat.seat.id seat.seat.me is.own final.1.1 (slots_items c.close_with-closed.result.slots) final.4 other c.block_slot-slot.result (Version c.in-Version.last)
     (c.block_slot-slot.ensures ∙ ap (λ w. slot_of self.setup.sizes (block_frame self.setup.sizes (w % 4294967296 - 1)) seat.p) s) c.in-Version.ensures in
     let image = same_version (Version c.in-Version.last) c.in-Version.last holds.0.image refl tells in
-    record { told = closed_version meaning self.setup.object self.setup.sizes final.0 holds words final.2 seat.p seat.seat.id seat.seat.me is.own final.1.1 (image_of (arc_value c.in-Version.last)) (sym image); ran = closed_ran meaning self.setup.object self.setup.sizes final.0 holds words final.2 seat.p seat.seat.id seat.seat.me is.own final.1.1 (arc_value c.in-Version.last).state (ap (λ (b : Image _ _). b.state) (sym image)) }
+    record { told = closed_version meaning self.setup.object self.setup.sizes final.0 holds words final.2 seat.p seat.seat.id seat.seat.me is.own final.1.1 (image_of (arc_value c.in-Version.last)) (sym image); ran = closed_ran meaning self.setup.object self.setup.sizes final.0 holds words final.2 seat.p seat.seat.id seat.seat.me is.own final.1.1 (image_of (arc_value c.in-Version.last)) (sym image) }
