@@ -3,9 +3,9 @@ use Rattle.uni_any.proofs.Vocabulary.{Act, AreFew, AreSlots, AreWords, Asked, Bl
 use Rattle.atomic_table.specs.Table.{chain}
 use Rattle.atomic_table.specs.Table.{Act as Handling}
 use mathlib.Core.Option.{Option as Maybe}
-use Rattle.uni_any.specs.Execution.{Execution, Moment, Next, Reads, after, effect_of, history, last_moment}
+use Rattle.uni_model.proofs.Executions.{kept_along}
+use Rattle.uni_any.specs.Execution.{Execution, Moment, Next, Reads, StepOf, acts_of, after, effect_of, history, last_moment}
 use Rattle.uni_any.specs.Execution.Next.{OpenCall, CloseCall, Announce, Start, Return, Pass, Apply, Take, OpenBlock, CloseBlock, Bring, Fail, View as Views}
-use Rattle.uni_any.specs.Execution.Execution.{Ends, Step as Steps}
 use Rattle.uni_any.specs.Laws.{Invokes, IsSingle, MakesNoAct, Moves, Responds, TakesEffect}
 use Rattle.uni_any.proofs.Acts.{none_returned, one_returned}
 use Rattle.uni_any.proofs.Announcing.{announces}
@@ -308,8 +308,4 @@ module _ {O I S R : Type 0} (meaning : O → Sequential S I R) (o : O) (sizes : 
 
     -- and so does an execution
     pub history_holds : {m : Moment I S R} (acts : List (Act I R)) → Holds m acts → (e : Execution object sizes m) → Holds (last_moment object sizes e) (acts ++ history object sizes e)
-    history_holds {m = m} acts h Ends = subst (λ a. Holds m a) (sym (append-nil acts)) h
-    history_holds acts h (Steps {m = m} p inside next rest) =
-        let made = (effect_of object sizes m p (m.local p) next).acts in
-        subst (λ a. Holds (last_moment object sizes rest) a) (append_assoc acts made (history object sizes rest))
-        (history_holds (acts ++ made) (step_holds m acts h p inside next) rest)
+    history_holds acts h e = kept_along sizes.processes (StepOf object sizes) (after object sizes) (acts_of object sizes) Holds step_holds acts h e

@@ -1,10 +1,10 @@
 -- A word step of a seat of one process keeps the rule: what has to be shown of the board.
 use Rattle.uni_any.proofs.Vocabulary.{Act, Sequential, Setup, Allows, AreFew, AreOrdered, AreSlots, AreWords, Block, Board, IsAt, IsBoard, IsHistory, IsShown, IsSound, List, Local, refl, Mail, Mine, ShowsBoard, Sizes, State, Tells, Valid, View, ap, arith, at_set, carried_after, get_elem?, homes_after, inl, inr, set, set_at, set_at-cases, set_at_elsewhere, set_at_same, slice_index, slice_set, some, subst, sym, with_local, ℕ, ⊎_elim, ◌++◌, ◌<◌, ◌∙◌, ◌≡◌, ◌≢◌}
 use Rattle.atomic_table.specs.Table.{Act as Handling}
-use Rattle.uni_any.specs.Execution.{Effect, changed, moment_of}
+use Rattle.uni_any.specs.Execution.{Effect, StepOf, acts_of, after, changed, moment_of}
 use Rattle.uni_any.specs.Laws.{IsSingle, Moves}
 use Rattle.uni_any.specs.Ran.{CanTake, HasRun}
-use Rattle.uni_any.proofs.Running.{runs_on}
+use Rattle.uni_model.proofs.Executions.{runs_on}
 use mathlib.Core.Option.{Option}
 
 -- one process gets another local, and the others stay where they are
@@ -131,8 +131,9 @@ module _ {O I S R : Type 0} (meaning : O → Sequential S I R) (o : O) (sizes : 
   ran s g local seat_of is at run g' effect acts appended takes made =
       let its = own s g local seat_of is at in
       let there : CanTake (meaning o) sizes (moment_of s.words s.homes local) p (local p) effect = subst (λ l. CanTake (meaning o) sizes (moment_of s.words s.homes local) p l effect) (sym its.2) takes in
-      let last = runs_on (meaning o) sizes p its.0 run.0 (moment_of s.words s.homes local) run.1 effect there in
-      (last.0, last.1, last.2 ∙ (λ k. run.2 k ++ made k) ∙ sym appended)
+      let m = moment_of s.words s.homes local in
+      let last = runs_on sizes.processes (StepOf (meaning o) sizes) (after (meaning o) sizes) (acts_of (meaning o) sizes) run.0 m run.1 p its.0 there.0 in
+      (last.0, last.1 ∙ ap (changed (meaning o) sizes m p) there.1, last.2 ∙ (λ k. run.2 k ++ (ap (λ (e : Effect I S R). e.acts) there.1 ∙ made) k) ∙ sym appended)
 
   -- so the step is allowed
   pub allowed : (slots : ℕ) → Moves meaning o sizes id me i f makes says → Allows (ShowsBoard meaning o sizes) slots id me i f says

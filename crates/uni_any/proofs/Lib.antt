@@ -1,7 +1,6 @@
 pub mod Vocabulary
 pub mod Acts
 pub mod Ordering
-pub mod Running
 pub mod Frame
 pub mod Slots
 pub mod Stays

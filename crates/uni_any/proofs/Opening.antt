@@ -1,6 +1,6 @@
 -- The table that is made shows the board that is opened.
 use Rattle.uni_any.proofs.Vocabulary.{AreFew, AreOrdered, AreSlots, AreWords, Block, IsAt, IsBoard, IsHistory, IsSound, List, Mail, Row, Sequential, ShowsBoard, Sizes, Some, Tells, View, [], ap, arith, at_rest, blank, first_view, frames_of, get_elem?, in_of, inl, length, length-replicate, map, nothing_taken, opened, refl, replicate, slice_get, slice_index_or, slot_of, some, some-injective, some-ne-none, subst, suc, sym, taken_of, word_of, zero, ℕ, ◌*◌, ◌+◌, ◌∙◌, ◌∷◌, ◌≡◌, ◌≤◌}
-use Rattle.uni_any.specs.Execution.Execution.{Ends}
+use Rattle.uni_model.specs.Executions.Execution.{Ends}
 use Rattle.uni_any.specs.declared.mail.Mail.TheVariants.{Empty}
 use Rattle.atomic_table.specs.Table.{opening}
 use Rattle.atomic_table.proofs.Lists.{some_there}

@@ -3,7 +3,7 @@ use Rattle.uni_any.proofs.Vocabulary.{Act, AreFew, Block, Bool, GoesOn, Image, I
 use mathlib.Core.Option.{Option as Maybe}
 use Rattle.uni_any.specs.Execution.{Execution, Moment, Next, Reads, effect_of, history, last_moment, opened_moment}
 use Rattle.uni_any.specs.Execution.Next.{OpenCall, CloseCall, Announce, Start, Return, Pass, Apply, Take, OpenBlock, CloseBlock, Bring, Fail, View as Views}
-use Rattle.uni_any.specs.Execution.Execution.{Ends, Step as Steps}
+use Rattle.uni_model.specs.Executions.Execution.{Ends, Takes}
 use Rattle.uni_any.specs.Progress.{HasOwner, KeepsBound, NeverBlocks, StepOfCall, counted, one_more, steps_of_call}
 use Rattle.uni_any.proofs.Executing.{Holds, history_holds, of, read_as, seat_at, shown, state_at, step_holds, taken_by, view_at}
 use Rattle.uni_any.proofs.Linearity.{opening_holds}
@@ -124,7 +124,7 @@ module _ {O I S R : Type 0} (meaning : O → Sequential S I R) (o : O) (sizes : 
   within_end : (p : ℕ) → p < sizes.processes → {m : Moment I S R} (acts : List (Act I R)) (taken : ℕ) → Holds meaning o sizes m acts → IsWithin n (m.local p).stage taken → (e : Execution object sizes m)
       → IsWithin n ((last_moment object sizes e).local p).stage (steps_of_call object sizes p taken e)
   within_end p inside acts taken h w Ends = w
-  within_end p inside acts taken h w (Steps {m = m} q within next rest) =
+  within_end p inside acts taken h w (Takes {m = m} q within next rest) =
       let l' = (effect_of object sizes m q (m.local q) next).leaves in
       within_end p inside (acts ++ (effect_of object sizes m q (m.local q) next).acts) (if p == q then counted object sizes m q next taken else taken) (step_holds meaning o sizes few m acts h q within next)
       (⊎_elim

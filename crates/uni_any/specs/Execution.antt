@@ -1,4 +1,4 @@
--- Executions: processes that take word steps in any order, as plain data.
+-- The machine of an object: what lies in its words and slots, and what word steps its processes take.
 use Rattle.std.specs.Prelude.{◌≡◌, ◌≢◌, ◌⊎◌, ℕ, ◌+◌, ◌-◌, ◌*◌, ◌/◌, ◌%◌, ◌<◌, ◌≤◌, ◌==◌, List, [], ◌∷◌, ◌++◌}
 use Rattle.std.specs.Prelude.{Option, None, Some, refl}
 use Rattle.std.specs.Prelude.{false, true, if◌then◌else◌, length, map, replicate, slice_index, slice_set, suc, zero}
@@ -7,6 +7,7 @@ use lib.ListN.{get_elem?}
 use Rattle.seq_object.specs.Sequential.{Sequential}
 use Rattle.uni_model.specs.AtomicObject.{Act, Invoked, set_at}
 use Rattle.uni_model.specs.AtomicObject.Act.{Invoke, Linearize, Respond}
+use Rattle.uni_model.specs.Executions as Executions
 use Rattle.uni_any.specs.Batch.{pending_of}
 use Rattle.uni_any.specs.Board.{block_frame, call_frame, frames_of, slot_of, span, word_of}
 use Rattle.uni_any.specs.Content.{Content.Asked, Content.Made, applied_in, row_in, taken_in, told}
@@ -203,29 +204,28 @@ module _ {S I R : Type 0} (object : Sequential S I R) (sizes : Sizes) where
     local = set_at m.local p e.leaves;
   }
 
-  abbrev pub after : (m : Moment I S R) (p : ℕ) → Next m p (m.local p) → Moment I S R
+  -- the steps of process p, the moment after one, and the acts that it makes
+  abbrev pub StepOf : Moment I S R → (p : ℕ) → Type 0
+  StepOf m p = Next m p (m.local p)
+
+  abbrev pub after : (m : Moment I S R) (p : ℕ) → StepOf m p → Moment I S R
   after m p next = changed m p (effect_of m p (m.local p) next)
 
-  -- An execution from a moment on: again and again some process takes a step that it can take.
-  pub data Execution : Moment I S R → Type 0 where
-    Ends : {m : Moment I S R} → Execution m
-    Step : {m : Moment I S R} (p : ℕ) → p < sizes.processes → (next : Next m p (m.local p)) → Execution (after m p next)
-        → Execution m
+  abbrev pub acts_of : (m : Moment I S R) (p : ℕ) → StepOf m p → List (Act I R)
+  acts_of m p next = (effect_of m p (m.local p) next).acts
 
-  -- the acts that its steps make, in the order of the steps
-  abbrev pub history : {m : Moment I S R} → Execution m → List (Act I R)
-  history Ends = []
-  history (Step {m = m} p inside next rest) = (effect_of m p (m.local p) next).acts ++ history rest
+  -- its executions, and what they make
+  abbrev pub Execution : Moment I S R → Type 0
+  Execution m = Executions.Execution sizes.processes StepOf after m
 
-  -- the moment at its end
   abbrev pub last_moment : {m : Moment I S R} → Execution m → Moment I S R
-  last_moment {m = m} Ends = m
-  last_moment (Step p inside next rest) = last_moment rest
+  last_moment e = Executions.last_moment sizes.processes StepOf after e
 
-  -- one that goes on
-  abbrev pub goes_on : {m : Moment I S R} (e : Execution m) → Execution (last_moment e) → Execution m
-  goes_on Ends more = more
-  goes_on (Step p inside next rest) more = Step p inside next (goes_on rest more)
+  abbrev pub history : {m : Moment I S R} → Execution m → List (Act I R)
+  history e = Executions.history sizes.processes StepOf after acts_of e
+
+  abbrev pub KeepsOrder : {m : Moment I S R} (e : Execution m) → Execution (last_moment e) → Type 0
+  KeepsOrder e more = Executions.KeepsOrder sizes.processes StepOf after acts_of e more
 
   -- the opening: no process has a call, S is 0, and all slots are at home, and empty
   abbrev pub opened_moment : Moment I S R

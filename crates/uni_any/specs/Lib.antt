@@ -12,6 +12,5 @@ pub mod Final
 pub mod Execution
 pub mod Ran
 pub mod Laws
-pub mod Linearized
 pub mod Progress
 pub mod Ended

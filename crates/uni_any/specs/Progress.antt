@@ -1,9 +1,9 @@
 -- What is said of the steps that a call takes in an execution.
-use Rattle.std.specs.Prelude.{◌≡◌, ◌≢◌, ℕ, ◌+◌, ◌*◌, ◌≤◌, ◌<◌, ◌==◌, if◌then◌else◌}
+use Rattle.std.specs.Prelude.{◌≡◌, ◌≢◌, ℕ, ◌+◌, ◌*◌, ◌≤◌, ◌<◌}
 use Rattle.seq_object.specs.Sequential.{Sequential}
 use Rattle.uni_any.specs.Content.{Content.Asked, Content.Made, told}
-use Rattle.uni_any.specs.Execution.{Execution, Moment, Next, last_moment, opened_moment}
-use Rattle.uni_any.specs.Execution.Execution.{Ends, Step}
+use Rattle.uni_model.specs.Executions as Executions
+use Rattle.uni_any.specs.Execution.{Execution, Moment, Next, StepOf, after, last_moment, opened_moment}
 use Rattle.uni_any.specs.Execution.Next.{OpenCall, Start, Return, View}
 use Rattle.uni_any.specs.declared.block.Block.{Block}
 use Rattle.uni_any.specs.declared.mail.Mail.{Mail}
@@ -30,9 +30,8 @@ module _ {S I R : Type 0} (object : Sequential S I R) (sizes : Sizes) where
 
   -- how many word steps process p has taken for its latest call at the end, where it had taken so many before
   abbrev pub steps_of_call : (p taken : ℕ) {m : Moment I S R} → Execution object sizes m → ℕ
-  steps_of_call p taken Ends = taken
-  steps_of_call p taken (Step {m = m} q inside next rest) =
-      steps_of_call p (if p == q then counted m q next taken else taken) rest
+  steps_of_call p taken e =
+      Executions.steps_of_call sizes.processes (StepOf object sizes) (after object sizes) counted p taken e
 
   -- no call of an execution from the opening takes more steps than this, whatever the other processes do
   abbrev pub KeepsBound : Execution object sizes (opened_moment object sizes) → Type 0

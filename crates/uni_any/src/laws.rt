@@ -7,8 +7,8 @@ ghost use Rattle.atomic_table.specs.Table.{State, Step};
 ghost use Rattle.uni_any.specs.Content.{Content.Asked, told};
 ghost use Rattle.uni_any.specs.Board.{AreFew, Board, in_of, span, word_of};
 ghost use Rattle.uni_any.specs.Final.{IsLinearized, IsToldBy, ProcessCalls};
-ghost use Rattle.uni_any.specs.Execution.{Execution, last_moment, opened_moment};
-ghost use Rattle.uni_any.specs.Linearized.{IsLinearizedInTime, KeepsOrder};
+ghost use Rattle.uni_any.specs.Execution.{Execution, KeepsOrder, history, last_moment, opened_moment};
+ghost use Rattle.uni_model.specs.Executions.{IsLinearizedInTime};
 ghost use Rattle.uni_any.specs.Progress.{KeepsBound, NeverBlocks};
 ghost use Rattle.uni_any.specs.Laws.{Invokes, MakesNoAct, Moves, Responds, TakesEffect};
 ghost use Rattle.uni_any.specs.Plays.{HasAnnounced, HasBrought, HasClosed, HasLaid, HasLaidOpen, HasLooked};
@@ -133,7 +133,7 @@ pub fn other_steps_append_nothing<O: SeqObject>()
 pub fn every_execution_is_linearizable<O: SeqObject>()
     ensures linearized { (o : O) (sizes : Sizes) → AreFew sizes
         → (e : Execution {R = O.Resp} (O.sequential o) sizes (opened_moment (O.sequential o) sizes))
-        → IsLinearizedInTime (O.sequential o) sizes e }
+        → IsLinearizedInTime (O.sequential o) (history (O.sequential o) sizes e) }
     ensures strongly { (o : O) (sizes : Sizes)
         → (e : Execution {R = O.Resp} (O.sequential o) sizes (opened_moment (O.sequential o) sizes))
         (more : Execution (O.sequential o) sizes (last_moment (O.sequential o) sizes e))
