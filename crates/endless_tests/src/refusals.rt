@@ -19,8 +19,8 @@ use uni_endless::{
 
 /// What a call asks for.
 #[derive(Drop)]
-struct Asked {
-    number: u32,
+pub(crate) struct Asked {
+    pub(crate) number: u32,
 }
 
 impl Model for Asked {
@@ -48,9 +48,9 @@ impl Eq for Asked {
 /// A register that answers the number before, at first 9. One request for memory is refused: for a start state or
 /// a next one.
 #[derive(Drop)]
-struct Scarce<'a> {
+pub(crate) struct Scarce<'a> {
     /// How many requests are granted before the one that is refused.
-    granted: &'a Cell<u64>,
+    pub(crate) granted: &'a Cell<u64>,
 }
 
 impl Scarce<'_> {
@@ -95,7 +95,7 @@ impl<'a> SeqObject for Scarce<'a> {
 }
 
 /// The seat's call of this number, resumed where it was refused memory: its reply, and its version.
-fn called<'a>(
+pub(crate) fn called<'a>(
     rt: &impl Abort,
     alloc: Global,
     shared: &EndlessShared<Scarce<'a>>,

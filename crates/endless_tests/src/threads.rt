@@ -14,10 +14,10 @@ use std::thread::Threads;
 use uni_endless::{EndlessSeat, EndlessShared};
 
 /// How many threads there are.
-const THREADS: u64 = 4;
+pub(crate) const THREADS: u64 = 4;
 
 /// How many calls each of them makes.
-const CALLS: u64 = 500;
+pub(crate) const CALLS: u64 = 500;
 
 /// The number that a thread's calls begin with: the next multiple of `CALLS`.
 fn next_first(turns: &AtomicU64) -> u64 {
@@ -48,7 +48,7 @@ fn pushes_and_pops(
 }
 
 /// What threads with these seats are answered; `None` where memory was refused.
-fn on_a_stack<R: Threads + Sync>(
+pub(crate) fn on_a_stack<R: Threads + Sync>(
     rt: &R,
     alloc: Global,
     shared: &EndlessShared<Stack>,

@@ -5,7 +5,7 @@ use Rattle.triple_buffers.specs.Closed.{AreLast, layout_in, value_in, word_in}
 use Rattle.triple_buffers.specs.Parties.{layout_of, seat_of}
 use Rattle.triple_buffers.specs.declared.closed.ClosedBuffers.{ClosedBuffers}
 use Rattle.triple_buffers.specs.declared.layout.Layout.{Layout}
-use Rattle.uni_endless.proofs.Vocabulary.{Board, Bool, Contains, Contents, HasCome, HasLast, Image, IsShown, Letter, List, Local, Sequential, ShowsBoard, Told, Version, View, [], ap, arith, false, first_told, found_in, get_elem?, inl, inr, known_then, map, nat_lt, number_in, pending_of, posted, process_in, refl, seen_of, slice_index_or, some, subst, sym, told_by, true, word_of, ℕ, ◌%◌, ◌/◌, ◌<◌, ◌∙◌, ◌∷◌, ◌≡◌, ◌≤◌}
+use Rattle.uni_endless.proofs.Vocabulary.{Board, Contains, Contents, HasCome, HasLast, Image, IsShown, Letter, List, Local, Sequential, ShowsBoard, Told, Version, View, [], ap, arith, first_told, found_in, get_elem?, inl, inr, known_then, map, number_in, pending_of, posted, process_in, refl, seen_of, slice_index_or, some, subst, sym, told_by, word_of, ℕ, ◌%◌, ◌/◌, ◌<◌, ◌∙◌, ◌∷◌, ◌≡◌, ◌≤◌}
 use Rattle.uni_endless.specs.Closed.{HasRunTo, last_version}
 use Rattle.uni_endless.specs.Laws.{IsToldBy}
 use Rattle.uni_endless.specs.Seats.{IsSeatOf, known_calls, local_in, object_of, processes_of, version_of, view_in}
@@ -100,7 +100,7 @@ module _ {O I S R : Type 0} (meaning : O → Sequential S I R) (o : O) (n : ℕ)
 
 -- what the seat's last version is
 module _ {O I S R : Type 0} (meaning : O → Sequential S I R) (shared : EndlessShared O S I R) (seat : EndlessSeat O S I R) (is : IsSeatOf shared seat) (closed : ClosedBuffers (Letter I S R)) (same : layout_in closed ≡ layout_of shared.buffers)
-    (last : AreLast (ShowsBoard meaning (object_of shared) (processes_of shared)) seat.party closed) (word : ℕ) (word_is : word ≡ word_in closed 0) (result : LastVersion O S I R)
+    (last : AreLast (ShowsBoard meaning (object_of shared) (processes_of shared)) seat.party closed) (word : ℕ) (word_is : word ≡ word_in closed 0) (result : LastVersion I S R)
     (told : (first : Told I S R) → told_by result.news ≡ known_then (value_in closed (process_in word)) (slice_index_or (map told_by seat.seen.items) (process_in word) first))
     (chosen : result.number ≡ number_in word) where
   abbrev o : O

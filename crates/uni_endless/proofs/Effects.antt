@@ -1,5 +1,5 @@
 -- The calls that take effect by an exchange.
-use Rattle.uni_endless.proofs.Vocabulary.{Board, Contents, HasBatch, HasCome, Image, IsShown, IsSound, Letter, Local, Sequential, Version, View, ap, applied_in, arith, in_of, inl, inr, length, moment_of, refl, sym, ℕ, ◌+◌, ◌<◌, ◌∙◌, ◌∷◌, ◌≡◌}
+use Rattle.uni_endless.proofs.Vocabulary.{Board, Contents, HasBatch, HasCome, Image, IsShown, IsSound, Letter, Local, Sequential, Version, View, ap, applied_in, arith, in_of, inl, inr, length, moment_of, refl, sym, ℕ, ◌+◌, ◌<◌, ◌∙◌, ◌≡◌}
 use Rattle.uni_any.proofs.Batches.{applied_from, row_from}
 use Rattle.uni_any.proofs.Effects.{calls_are}
 use Rattle.uni_any.specs.Execution.{call_of, calls_between}

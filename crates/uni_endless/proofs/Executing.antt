@@ -1,12 +1,11 @@
 -- Each step of an execution keeps a board whose history is that of the execution.
-use Rattle.uni_endless.proofs.Vocabulary.{AcceptsAll, HasCome, ending, at_start, Returned, brought, missed, with_local, ◌≤◌, Act, Board, Contents, HasBatch, HasFound, Idle, Image, Invoke, IsAt, IsOpen, IsShown, IsSound, IsStageAt, IsTold, Letter, Linearize, List, Local, Moves, None, Option, Posting, Reading, Ready, Respond, Sequential, Some, Stage, Tells, Version, View, Writing, [], ap, append-nil, applied_in, arith, base_of, drop, either, eqb, found_in, get_elem?, in_of, inl, inr, known_then, length, lt_cases, made_by, map, number_cases, number_in, opened, pending_of, posted, process_in, refl, responses, returned_by, returns, row_in, seen_of, set_at, some, subst, sym, with_letter, with_seen, with_word, word_of, zero, ℕ, ◌+◌, ◌++◌, ◌<◌, ◌∙◌, ◌∷◌, ◌≡◌, ◌≢◌, ◌⊎◌}
+use Rattle.uni_endless.proofs.Vocabulary.{AcceptsAll, ending, at_start, Returned, brought, missed, with_local, ◌≤◌, Act, Board, Contents, HasFound, Image, IsShown, IsSound, Letter, Linearize, List, Local, Moves, None, Option, Reading, Sequential, Some, Tells, View, [], ap, applied_in, arith, drop, either, eqb, get_elem?, inl, inr, known_then, length, lt_cases, made_by, map, number_cases, number_in, opened, posted, refl, responses, returns, row_in, seen_of, set_at, some, subst, sym, with_letter, with_word, word_of, ℕ, ◌+◌, ◌++◌, ◌<◌, ◌∙◌, ◌∷◌, ◌≡◌, ◌≢◌}
 use Rattle.atomic_table.proofs.Lists.{exchanged}
 use Rattle.uni_model.proofs.Each.{at_each, each_of, from_each}
-use Rattle.uni_model.specs.AtomicObject.{Invoked}
 use Rattle.uni_endless.proofs.Effects.{effects_are, present_is}
 use Rattle.uni_model.proofs.Executions.{kept_along, linearized_by}
 use Rattle.uni_model.specs.Executions.{IsLinearizedInTime}
-use Rattle.uni_endless.specs.Execution.{CanTake, Execution, Moment, history, last_moment, opened_moment, acts_of, after, effect_of, found_by, pending_call, present_in, seeing}
+use Rattle.uni_endless.specs.Execution.{CanTake, Execution, Moment, history, last_moment, opened_moment, acts_of, after, effect_of, found_by, present_in, seeing}
 use Rattle.uni_endless.specs.Execution.Next.{Bring, Fail, Lay, Learn, Post, Return, See, Start, View as Views}
 use Rattle.uni_endless.proofs.Bringing.{brings_move}
 use Rattle.uni_endless.proofs.Framing.{drop_past}

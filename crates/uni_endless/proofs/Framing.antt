@@ -163,12 +163,25 @@ keeps_rule {O} {I} {S} {R} meaning o n id v alone next makes says moves c shown 
     let mine = own meaning o n id v alone c g local seat_of is at in
     let effect : Effect I S R = record { word = (next c h.0).words 0; buffers = (next c h.0).buffers; leaves = h.0.known.local; acts = h.1 } in
     let step : IsStep object n m p (local p) effect = subst (λ l. IsStep object n m p l effect) (sym mine.2) h.5 in
-    let on = runs_on n (CanTake object n) (after object n) (acts_of object n) run.0 m run.1 p mine.0 step.0 in
-    (h.0, (h.2.0, (set_at local p h.0.known.local, (seat_of, h.2.1, (
-      on.0,
-      on.1 ∙ ap (changed object n m p) step.1,
-      on.2 ∙ (λ k. run.2 k ++ (step.1 k).acts) ∙ sym h.2.2,
-    )))), h.4)
+    let on = runs_on n (CanTake object n) (after object n) (acts_of object n) run.0 m run.1 p mine.0 step.0 in (
+      h.0,
+      (
+        h.2.0,
+        (
+          set_at local p h.0.known.local,
+          (
+            seat_of,
+            h.2.1,
+            (
+              on.0,
+              on.1 ∙ ap (changed object n m p) step.1,
+              on.2 ∙ (λ k. run.2 k ++ (step.1 k).acts) ∙ sym h.2.2,
+            ),
+          ),
+        ),
+      ),
+      h.4,
+    )
 
 -- what follows so many elements
 pub drop_past : {A : Type 0} (xs ys : List A) → drop (length xs) (xs ++ ys) ≡ ys

@@ -1,12 +1,10 @@
 -- A process looks into a buffer after the other, and its call ends, or it goes on.
-use Rattle.uni_endless.proofs.Vocabulary.{IsStep, moment_of, AllowsTake, Board, Contains, Contents, HasCome, HasFound, HasLast, HasLearned, HasTaken, Idle, Invoked, IsAt, IsBase, IsReader, IsShown, IsStageAt, IsTold, IsWhole, IsWriter, Letter, List, Local, None, Option, Posting, Reading, Ready, Sequential, ShowsBoard, Some, Stage, Told, Version, View, Writing, announced_at, announced_by, ap, applied_in, arith, base_of, begun, called_by, first_told, found_in, get_elem?, in_of, inl, inr, known_then, length, length-append, length-set, local_of, lt_cases, made_by, number_cases, number_in, pending_of, posted, posted_at, process_in, refl, returns, row_in, seen_of, set_at-cases, slice_set, some, stage_of, subst, sym, with_local, with_seen, with_value, word_of, ℕ, ◌+◌, ◌<◌, ◌∙◌, ◌≡◌, ◌≢◌, ◌≤◌, Act, Moves, Respond, ShowsNext, append-nil, drop, responses, returned_by, with_letter, [], ◌∷◌}
-use Rattle.std.proofs.lemmas.List.{set-get_or}
-use Rattle.uni_endless.proofs.Framing.{keeps_rule, buffers_taken, drop_past, mine, object_is, own, seen_else, seen_now, shown_with, sound_with}
+use Rattle.uni_endless.proofs.Vocabulary.{IsStep, moment_of, AllowsTake, Board, Contains, Contents, HasCome, HasFound, HasLearned, HasTaken, Idle, Invoked, IsAt, IsBase, IsReader, IsShown, IsStageAt, IsTold, IsWhole, Letter, List, Local, None, Option, Reading, Sequential, ShowsBoard, Some, Stage, Told, Version, View, announced_at, announced_by, ap, applied_in, arith, base_of, begun, called_by, found_in, get_elem?, in_of, inl, inr, known_then, length, length-append, local_of, lt_cases, made_by, number_cases, number_in, pending_of, posted, posted_at, process_in, refl, returns, row_in, seen_of, set_at-cases, slice_set, some, stage_of, subst, sym, with_local, with_seen, with_value, word_of, ℕ, ◌+◌, ◌<◌, ◌∙◌, ◌≡◌, ◌≢◌, ◌≤◌, Act, Moves, Respond, ShowsNext, append-nil, drop, responses, returned_by, with_letter, [], ◌∷◌}
+use Rattle.uni_endless.proofs.Framing.{keeps_rule, buffers_taken, drop_past, object_is, shown_with, sound_with}
 use Rattle.uni_endless.specs.Execution.Next.{Learn, Return}
 use Rattle.uni_endless.proofs.Histories.{acts_then, history_ended, history_kept, open_without, own_told}
 use Rattle.uni_endless.proofs.Orders.{order_ended, order_kept, version_rises}
 use Rattle.uni_endless.proofs.Posting.{keeps_same}
-use Rattle.uni_endless.proofs.Starting.{present_image}
 use Rattle.uni_endless.proofs.Staying.{KeepsCalls, board_stays, later, locals, others_stay, reader_stays}
 use Rattle.uni_endless.proofs.Seeing as Seeing
 use Rattle.uni_endless.proofs.Seeing.{posted_facts}
@@ -290,12 +288,15 @@ module _ {O I S R : Type 0} (meaning : O → Sequential S I R) (o : O) (n id : �
     IsStepTo w acts = IsStep object n (moment_of c local) p l (record { word = c.words 0; buffers = with_value c.buffers r p None; leaves = w.known.local; acts = acts })
 
     step_on : (r + 1 ≡ n → applied_in (base_of object n l2).image p ≢ made_by l + 1) → IsStepTo (with_local v read_on) []
-    step_on lacks = (Learn inv tries r reads r_in (λ last e. lacks last (ap (λ z. applied_in (base_of object n z).image p) (sym l1_is) ∙ e)), (λ k. record {
-      word = c.words 0;
-      buffers = with_value c.buffers r p None;
-      leaves = record (l1_is k) { stage = Reading inv tries (r + 1) };
-      acts = [];
-    }))
+    step_on lacks = (
+      Learn inv tries r reads r_in (λ last e. lacks last (ap (λ z. applied_in (base_of object n z).image p) (sym l1_is) ∙ e)),
+      (λ k. record {
+        word = c.words 0;
+        buffers = with_value c.buffers r p None;
+        leaves = record (l1_is k) { stage = Reading inv tries (r + 1) };
+        acts = [];
+      }),
+    )
 
     step_end : (last : r + 1 ≡ n) → (in_is : applied_in (base_of object n l2).image p ≡ made_by l + 1) → IsStepTo (with_local v (done last in_is)) (Respond p (made_by l) (reply last in_is).0 ∷ [])
     step_end last in_is = (

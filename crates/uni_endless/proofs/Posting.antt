@@ -197,8 +197,7 @@ module _ {O I S R : Type 0} (meaning : O → Sequential S I R) (o : O) (n id : �
       step_is c local (Invoke p (made_by l) inv ∷ []) (elim (number_cases r 0) [ inl e ↦ rw e.1 refl | inr e ↦ absurd (e.0 idle.0) ]),
     )
     | inr on ↦
-        let at_post : IsOpen (meaning o) n g local p l inv × (1 ≤ r) × (r ≤ n) = subst (IsStageAt (meaning o) n g local p l) on (its c g local seat_of is at).stage in
-        (
+        let at_post : IsOpen (meaning o) n g local p l inv × (1 ≤ r) × (r ≤ n) = subst (IsStageAt (meaning o) n g local p l) on (its c g local seat_of is at).stage in (
           with_local v l',
           [],
           goes_on c g local seat_of is at on,

@@ -1,8 +1,8 @@
 -- A call of an execution takes at most so many steps, and can always take one.
-use Rattle.uni_endless.proofs.Vocabulary.{HasFound, Idle, Image, IsStageAt, List, Local, Posting, Reading, Ready, Sequential, Stage, View, Writing, [], ap, applied_in, arith, base_of, drafted, if◌then◌else◌, inl, inr, length, lt_cases, made_by, nat_eq, number_cases, number_in, process_in, refl, subst, suc, sym, zero, ℕ, ⊎_elim, ◌*◌, ◌++◌, ◌+◌, ◌-◌, ◌<◌, ◌∙◌, ◌≡◌, ◌≢◌, ◌≤◌, Act}
+use Rattle.uni_endless.proofs.Vocabulary.{Idle, Image, IsStageAt, List, Local, Posting, Reading, Ready, Sequential, Stage, Writing, [], ap, applied_in, arith, base_of, drafted, if◌then◌else◌, inl, inr, length, lt_cases, made_by, number_cases, refl, subst, suc, sym, zero, ℕ, ⊎_elim, ◌*◌, ◌++◌, ◌+◌, ◌-◌, ◌<◌, ◌∙◌, ◌≡◌, ◌≢◌, ◌≤◌, Act}
 use Rattle.std.proofs.Common.{◌==◌}
 use Rattle.uni_model.specs.Executions.Execution.{Ends, Takes}
-use Rattle.uni_endless.specs.Execution.{CanTake, Execution, Moment, acts_of, after, effect_of, found_by, history, last_moment, opened_moment, seeing}
+use Rattle.uni_endless.specs.Execution.{CanTake, Execution, Moment, acts_of, effect_of, found_by, history, last_moment, opened_moment}
 use Rattle.uni_endless.specs.Execution.Next.{Bring, Fail, Lay, Learn, Post, Return, See, Start, View as Views}
 use Rattle.uni_endless.specs.Progress.{HasOwner, KeepsBound, NeverBlocks, StepOfCall, counted, so_far, steps_of_call}
 use Rattle.uni_endless.proofs.Bringing.{brings_move}
@@ -79,7 +79,6 @@ module _ {O I S R : Type 0} (meaning : O → Sequential S I R) (o : O) (n : ℕ)
         let w' = subst (λ k. IsWithin n k taken) at w in let x = w'.1 in omega (arith, x)
     within_after (Fail inv tries image at other) taken w =
         let w' = subst (λ k. IsWithin n k taken) at w in let x = w'.1 in omega (arith, x)
-
     within_after (Views idle) taken w = w
     within_after (See r idle r_in named follows) taken w = subst (λ k. IsWithin n k taken) (sym (seen_stage its r (m.buffers r p))) w
 

@@ -1,12 +1,8 @@
 -- A process takes what another one wrote for it last: what it has seen then.
-use Rattle.uni_endless.proofs.Vocabulary.{AllowsTake, Board, Contains, Contents, HasCome, HasFound, HasLast, HasLearned, HasTaken, Idle, Invoked, IsAt, IsBase, IsReader, IsShown, IsStageAt, IsTold, IsWhole, IsWriter, Letter, List, Local, None, Option, Posting, Reading, Ready, Sequential, ShowsBoard, Some, Stage, Told, Version, View, Writing, announced_at, announced_by, ap, applied_in, arith, base_of, begun, called_by, first_told, found_in, get_elem?, in_of, inl, inr, known_then, length, length-append, length-set, local_of, lt_cases, made_by, number_cases, number_in, pending_of, posted, posted_at, process_in, refl, returns, row_in, seen_of, set_at-cases, slice_set, some, stage_of, subst, sym, with_local, with_seen, with_value, word_of, ℕ, ◌+◌, ◌<◌, ◌∙◌, ◌≡◌, ◌≢◌, ◌≤◌, Act, Moves, Respond, ShowsNext, append-nil, drop, responses, returned_by, with_letter, [], ◌∷◌}
+use Rattle.uni_endless.proofs.Vocabulary.{Board, Contents, HasCome, HasLast, Idle, IsAt, IsReader, IsShown, IsStageAt, IsWriter, Letter, List, Local, None, Option, Posting, Reading, Ready, Sequential, Some, Stage, Told, Version, View, Writing, announced_at, ap, arith, base_of, begun, called_by, first_told, found_in, get_elem?, inl, inr, known_then, length, length-set, local_of, lt_cases, made_by, number_cases, number_in, pending_of, posted, posted_at, process_in, refl, seen_of, slice_set, some, subst, sym, with_seen, word_of, ℕ, ◌+◌, ◌<◌, ◌∙◌, ◌≡◌, ◌≢◌, ◌≤◌}
 use Rattle.std.proofs.lemmas.List.{set-get_or}
-use Rattle.uni_endless.proofs.Framing.{buffers_taken, drop_past, mine, object_is, own, seen_else, seen_now, shown_with, sound_with}
-use Rattle.uni_endless.proofs.Histories.{acts_then, history_ended, history_kept, open_without, own_told}
-use Rattle.uni_endless.proofs.Orders.{order_ended, order_kept, version_rises}
-use Rattle.uni_endless.proofs.Posting.{keeps_same}
+use Rattle.uni_endless.proofs.Framing.{mine, own, seen_else, seen_now}
 use Rattle.uni_endless.proofs.Starting.{present_image}
-use Rattle.uni_endless.proofs.Staying.{KeepsCalls, board_stays, later, locals, others_stay, reader_stays}
 
 -- what a process takes, and what it knows then
 pub seen_took : {S I R : Type 0} (object : Sequential S I R) (n : ℕ) (l : Local I S R) (r : ℕ) (found : Option (Letter I S R)) → (with_seen l r found).seen ≡ slice_set l.seen r (known_then found (seen_of object n l r))

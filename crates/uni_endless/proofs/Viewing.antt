@@ -1,5 +1,5 @@
 -- Between calls: the load of S, and the look into what the process that it names has written.
-use Rattle.uni_endless.proofs.Vocabulary.{AllowsChange, AllowsTake, Board, Contents, HasCome, HasSeen, HasViewed, Idle, Image, Invoked, IsAt, IsReader, IsShown, IsStageAt, Letter, List, Local, Moves, None, Option, Sequential, ShowsBoard, Some, Told, Version, View, [], announced_by, ap, applied_in, append-nil, arith, base_of, begun, calls_of, called_by, first_image, get_elem?, image_from, in_of, known_then, length, local_of, made_by, number_in, pending_of, posted, posted_at, process_in, refl, seen_of, set_at, set_at_same, slice_set, some, stage_of, subst, sym, take, viewing, with_letter, with_local, with_seen, with_value, with_word, word_of, inl, ShowsNext, Contains, ℕ, ◌+◌, ◌<◌, ◌∙◌, ◌∷◌, ◌≡◌, ◌≢◌, ◌≤◌}
+use Rattle.uni_endless.proofs.Vocabulary.{AllowsChange, AllowsTake, Board, Contents, HasCome, HasSeen, HasViewed, Idle, Invoked, IsAt, IsReader, IsShown, IsStageAt, Letter, List, Local, Moves, None, Option, Sequential, ShowsBoard, Some, Told, Version, View, [], announced_by, ap, append-nil, arith, base_of, calls_of, called_by, get_elem?, in_of, known_then, length, local_of, made_by, number_in, pending_of, posted, posted_at, process_in, refl, seen_of, set_at, set_at_same, slice_set, some, stage_of, subst, sym, viewing, with_letter, with_local, with_seen, with_value, with_word, word_of, inl, ShowsNext, Contains, ℕ, ◌+◌, ◌<◌, ◌∙◌, ◌∷◌, ◌≡◌, ◌≢◌, ◌≤◌}
 use Rattle.uni_endless.proofs.Framing.{AreBuffers, keeps_rule, buffers_same, buffers_taken, mine, object_is, own, shown_with, sound_with}
 use Rattle.uni_endless.specs.Execution.Next.{See, View as Views}
 use Rattle.uni_endless.proofs.Histories.{history_kept}
@@ -144,10 +144,10 @@ module _ {O I S R : Type 0} (meaning : O → Sequential S I R) (o : O) (n id : �
           let base_is : base_of (meaning v.object) v.known.processes (with_seen l r found) ≡ x = (λ k. base_of (meaning (object_is meaning o n id v alone c g local seat_of is at k)) (processes k) (l1_is k)) in (
             subst (λ (z : Version S R). l.after ≤ z.number) (sym base_is) (let a = come.1 in omega (arith, follows_it)),
             (subst (λ (z : Version S R). IsVersionOf (meaning v.object) v.known.processes (calls_of v ∷ []) z.number z.image) (sym base_is)
-            (subst (λ j. IsVersionOf (meaning v.object) j (calls_of v ∷ []) x.number x.image) (sym processes)
-            (subst (λ u. IsVersionOf (meaning u) n (calls_of v ∷ []) x.number x.image) (sym (object_is meaning o n id v alone c g local seat_of is at))
-            (version_come meaning o n g local seat_of c is (calls_of v) p_in (ap (λ (z : Local I S R). z.own) local_is) (ap (λ (z : Local I S R). pending_of z.stage) local_is) x come.0
-            (let a = come.1 in let b = ap (λ (z : Local I S R). z.after) local_is in omega (arith, follows_it)))))),
+                (subst (λ j. IsVersionOf (meaning v.object) j (calls_of v ∷ []) x.number x.image) (sym processes)
+                (subst (λ u. IsVersionOf (meaning u) n (calls_of v ∷ []) x.number x.image) (sym (object_is meaning o n id v alone c g local seat_of is at))
+                (version_come meaning o n g local seat_of c is (calls_of v) p_in (ap (λ (z : Local I S R). z.own) local_is) (ap (λ (z : Local I S R). pending_of z.stage) local_is) x come.0
+                (let a = come.1 in let b = ap (λ (z : Local I S R). z.after) local_is in omega (arith, follows_it)))))),
             (λ k. with_local v (record (sym l1_is k) { after = (sym base_is k).number })),
           )
 
@@ -166,12 +166,15 @@ module _ {O I S R : Type 0} (meaning : O → Sequential S I R) (o : O) (n id : �
       shows_seen c g local seat_of is at r r_in here follows_it,
       refl,
       told_seen c g local seat_of is at r r_in here follows_it,
-      (See r idle r_in here follows_it, (λ k. record {
-        word = c.words 0;
-        buffers = with_value c.buffers r p None;
-        leaves = record (same k) { after = (base_of object n (same k)).number };
-        acts = [];
-      })),
+      (
+        See r idle r_in here follows_it,
+        (λ k. record {
+          word = c.words 0;
+          buffers = with_value c.buffers r p None;
+          leaves = record (same k) { after = (base_of object n (same k)).number };
+          acts = [];
+        }),
+      ),
     ) where
       same : with_seen l r (c.buffers r p) ≡ l2 c g local seat_of is at r r_in here follows_it
       same = l1_is c g local seat_of is at r r_in here follows_it

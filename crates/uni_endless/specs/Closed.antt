@@ -9,7 +9,7 @@ use Rattle.uni_endless.specs.declared.close.LastVersion.{LastVersion}
 use Rattle.uni_endless.specs.declared.view.Version.{Version}
 
 -- the last version: of those that a process told, the one that is found where it has brought in the version of this number
-abbrev pub last_version : {O S I R : Type 0} → LastVersion O S I R → Version S R
+abbrev pub last_version : {I S R : Type 0} → LastVersion I S R → Version S R
 last_version last = found_in (told_by last.news) last.number
 
 -- a version with the known calls, as it is told, of a history that is made by the steps of an execution, in their order

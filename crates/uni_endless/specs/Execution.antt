@@ -15,7 +15,6 @@ use Rattle.uni_endless.specs.News.{told_by}
 use Rattle.uni_endless.specs.Plays.{IsLayingAt, IsPendingAt, IsPostingAt, at_rest, brought, missed, returns, started, viewing, with_seen}
 use Rattle.uni_endless.specs.Shown.{Letter}
 use Rattle.uni_endless.specs.declared.view.Local.{Local}
-use Rattle.uni_endless.specs.declared.view.Stage.{Stage}
 use Rattle.uni_endless.specs.declared.view.Stage.TheVariants.{Idle, Posting, Reading, Writing}
 use Rattle.uni_endless.specs.declared.view.Version.{Version}
 

@@ -1,5 +1,5 @@
 -- What is said of the steps that a call takes in an execution.
-use Rattle.std.specs.Prelude.{◌≡◌, ◌≢◌, ℕ, ◌+◌, ◌*◌, ◌≤◌, ◌<◌, ◌==◌, if◌then◌else◌}
+use Rattle.std.specs.Prelude.{◌≡◌, ◌≢◌, ℕ, ◌+◌, ◌≤◌, ◌<◌}
 use Rattle.seq_object.specs.Sequential.{Sequential}
 use Rattle.uni_endless.specs.Board.{block_news, call_news}
 use Rattle.uni_endless.specs.Execution.{CanTake, Execution, Moment, after, last_moment, opened_moment}

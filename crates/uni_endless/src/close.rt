@@ -7,21 +7,31 @@ ghost use Rattle.uni_endless.specs.Seats.{IsSeatOf, known_calls, object_of, proc
 ghost use Rattle.uni_endless.specs.Shown.{known_then};
 
 use crate::looking::SPAN;
+use crate::news::{Block, News};
 use crate::rule::NewsOf;
-use crate::seat::{BlockOf, EndlessSeat, EndlessShared};
+use crate::seat::{EndlessSeat, EndlessShared};
 use seq_object::SeqObject;
+use std::alloc::Global;
+use std::sync::Arc;
 use triple_buffers::ClosedBuffers;
 
 /// The last version of a closed object.
 #[derive(Drop)]
-pub struct LastVersion<O: SeqObject> {
-    pub(crate) news: NewsOf<O>,
+pub struct LastVersion<I, S, R> {
+    pub(crate) news: Arc<News<I, Block<S, R>>, Global>,
     pub(crate) number: u64,
 }
 
-impl<O: SeqObject> LastVersion<O> {
+/// The last version of an object that is closed.
+pub type LastVersionOf<O> = LastVersion<
+    <O as SeqObject>::Inv,
+    <O as SeqObject>::State,
+    <O as SeqObject>::Resp,
+>;
+
+impl<I, S, R> LastVersion<I, S, R> {
     /// The version: its number, its state, and of each process how many of its calls are in, and the last reply.
-    pub fn block(&self) -> &BlockOf<O>
+    pub fn block(&self) -> &Block<S, R>
         ensures { version_as result.now ≡ last_version self.now }
     {
         self.news.found(self.number)
@@ -57,7 +67,7 @@ impl<O: SeqObject> EndlessShared<O> {
     ///
     /// The rows say how many calls of each process have taken effect in that history: so whoever knows how many were
     /// made sees that the version is the last one. No clause says so by itself, and tests do.
-    pub fn close_with(self, seat: EndlessSeat<O>) -> LastVersion<O>
+    pub fn close_with(self, seat: EndlessSeat<O>) -> LastVersionOf<O>
         requires seat { IsSeatOf self seat }
         ensures told { HasRunTo (O.sequential (object_of self)) (processes_of self)
             (known_calls seat ∷ []) (last_version result).image }

@@ -17,7 +17,7 @@ mod view;
 mod writing;
 
 pub use apply::MAX_CALLS;
-pub use close::LastVersion;
+pub use close::{LastVersion, LastVersionOf};
 pub use news::{Block, News};
 pub use open::EndlessOpenFault;
 pub use rule::{ObjectBuffers, ObjectParty, Setup};
