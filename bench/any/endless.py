@@ -1,4 +1,4 @@
-"""Writes program.txt over `uni_endless` in place of `uni_any`: nothing is opened for so many calls, read or closed there."""
+"""Writes program.txt over `uni_endless` in place of `uni_any`: nothing is opened for so many calls there."""
 import re
 import sys
 
@@ -20,15 +20,10 @@ put(", n.wrapping_add(1), calls)", ", n.wrapping_add(1))")
 put(", n.wrapping_add(1), count)", ", n.wrapping_add(1))")
 put("    let calls = count.wrapping_mul(2);\n", "")
 put("(alloc, object, 2, 3)", "(alloc, object, 2)", 2)
-# What is left is taken off by calls.
-put("let closer = seats.pop()?;", "let mut closer = seats.pop()?;")
-put("    let last = shared.close_with(closer);\n", "    let left = closer.apply(alloc, &shared, Turn::Pop).ok()?.reply;\n")
-put("Some(once && last.state.all.is_empty())", "Some(once && left == u64::MAX)")
-put("    let last = shared.close_with(second);\n", "    let newest = insists(alloc, &shared, &mut second, Turn::Pop)?;\n")
-put("last.state.all.len() as u64]", "newest]")
-# There is no read without a call.
-put("        let _ = seat.refresh(shared);\n", "        let _ = shared;\n")
-put("seat.version().state.all.last().copied().unwrap_or(0)", "0")
-put("    let mut seat = seat;\n    let mut all = 0u64;\n", "    let _ = seat;\n    let mut all = 0u64;\n")
+# The last version is shown by what closing gives, and the one that was found by the object too.
+for seat in ("closer", "second"):
+    last = f"    let last = shared.close_with({seat});\n"
+    put(last, last.replace("last =", "closed =") + "    let last = closed.block();\n")
+put("seat.version()", "seat.version(shared)")
 text = re.sub(r"\bAny(Shared|Seat|Fault|OpenFault|ResumeFault)\b", r"Endless\1", text)
 sys.stdout.write(text)
