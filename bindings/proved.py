@@ -3,7 +3,8 @@
 The kit keeps each library that `rt ci` proved, in whatever checkout, under a sum of all that the proof read: the kit, HANDLES,
 the crate's line of crates.txt, its sources, and the libraries below it as they were built. Of each crate below those that are
 named, this takes the library that is kept under the sum of the sources as they stand, and writes the sum by which `rt lib` knows
-it. A library that has this sum already stays as it is. What isn't kept, `rt lib` proves.
+it. A library that has this sum already stays as it is. What isn't kept, `rt lib` proves. An older kit, as 13b, keeps nothing: it
+says so, and `rt lib` proves all.
 """
 
 import importlib.machinery
@@ -18,6 +19,10 @@ kit = pathlib.Path(subprocess.run(["rt", "doc"], capture_output=True, text=True,
 loader = importlib.machinery.SourceFileLoader("rt", str(kit / "bin" / "rt"))
 rt = importlib.util.module_from_spec(importlib.util.spec_from_loader("rt", loader))
 loader.exec_module(rt)  # the kit's own code
+
+if not hasattr(rt, "Kept"):
+    print("        this kit keeps nothing of rt ci: rt lib proves what has changed")
+    sys.exit()
 
 rt.Crate.allowed = rt.handles_of(str(TOP))
 every = rt.crates_of(str(TOP))  # lowest first

@@ -3,6 +3,8 @@ use Rattle.uni_any.proofs.Vocabulary.{Block, Board, Contains, Image, Invoked, Is
 use Rattle.uni_any.specs.Final.{IsLinearized, IsToldBy, IsVersion, ProcessCalls, acts_told}
 use Rattle.uni_any.proofs.Batches.{contains_cons, counted_from, not_empty, state_from}
 use Rattle.uni_any.proofs.Opening.{copies}
+use Rattle.uni_model.proofs.Placed.{AgreesInOrder-holds}
+use Rattle.uni_model.specs.Linearizable.{observed}
 
 acts_of : {I S R : Type 0} (object : Sequential S I R) (g : Board I S R) (p : ℕ) (own : List (Returned I R)) (pending : Option I) → IsTold object g p own pending → acts_by p g.acts ≡ acts_told p own pending
 acts_of object g p own None told = told.2
@@ -31,7 +33,7 @@ module _ {S I R : Type 0} (object : Sequential S I R) (sizes : Sizes) (g : Board
         acts = g.acts;
         atomic = g.atomic;
         accepted = history.accepted;
-        linearized = (g.acts, g.atomic, refl, history.accepted, refl);
+        completed = ((AgreesInOrder-holds object object.initial (observed g.acts) g.atomic.agreed).0 (g.acts, g.atomic, refl, history.accepted, refl)).1;
         state_is = sym (state_from object (first_image object sizes) g.atomic.agreed) ∙ ap (λ (z : Image S R). z.state) history.image;
         inside = λ c has. (history.agreed c has).0;
         own_is = λ its has. told_acts its (are its has);

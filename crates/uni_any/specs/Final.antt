@@ -5,7 +5,8 @@ use Rattle.seq_object.specs.Sequential.{Sequential}
 use Rattle.seq_object.specs.History.{state_after}
 use Rattle.uni_model.specs.AtomicObject.{AcceptsAll, Act, Atomic, Invoked, at_start}
 use Rattle.uni_model.specs.AtomicObject.Act.{Invoke}
-use Rattle.uni_model.specs.Linearizable.{IsLinearizedAs, observed}
+use Rattle.uni_model.specs.HerlihyWing.{IsLinearizedByCompletion}
+use Rattle.uni_model.specs.Linearizable.{observed}
 use Rattle.uni_model.specs.ProcessCalls.{acts_by, sequential_acts}
 use lib.ListN.{get_elem?}
 use mathlib.Core.Option.{some}
@@ -37,8 +38,8 @@ pub record IsToldBy {O I S R : Type 0} (views : List (View O I S R)) (its : Proc
   pub own : view.known.local.own ≡ its.own
   pub pending : pending_of view.known.local.stage ≡ its.pending
 
--- There is a history that the atomic object accepts, from its start on. What is observed of it is linearizable, in the
--- order in which the calls took effect; the state is that after them. Each is a call of one of n processes. In the
+-- There is a history that the atomic object accepts, from its start on. What is observed of it is linearizable, in the words
+-- of Herlihy and Wing, in the order in which the calls took effect; the state is that after them. Each is a call of one of n processes. In the
 -- history each known process takes the acts of its calls, each with its reply, and of its pending one, and no others.
 -- The first calls_in_version v calls of that order are in version v, or all where there are fewer, and a later version
 -- has no fewer; and each known call that has returned comes after those of one version, and is among those of another
@@ -48,7 +49,7 @@ pub record IsLinearized {S I R : Type 0} (object : Sequential S I R) (n : ℕ) (
   pub acts : List (Act I R)
   pub atomic : Atomic S I
   pub accepted : AcceptsAll object (at_start object.initial) acts atomic
-  pub linearized : IsLinearizedAs object object.initial (observed acts) atomic.agreed
+  pub completed : IsLinearizedByCompletion object object.initial (observed acts) atomic.agreed
   pub state_is : state_after object object.initial (map inv_of atomic.agreed) ≡ state
   pub inside : (c : Invoked I) → Contains atomic.agreed c → c.process < n
   pub own_is : (its : ProcessCalls I R) → Contains known its

@@ -3,6 +3,8 @@ use Rattle.uni_endless.proofs.Vocabulary.{[], applied_in, blank, HasCome, image_
 use Rattle.std.proofs.Common.{cond, fold, ◌==◌}
 use Rattle.uni_any.proofs.Batches.{contains_cons, counted_from, not_empty, state_from}
 use Rattle.uni_any.proofs.Opening.{copies}
+use Rattle.uni_model.proofs.Placed.{AgreesInOrder-holds}
+use Rattle.uni_model.specs.Linearizable.{observed}
 use Rattle.uni_endless.specs.Versions.{IsVersionOf}
 use Rattle.uni_any.specs.Final.{IsLinearized, IsVersion, ProcessCalls, acts_told, calls_among}
 use Rattle.uni_endless.specs.Laws.{IsToldBy}
@@ -44,7 +46,7 @@ module _ {O I S R : Type 0} (meaning : O → Sequential S I R) (o : O) (n : ℕ)
         acts = g.acts;
         atomic = g.atomic;
         accepted = history.accepted;
-        linearized = (g.acts, g.atomic, refl, history.accepted, refl);
+        completed = ((AgreesInOrder-holds object object.initial (observed g.acts) g.atomic.agreed).0 (g.acts, g.atomic, refl, history.accepted, refl)).1;
         state_is = sym (state_from object (first_image object n) g.atomic.agreed) ∙ ap (λ (z : Image S R). z.state) history.image;
         inside = λ x has. (history.agreed x has).0;
         own_is = λ its has. told_acts its (are its has);
