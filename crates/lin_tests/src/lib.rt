@@ -1,4 +1,4 @@
-//! Tests of the judge of histories: its verdicts, by hand, the lines that a history can't have, and pictures.
+//! Tests of the judge of histories: its verdicts, by hand, the lines that a history can't have, pictures, and words.
 #![tactic(auto)]
 
 #[cfg(test)]
@@ -11,3 +11,5 @@ mod pictures;
 mod recorded;
 #[cfg(test)]
 mod verdicts;
+#[cfg(test)]
+mod words;

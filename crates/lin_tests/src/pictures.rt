@@ -5,7 +5,7 @@ use std::alloc::{AllocError, Global};
 use unicheck_run::{Form, ObjectName, Request, Stage, Watch, judge_text};
 
 /// It looks at nothing.
-struct Nobody;
+pub(crate) struct Nobody;
 
 impl Watch for Nobody {
     fn comes_to(&self, _: Stage) {}
