@@ -1,8 +1,10 @@
 -- What a status says of the history that a text is.
-use Rattle.std.specs.Prelude.{◌≡◌, ◌<◌, ◌++◌, ◌∷◌, ◌⊎◌, ℕ, List, Option, None, Some, true}
+use Rattle.std.specs.Prelude.{◌≡◌, ◌<◌, ◌++◌, ◌∷◌, ◌⊎◌, ℕ, Bool, true, false, List, [], Option, None, Some, IsSomeAnd, refl}
+use Rattle.std.specs.List.{count_by}
 use Rattle.std.specs.Io.KnownBytes.{Appends}
 use Rattle.seq_object.specs.Sequential.{Sequential}
 use Rattle.lin_check.specs.declared.event.Event.{Event}
+use Rattle.lin_check.specs.declared.event.Event.TheVariants.{Call, Return}
 use Rattle.lin_check.specs.Verdicts.{IsLinearizable}
 use Rattle.judged_objects.specs.Wording.{Wording}
 use Rattle.judged_objects.specs.Queue.{queue, queue_wording}
@@ -14,6 +16,7 @@ use Rattle.judged_objects.specs.Set.{set, set_wording}
 use Rattle.history_picture.specs.Picture.{IsPageOf, IsPictureOf}
 use Rattle.history_picture.specs.declared.scene.Scene.{Scene}
 use Rattle.history_text.specs.Own.{is_own, lines_of, own_events}
+use Rattle.history_text.specs.Turns.{IsReadable}
 use Rattle.unicheck_run.specs.Found.{verdict}
 use Rattle.unicheck_run.specs.declared.words.Form.{Form}
 use Rattle.unicheck_run.specs.declared.words.Form.TheVariants.{Lines, Order, Svg, Html}
@@ -43,6 +46,39 @@ SaysBy Register text status = SaysOfText register register_wording text status
 SaysBy Counter text status = SaysOfText counter counter_wording text status
 SaysBy Map text status = SaysOfText map_object map_wording text status
 SaysBy Set text status = SaysOfText set set_wording text status
+
+-- whether an event begins a call, and how many do
+abbrev pub is_call : {I R : Type 0} → Event I R → Bool
+is_call (Call p i) = true
+is_call (Return p r) = false
+
+abbrev pub calls_of : {I R : Type 0} → List (Event I R) → ℕ
+calls_of events = count_by is_call events
+
+-- two processes: 1 calls, 0 calls, 1 returns and calls again
+three_calls : calls_of {I = ℕ} {R = ℕ} (Call 1 5 ∷ Call 0 3 ∷ Return 1 7 ∷ Call 1 4 ∷ []) ≡ 3
+three_calls = refl
+
+-- a picture has at most 400 calls
+abbrev pub IsTooLarge : Form → (calls : ℕ) → Type 0
+IsTooLarge Lines calls = ⊥
+IsTooLarge Order calls = ⊥
+IsTooLarge Svg calls = 400 < calls
+IsTooLarge Html calls = 400 < calls
+
+-- status 2 says of such a text that a line is refused, or that a picture is asked for of too many calls
+abbrev pub RefusesText : {I R : Type 0} → Wording I R → Form → (text : List ℕ) → (status : ℕ) → Type 0
+RefusesText wording form text status = is_own (lines_of text) ≡ true → status ≡ 2 → ¬ (IsReadable wording (lines_of text))
+    ⊎ IsSomeAnd (own_events wording (lines_of text)) (λ history. IsTooLarge form (calls_of history))
+
+-- the same by the words of the object of a name
+abbrev pub RefusesBy : ObjectName → Form → (text : List ℕ) → (status : ℕ) → Type 0
+RefusesBy Queue form text status = RefusesText queue_wording form text status
+RefusesBy Stack form text status = RefusesText stack_wording form text status
+RefusesBy Register form text status = RefusesText register_wording form text status
+RefusesBy Counter form text status = RefusesText counter_wording form text status
+RefusesBy Map form text status = RefusesText map_wording form text status
+RefusesBy Set form text status = RefusesText set_wording form text status
 
 -- a line comes first
 abbrev pub BeginsWithLine : (line written : List ℕ) → Type 0

@@ -1,9 +1,10 @@
 //! What the program answers of a history.
 
-ghost use Rattle.std.specs.Prelude.{◌≡◌, ◌≤◌, IfOk};
+ghost use Rattle.std.specs.Prelude.{◌≡◌, ◌<◌, ◌⊎◌, IfErr, IfOk, IsErrOf};
 ghost use Rattle.history_picture.specs.Picture.{IsPageOf, IsPictureOf};
 ghost use Rattle.unicheck_run.specs.Found.{status_of, verdict};
-ghost use Rattle.unicheck_run.specs.Judged.{BeginsWithLine, Draws, Says, Shows};
+ghost use Rattle.unicheck_run.specs.Judged.{BeginsWithLine, Draws, IsTooLarge, Says, Shows, calls_of};
+ghost use Rattle.unicheck_run.specs.Stopped.{status_of_stop};
 
 use crate::judging::{Finding, judge};
 use crate::picture::scene_of;
@@ -26,7 +27,7 @@ pub(crate) struct Answer {
 /// The status of a finding.
 fn status_of(finding: &Finding) -> u8
     ensures status { result ≡ status_of finding.now }
-    ensures most { result ≤ 5 }
+    ensures statuses { (result < 2) ⊎ (result ≡ 5) }
 {
     match finding {
         Finding::Linearizable(_) => 0,
@@ -86,6 +87,7 @@ fn picture_of<O: Worded>(
         → Draws IsPictureOf (verdict (status_of finding.now)) svg.items) }
     ensures page { IfOk result (λ page. request.form ≡ Form.Html
         → Draws IsPageOf (verdict (status_of finding.now)) page.items) }
+    ensures many { IsErrOf result PictureError.TooManyCalls → 400 < calls_of history.now.events.items }
 {
     let scene = scene_of(alloc, object, lines, history, finding, request.rounds)?;
     match request.form {
@@ -103,7 +105,9 @@ fn text_of<O: Worded>(
     history: &History<O::Inv, O::Resp>,
     finding: &Finding,
 ) -> Result<Vec<u8>, Stop>
-    ensures { IfOk result (λ text. Shows request.form (verdict (status_of finding.now)) text.items) }
+    ensures shown { IfOk result (λ text. Shows request.form (verdict (status_of finding.now)) text.items) }
+    ensures refused { IfErr result (λ why. status_of_stop why ≡ 2
+        → IsTooLarge request.form (calls_of history.now.events.items)) }
 {
     let lines: Vec<&[u8]> = text.split(|byte| *byte == b'\n').collect(alloc)?;
     let lines = lines.as_slice();
@@ -126,9 +130,11 @@ pub(crate) fn answer_of<O: Worded, P: Watch>(
     history: &History<O::Inv, O::Resp>,
     watch: &P,
 ) -> Result<Answer, Stop>
-    ensures most { IfOk result (λ answer. answer.status ≤ 5) }
+    ensures statuses { IfOk result (λ answer. (answer.status < 2) ⊎ (answer.status ≡ 5)) }
     ensures said { IfOk result (λ answer. Says (O.sequential object.now) history.now.events.items answer.status) }
     ensures shown { IfOk result (λ answer. Shows request.form (verdict answer.status) answer.text.items) }
+    ensures refused { IfErr result (λ why. status_of_stop why ≡ 2
+        → IsTooLarge request.form (calls_of history.now.events.items)) }
 {
     let events = history.events.as_slice();
     let finding = judge(alloc, object, events, request.rounds, watch)?;

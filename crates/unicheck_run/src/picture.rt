@@ -1,7 +1,9 @@
-//! What is drawn of a history. Nothing is promised of that but its title.
+//! What is drawn of a history. Nothing is promised of that but its title, and that it has no more bars than the history
+//! has calls.
 
-ghost use Rattle.std.specs.Prelude.{◌≡◌, IfOk};
+ghost use Rattle.std.specs.Prelude.{◌≡◌, ◌≤◌, IfOk, length};
 ghost use Rattle.unicheck_run.specs.Found.{status_of, verdict};
+ghost use Rattle.unicheck_run.specs.Judged.{calls_of};
 
 use crate::judging::Finding;
 use crate::report::{first_bad_text, pending_call, verdict};
@@ -110,7 +112,9 @@ fn bars_of<O: Worded>(
     history: &History<O::Inv, O::Resp>,
     events: &[Event<O::Inv, O::Resp>],
     moments: &Moments,
-) -> Result<(Vec<Bar>, Vec<Vec<u8>>), AllocError> {
+) -> Result<(Vec<Bar>, Vec<Vec<u8>>), AllocError>
+    ensures { IfOk result (λ drawn. length drawn.0.items ≡ calls_of events.now) }
+{
     let returns = by_return(alloc, events)?;
     let mut bars = Vec::new(alloc);
     let mut lanes = Vec::new(alloc);
@@ -159,6 +163,18 @@ fn order_of<O: Worded>(
     }
 }
 
+/// The events up to a place, that one too.
+#[tactic(auto, using(crate::proofs::Counting::calls_take))]
+fn up_to<I: Drop, R: Drop>(events: &[Event<I, R>], place: usize) -> &[Event<I, R>]
+    ensures { calls_of result.now ≤ calls_of events.now }
+{
+    if place < events.len() {
+        &events[..place + 1]
+    } else {
+        events
+    }
+}
+
 /// What is drawn of a history: all of it with the points of its order; or up to the event with which no order is left,
 /// with the points of an order before it, and the call of that event in red; or without points.
 pub(crate) fn scene_of<O: Worded>(
@@ -169,7 +185,8 @@ pub(crate) fn scene_of<O: Worded>(
     finding: &Finding,
     rounds: u64,
 ) -> Result<Scene, AllocError>
-    ensures { IfOk result (λ scene. scene.title.items ≡ verdict (status_of finding.now)) }
+    ensures title { IfOk result (λ scene. scene.title.items ≡ verdict (status_of finding.now)) }
+    ensures calls { IfOk result (λ scene. length scene.bars.items ≤ calls_of history.now.events.items) }
 {
     let all = history.events.as_slice();
     let mut events = all;
@@ -179,7 +196,7 @@ pub(crate) fn scene_of<O: Worded>(
         Finding::Linearizable(order) => Vec::from_slice(alloc, order.as_slice())?,
         Finding::NotLinearizable(Some(place)) => {
             let before = all.get(..*place).unwrap_or(all);
-            events = all.get(..place.saturating_add(1)).unwrap_or(all);
+            events = up_to(all, *place);
             let call = all
                 .get(*place)
                 .and_then(|event| pending_call::<O>(before, event.process()));

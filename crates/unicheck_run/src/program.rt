@@ -1,7 +1,8 @@
 //! The program over its ends, and its statuses.
 
-ghost use Rattle.std.specs.Prelude.{◌≡◌, ◌≢◌, ◌≤◌, ◌⊎◌, IfOk, IfSome};
-ghost use Rattle.unicheck_run.specs.Judged.{SaysBy, SaysOfText, Writes};
+ghost use Rattle.std.specs.Prelude.{◌≡◌, ◌≢◌, ◌<◌, ◌≤◌, ◌⊎◌, IfErr, IfOk, IfSome};
+ghost use Rattle.unicheck_run.specs.Judged.{RefusesBy, RefusesText, SaysBy, SaysOfText, Writes};
+ghost use Rattle.unicheck_run.specs.Stopped.{status_of_stop};
 
 use crate::answer::answer_of;
 use crate::stop::{Stop, tell_stop};
@@ -26,7 +27,9 @@ fn judge_by<O: Worded, W: Write, F: Write, P: Watch>(
 ) -> u8
     ensures status { result ≤ 5 }
     ensures said { SaysOfText (O.sequential object.now) O.wording text.now result }
+    ensures refused { RefusesText O.wording request.form text.now result }
     ensures written { Writes request.form result (W.contents output.old) (W.contents output.new) }
+    ensures silent { (result < 2) ⊎ (result ≡ 5) → faults.new ≡ faults.old }
 {
     let history = match read_history::<O>(alloc, text) {
         Ok(history) => history,
@@ -59,7 +62,9 @@ pub fn judge_text<W: Write, F: Write, P: Watch>(
 ) -> u8
     ensures status { result ≤ 5 }
     ensures said { SaysBy request.object text.now result }
+    ensures refused { RefusesBy request.object request.form text.now result }
     ensures written { Writes request.form result (W.contents output.old) (W.contents output.new) }
+    ensures silent { (result < 2) ⊎ (result ≡ 5) → faults.new ≡ faults.old }
 {
     match request.object {
         ObjectName::Queue => judge_by(alloc, &Queue, request, text, output, faults, watch),
@@ -75,7 +80,8 @@ pub fn judge_text<W: Write, F: Write, P: Watch>(
 ///
 /// An `Err` says that it failed, or that memory was refused.
 fn text_in<I: Read>(alloc: Global, input: &mut I) -> Result<Vec<u8>, Stop>
-    ensures { IfOk result (λ text. IfSome (I.remaining input.old) (λ bytes. text.items ≡ bytes)) }
+    ensures read { IfOk result (λ text. IfSome (I.remaining input.old) (λ bytes. text.items ≡ bytes)) }
+    ensures statuses { IfErr result (λ why. 2 < status_of_stop why) }
 {
     let mut text = Vec::new(alloc);
     match input.read_to_end(&mut text) {
@@ -97,7 +103,9 @@ pub fn judge_input<I: Read, W: Write, F: Write, P: Watch>(
 ) -> u8
     ensures status { result ≤ 5 }
     ensures said { IfSome (I.remaining input.old) (λ text. result ≢ 3 → SaysBy request.object text result) }
+    ensures refused { IfSome (I.remaining input.old) (λ text. RefusesBy request.object request.form text result) }
     ensures written { Writes request.form result (W.contents output.old) (W.contents output.new) }
+    ensures silent { (result < 2) ⊎ (result ≡ 5) → faults.new ≡ faults.old }
 {
     match text_in(alloc, input) {
         Ok(text) => judge_text(alloc, request, text.as_slice(), output, faults, watch),
@@ -107,7 +115,8 @@ pub fn judge_input<I: Read, W: Write, F: Write, P: Watch>(
 
 /// Says what `clap` has to say of words that ask for no history; the answer is the status.
 fn answer_words<W: Write, F: Write>(error: &clap::Error, output: &mut W, faults: &mut F) -> u8
-    ensures { (result ≡ 0) ⊎ (((result ≡ 2) ⊎ (result ≡ 3)) ⊎ (result ≡ 4)) }
+    ensures statuses { (result ≡ 0) ⊎ (((result ≡ 2) ⊎ (result ≡ 3)) ⊎ (result ≡ 4)) }
+    ensures silent { result ≡ 0 → faults.new ≡ faults.old }
 {
     if error.kind() == clap::error::ErrorKind::OutOfMemory {
         return tell_stop(Stop::Memory, faults);
@@ -136,6 +145,7 @@ pub fn run<R: Files + Alloc<A = Global>, S: AsStr, I: Read, W: Write, F: Write, 
     watch: &P,
 ) -> u8
     ensures status { result ≤ 5 }
+    ensures silent { (result < 2) ⊎ (result ≡ 5) → faults.new ≡ faults.old }
     ensures told { result ≢ 0 → (form : Form) × Writes form result (W.contents output.old) (W.contents output.new) }
 {
     let matches = match matches_of(rt.alloc(), words) {

@@ -1,6 +1,7 @@
 //! What stops the program.
 
 ghost use Rattle.std.specs.Prelude.{◌≡◌, ◌⊎◌};
+ghost use Rattle.unicheck_run.specs.Stopped.{status_of_stop};
 
 use history_picture::PictureError;
 use history_text::Fault;
@@ -25,12 +26,22 @@ pub(crate) enum Stop {
 }
 
 impl From<AllocError> for Stop {
+    ghost use Rattle.std.specs.Prelude.{◌≡◌};
+    ghost use Rattle.unicheck_run.specs.declared.stop.Stop.TheVariants.{Memory};
+
+    ghost from_gives = { λ _ stop. stop ≡ Memory };
+
     fn from(_: AllocError) -> Stop {
         Stop::Memory
     }
 }
 
 impl From<PictureError> for Stop {
+    ghost use Rattle.std.specs.Prelude.{◌≡◌};
+    ghost use Rattle.unicheck_run.specs.Stopped.{stop_of};
+
+    ghost from_gives = { λ error stop. stop ≡ stop_of error };
+
     fn from(error: PictureError) -> Stop {
         match error {
             PictureError::TooManyCalls => Stop::TooManyCalls,
@@ -42,9 +53,8 @@ impl From<PictureError> for Stop {
 
 /// Says what stopped the program, as far as the end takes it; the answer is the status.
 pub(crate) fn tell_stop<F: Write>(why: Stop, faults: &mut F) -> u8
-    ensures status { ((result ≡ 2) ⊎ (result ≡ 3)) ⊎ (result ≡ 4) }
-    ensures refused { (fault : Fault) → why ≡ Stop.Refused fault → result ≡ 2 }
-    ensures memory { why ≡ Stop.Memory → result ≡ 4 }
+    ensures status { result ≡ status_of_stop why }
+    ensures statuses { ((result ≡ 2) ⊎ (result ≡ 3)) ⊎ (result ≡ 4) }
 {
     match why {
         Stop::Refused(fault) => {
