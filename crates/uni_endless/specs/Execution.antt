@@ -12,7 +12,8 @@ use Rattle.uni_endless.specs.Board.{block_news, call_news, made_by, number_in, p
 use Rattle.uni_model.specs.Executions as Executions
 use Rattle.uni_endless.specs.Invariant.{base_of, most_calls}
 use Rattle.uni_endless.specs.News.{told_by}
-use Rattle.uni_endless.specs.Plays.{IsLayingAt, IsPendingAt, IsPostingAt, at_rest, brought, missed, returns, started, viewing, with_seen}
+use Rattle.uni_endless.specs.Plays.{IsLayingAt, IsPendingAt, IsPostingAt, at_rest, brought, missed, returns, started}
+use Rattle.uni_endless.specs.Plays.{viewing, with_seen}
 use Rattle.uni_endless.specs.Shown.{Letter}
 use Rattle.uni_endless.specs.declared.view.Local.{Local}
 use Rattle.uni_endless.specs.declared.view.Stage.TheVariants.{Idle, Posting, Reading, Writing}

@@ -33,8 +33,10 @@ module _ {O S I R : Type 0} (meaning : O → Sequential S I R) (o : O) (n : ℕ)
   -- Where a board is shown, a step of the seat id can leave what is next, with a new view of the seat, so that a board is shown
   -- whose history has more acts: `makes` says which, and `says` what the seat is told. It is a step that its process can take
   -- in an execution.
-  abbrev pub Moves : (id : ℕ) → View O I S R → (next : Contents (Letter I S R) (View O I S R) → View O I S R → Contents (Letter I S R) (View O I S R))
-      → (makes : Board I S R → (local : ℕ → Local I S R) → Contents (Letter I S R) (View O I S R) → View O I S R → List (Act I R) → Type 0)
+  abbrev pub Moves : (id : ℕ) → View O I S R
+      → (next : Contents (Letter I S R) (View O I S R) → View O I S R → Contents (Letter I S R) (View O I S R))
+      → (makes : Board I S R → (local : ℕ → Local I S R) → Contents (Letter I S R) (View O I S R) → View O I S R
+      → List (Act I R) → Type 0)
       → (says : Contents (Letter I S R) (View O I S R) → View O I S R → Type 0) → Type 0
   Moves id v next makes says =
       (c : Contents (Letter I S R) (View O I S R)) (g : Board I S R) (local : ℕ → Local I S R) (seat_of : ℕ → ℕ)
@@ -50,12 +52,21 @@ module _ {O S I R : Type 0} (meaning : O → Sequential S I R) (o : O) (n : ℕ)
 
 module _ {O I S R : Type 0} where
   -- there is next: the word S of this, a value written, or none where one was taken
-  abbrev pub with_word : (f : ℕ → ℕ) → (id : ℕ) → Contents (Letter I S R) (View O I S R) → View O I S R → Contents (Letter I S R) (View O I S R)
-  with_word f id c w = record { words = set_at c.words 0 (f (c.words 0)); buffers = c.buffers; views = slice_set c.views id w }
-
-  abbrev pub with_letter : (from to : ℕ) → Option (Letter I S R) → (id : ℕ) → Contents (Letter I S R) (View O I S R) → View O I S R
+  abbrev pub with_word : (f : ℕ → ℕ) → (id : ℕ) → Contents (Letter I S R) (View O I S R) → View O I S R
       → Contents (Letter I S R) (View O I S R)
-  with_letter from to letter id c w = record { words = c.words; buffers = with_value c.buffers from to letter; views = slice_set c.views id w }
+  with_word f id c w = record {
+    words = set_at c.words 0 (f (c.words 0));
+    buffers = c.buffers;
+    views = slice_set c.views id w;
+  }
+
+  abbrev pub with_letter : (from to : ℕ) → Option (Letter I S R) → (id : ℕ) → Contents (Letter I S R) (View O I S R)
+      → View O I S R → Contents (Letter I S R) (View O I S R)
+  with_letter from to letter id c w = record {
+    words = c.words;
+    buffers = with_value c.buffers from to letter;
+    views = slice_set c.views id w;
+  }
 
   -- the responses of the calls of the seat's process that have returned by a step
   abbrev pub returned_by : (before after : View O I S R) → List (Act I R)

@@ -27,8 +27,8 @@ pub struct News<I, B> {
 }
 
 impl<I, S, R> News<I, Block<S, R>> {
-    /// The block that the writer has brought in, of those that it tells, where it is known to have brought in the version
-    /// of this number: the one that it brought in last where that is no older, and else the next one.
+    /// The block that the writer has brought in, of those that it tells, where it is known to have brought in the
+    /// version of this number: the one that it brought in last where that is no older, and else the next one.
     pub(crate) fn found(&self, number: u64) -> &Block<S, R>
         ensures { version_as result.now ≡ found_in (told_as self.now) number }
     {
