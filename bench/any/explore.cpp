@@ -1,5 +1,5 @@
 // Every interleaving of small runs of a protocol for any object without end: PROCESSES that make CALLS calls each. It is the one
-// that docs/any.md tells under "Without end", and that `uni_endless` has; no prover reads this. A step is one access of one shared
+// that docs/any.md tells, and that `uni_any` has; no prover reads this. A step is one access of one shared
 // word. Buffers are those of `triple_buffers`, which is proved: a value is written in one step, and taken in one step after a look
 // whether there is one; who writes makes one step more before it.
 //

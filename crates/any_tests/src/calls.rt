@@ -1,7 +1,6 @@
-//! Calls of two seats in turn, and what is refused.
+//! Calls of two seats in turn, and what only reads.
 
-ghost use Rattle.std.specs.Prelude.{◌≡◌, All};
-ghost use Rattle.uni_any.specs.Belongs.{IsSeatOf};
+ghost use Rattle.uni_any.specs.Seats.{IsSeatOf};
 
 use crate::seats::{is_row, last_two, opened};
 use parted_map::{MapInv, PartedMap, Text};
@@ -11,23 +10,7 @@ use stack::{Stack, StackInv, StackResp, StackState};
 use std::alloc::{AllocError, Global};
 use std::process::Abort;
 use std::test::Fail;
-use uni_any::{AnyAnswer, AnyFault, AnyOpenFault, AnyResumeFault, AnySeat, AnyShared, CallPending};
-
-/// What the opening of a stack is refused for.
-fn refused(alloc: Global, n: u64, calls: u64) -> Option<AnyOpenFault> {
-    AnyShared::open(alloc, Stack, n, calls).err()
-}
-
-#[test]
-fn what_cannot_be_opened_is_refused_in_order(rt: HostRuntime) {
-    let alloc = rt.alloc();
-    assert!(rt; refused(alloc, 0, 1) == Some(AnyOpenFault::BadCount));
-    assert!(rt; refused(alloc, 65, 1) == Some(AnyOpenFault::BadCount));
-    assert!(rt; refused(alloc, 65, 16_777_217) == Some(AnyOpenFault::BadCount));
-    assert!(rt; refused(alloc, 1, 16_777_217) == Some(AnyOpenFault::BadCalls));
-    assert!(rt; refused(alloc, 64, 2) == None);
-    assert!(rt; refused(alloc, 1, 0) == None);
-}
+use uni_any::{AnyResumeFault, AnySeat, AnyShared};
 
 /// The seat's next call, which is answered so.
 fn answers<O: SeqObject>(
@@ -59,7 +42,7 @@ pub(crate) fn newest(alloc: Global, state: &StackState) -> Result<Vec<u8>, Alloc
 #[test]
 fn two_seats_in_turn(rt: HostRuntime) -> Result<(), Fail> {
     let alloc = rt.alloc();
-    let (shared, mut seats) = opened(&rt, alloc, Stack, 2, 3);
+    let (shared, mut seats) = opened(&rt, alloc, Stack, 2);
     let (mut first, mut second) = last_two(&rt, &shared, &mut seats);
     answers(
         &rt,
@@ -106,7 +89,6 @@ fn two_seats_in_turn(rt: HostRuntime) -> Result<(), Fail> {
         StackResp::Pushed,
         5,
     );
-    assert!(rt; first.apply(alloc, &shared, StackInv::Pop) == Err(AnyFault::Spent));
     assert!(rt; first.resume(alloc, &shared) == Err(AnyResumeFault::NothingPending));
     answers(
         &rt,
@@ -117,7 +99,8 @@ fn two_seats_in_turn(rt: HostRuntime) -> Result<(), Fail> {
         StackResp::Popped(6),
         6,
     );
-    let last = shared.close_with(first);
+    let closed = shared.close_with(first);
+    let last = closed.block();
     assert!(rt; newest(alloc, &last.state)?.as_slice() == b"5".as_slice());
     assert!(rt; is_row(&last.rows, 0, 3, Some(StackResp::Pushed)));
     assert!(rt; is_row(&last.rows, 1, 3, Some(StackResp::Popped(6))));
@@ -128,7 +111,7 @@ fn two_seats_in_turn(rt: HostRuntime) -> Result<(), Fail> {
 #[test]
 fn a_map_in_parts(rt: HostRuntime) -> Result<(), Fail> {
     let alloc = rt.alloc();
-    let (shared, mut seats) = opened(&rt, alloc, PartedMap, 2, 5);
+    let (shared, mut seats) = opened(&rt, alloc, PartedMap, 2);
     let (mut first, mut second) = last_two(&rt, &shared, &mut seats);
     let inv = MapInv::Get(Text::of(alloc, b"a")?);
     answers(&rt, alloc, &shared, &mut first, inv, None, 1);
@@ -149,7 +132,7 @@ fn a_map_in_parts(rt: HostRuntime) -> Result<(), Fail> {
     let inv = MapInv::Get(Text::of(alloc, b"")?);
     answers(&rt, alloc, &shared, &mut first, inv, Some(0), 9);
     assert!(rt; second.refresh(&shared) == Ok(9));
-    let map = &second.version().state;
+    let map = &second.version(&shared).state;
     assert!(rt; map.number_of(&Text::of(alloc, b"a")?) == Some(9));
     assert!(rt; map.number_of(&Text::of(alloc, b"A")?) == None);
     Ok(())
@@ -158,7 +141,7 @@ fn a_map_in_parts(rt: HostRuntime) -> Result<(), Fail> {
 #[test]
 fn versions_are_followed(rt: HostRuntime) {
     let alloc = rt.alloc();
-    let (shared, mut seats) = opened(&rt, alloc, Stack, 2, 3);
+    let (shared, mut seats) = opened(&rt, alloc, Stack, 2);
     let (mut first, mut second) = last_two(&rt, &shared, &mut seats);
     assert!(rt; second.follows(&shared, 0) == Ok(true));
     assert!(rt; second.follows(&shared, 1) == Ok(false));
@@ -182,40 +165,30 @@ fn versions_are_followed(rt: HostRuntime) {
         StackResp::Popped(7),
         2,
     );
+    assert!(rt; first.follows(&shared, 2) == Ok(true));
+    assert!(rt; first.follows(&shared, u64::MAX) == Ok(false));
 }
 
 /// A seat keeps the version that it found, whatever the others do, until it looks again.
 #[test]
 fn reading_is_no_call(rt: HostRuntime) -> Result<(), Fail> {
     let alloc = rt.alloc();
-    let (shared, mut seats) = opened(&rt, alloc, Stack, 2, 1);
+    let (shared, mut seats) = opened(&rt, alloc, Stack, 2);
     let (mut first, mut second) = last_two(&rt, &shared, &mut seats);
+    assert!(rt; newest(alloc, &second.version(&shared).state)?.as_slice() == b"empty".as_slice());
     assert!(rt; second.refresh(&shared) == Ok(0));
     let inv = StackInv::Push(7);
     answers(&rt, alloc, &shared, &mut first, inv, StackResp::Pushed, 1);
-    assert!(rt; newest(alloc, &second.version().state)?.as_slice() == b"empty".as_slice());
+    assert!(rt; newest(alloc, &second.version(&shared).state)?.as_slice() == b"empty".as_slice());
     for _ in 0..3 {
         assert!(rt; second.refresh(&shared) == Ok(1));
-        assert!(rt; newest(alloc, &second.version().state)?.as_slice() == b"7".as_slice());
+        assert!(rt; newest(alloc, &second.version(&shared).state)?.as_slice() == b"7".as_slice());
     }
-    assert!(rt; is_row(&second.version().rows, 0, 1, Some(StackResp::Pushed)));
-    assert!(rt; is_row(&second.version().rows, 1, 0, None));
+    assert!(rt; is_row(&second.version(&shared).rows, 0, 1, Some(StackResp::Pushed)));
+    assert!(rt; is_row(&second.version(&shared).rows, 1, 0, None));
     let inv = StackInv::Push(8);
     answers(&rt, alloc, &shared, &mut second, inv, StackResp::Pushed, 2);
-    assert!(rt; newest(alloc, &second.version().state)?.as_slice() == b"8".as_slice());
     assert!(rt; first.refresh(&shared) == Ok(2));
-    assert!(rt; newest(alloc, &first.version().state)?.as_slice() == b"8".as_slice());
-    Ok(())
-}
-
-#[test]
-fn closed_before_any_call(rt: HostRuntime) -> Result<(), Fail> {
-    let alloc = rt.alloc();
-    let (shared, mut seats) = opened(&rt, alloc, Stack, 2, 3);
-    let (first, _second) = last_two(&rt, &shared, &mut seats);
-    let last = shared.close_with(first);
-    assert!(rt; newest(alloc, &last.state)?.as_slice() == b"empty".as_slice());
-    assert!(rt; last.rows.len() == 2);
-    assert!(rt; is_row(&last.rows, 1, 0, None));
+    assert!(rt; newest(alloc, &first.version(&shared).state)?.as_slice() == b"8".as_slice());
     Ok(())
 }

@@ -5,9 +5,9 @@ ghost use Rattle.std.specs.Prelude.{◌≡◌, IfOk, All, nat_eq};
 ghost use Rattle.std.specs.Cmp.{nat_eq_equiv, partial_equiv_from_equiv};
 ghost use Rattle.seq_object.specs.Exact.{nat_eq_exact};
 ghost use Rattle.seq_object.specs.SwapRegister.{swap_register};
-ghost use Rattle.uni_any.specs.Belongs.{IsSeatOf};
+ghost use Rattle.uni_any.specs.Seats.{IsSeatOf};
 
-use crate::seats::{is_row, last_two, opened};
+use crate::seats::{last_two, opened};
 use seq_object::SeqObject;
 use std::alloc::{AllocError, Global};
 use std::cell::Cell;
@@ -17,8 +17,8 @@ use uni_any::{AnyAnswer, AnyFault, AnyOpenFault, AnyResumeFault, AnySeat, AnySha
 
 /// What a call asks for.
 #[derive(Drop)]
-struct Asked {
-    number: u32,
+pub(crate) struct Asked {
+    pub(crate) number: u32,
 }
 
 impl Model for Asked {
@@ -46,9 +46,9 @@ impl Eq for Asked {
 /// A register that answers the number before, at first 9. One request for memory is refused: for a start state or
 /// a next one.
 #[derive(Drop)]
-struct Scarce<'a> {
+pub(crate) struct Scarce<'a> {
     /// How many requests are granted before the one that is refused.
-    granted: &'a Cell<u64>,
+    pub(crate) granted: &'a Cell<u64>,
 }
 
 impl Scarce<'_> {
@@ -93,7 +93,7 @@ impl<'a> SeqObject for Scarce<'a> {
 }
 
 /// The seat's call of this number, resumed where it was refused memory: its reply, and its version.
-fn called<'a>(
+pub(crate) fn called<'a>(
     rt: &impl Abort,
     alloc: Global,
     shared: &AnyShared<Scarce<'a>>,
@@ -113,10 +113,10 @@ fn called<'a>(
     (answer.reply, answer.version)
 }
 
-/// Three calls of two seats, with this request refused: how many requests there were.
+/// Four calls of two seats, with this request refused: how many requests there were.
 fn calls_with(rt: &impl Abort, alloc: Global, refused: u64) -> u64 {
     let granted = Cell::new(refused);
-    let fault = AnyShared::open(alloc, Scarce { granted: &granted }, 2, 2).err();
+    let fault = AnyShared::open(alloc, Scarce { granted: &granted }, 2).err();
     assert!(rt;
         fault
             == if refused == 0 {
@@ -129,24 +129,23 @@ fn calls_with(rt: &impl Abort, alloc: Global, refused: u64) -> u64 {
     if refused == 0 {
         granted.set(u64::MAX);
     }
-    let (shared, mut seats) = opened(rt, alloc, Scarce { granted: &granted }, 2, 2);
+    let (shared, mut seats) = opened(rt, alloc, Scarce { granted: &granted }, 2);
     let (mut first, mut second) = last_two(rt, &shared, &mut seats);
     assert!(rt; called(rt, alloc, &shared, &mut first, 5) == (9, 1));
     assert!(rt; called(rt, alloc, &shared, &mut second, 6) == (5, 2));
     assert!(rt; called(rt, alloc, &shared, &mut first, 7) == (6, 3));
-    let last = shared.close_with(second);
-    assert!(rt; last.state == 7);
+    assert!(rt; called(rt, alloc, &shared, &mut second, 8) == (7, 4));
     refused.wrapping_sub(granted.get())
 }
 
 #[test]
 fn each_request_is_refused_in_turn(rt: HostRuntime) {
     let alloc = rt.alloc();
-    // The start and three next states; a state that was refused is asked for again.
-    for refused in 1..4 {
-        assert!(rt; calls_with(&rt, alloc, refused) == 5);
+    // The start and four next states; a state that was refused is asked for again.
+    for refused in 1..5 {
+        assert!(rt; calls_with(&rt, alloc, refused) == 6);
     }
-    assert!(rt; calls_with(&rt, alloc, 4) == 4);
+    assert!(rt; calls_with(&rt, alloc, 5) == 5);
     calls_with(&rt, alloc, 0);
 }
 
@@ -154,7 +153,7 @@ fn each_request_is_refused_in_turn(rt: HostRuntime) {
 fn a_call_that_was_refused_is_helped(rt: HostRuntime) {
     let alloc = rt.alloc();
     let granted = Cell::new(1);
-    let (shared, mut seats) = opened(&rt, alloc, Scarce { granted: &granted }, 2, 2);
+    let (shared, mut seats) = opened(&rt, alloc, Scarce { granted: &granted }, 2);
     let (mut first, mut second) = last_two(&rt, &shared, &mut seats);
     let refused = first.apply(alloc, &shared, Asked { number: 5 });
     assert!(rt; refused == Err(AnyFault::Memory));
@@ -172,21 +171,27 @@ fn a_call_that_was_refused_is_helped(rt: HostRuntime) {
             })
     );
     assert!(rt; first.resume(alloc, &shared) == Err(AnyResumeFault::NothingPending));
-    let last = shared.close_with(second);
-    assert!(rt; last.state == 6);
-    assert!(rt; is_row(&last.rows, 0, 1, Some(9)));
-    assert!(rt; is_row(&last.rows, 1, 1, Some(5)));
+    assert!(rt; called(&rt, alloc, &shared, &mut second, 7) == (6, 2));
 }
 
 #[test]
-fn closed_with_a_pending_call(rt: HostRuntime) {
+fn counts_that_are_refused(rt: HostRuntime) {
     let alloc = rt.alloc();
-    let granted = Cell::new(1);
-    let (shared, mut seats) = opened(&rt, alloc, Scarce { granted: &granted }, 2, 2);
-    let (mut first, _second) = last_two(&rt, &shared, &mut seats);
-    let refused = first.apply(alloc, &shared, Asked { number: 5 });
-    assert!(rt; refused == Err(AnyFault::Memory));
-    let last = shared.close_with(first);
-    assert!(rt; last.state == 9);
-    assert!(rt; is_row(&last.rows, 0, 0, None));
+    for n in [0, 65, u64::MAX] {
+        let granted = Cell::new(u64::MAX);
+        let fault = AnyShared::open(alloc, Scarce { granted: &granted }, n).err();
+        assert!(rt; fault == Some(AnyOpenFault::BadCount));
+        assert!(rt; granted.get() == u64::MAX);
+    }
+}
+
+#[test]
+fn the_last_of_sixty_four_processes(rt: HostRuntime) {
+    let alloc = rt.alloc();
+    let granted = Cell::new(u64::MAX);
+    let (shared, mut seats) = opened(&rt, alloc, Scarce { granted: &granted }, 64);
+    let (mut first, mut second) = last_two(&rt, &shared, &mut seats);
+    assert!(rt; called(&rt, alloc, &shared, &mut second, 5) == (9, 1));
+    assert!(rt; called(&rt, alloc, &shared, &mut first, 6) == (5, 2));
+    assert!(rt; called(&rt, alloc, &shared, &mut second, 7) == (6, 3));
 }

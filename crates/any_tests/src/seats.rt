@@ -1,25 +1,24 @@
 //! Objects that are opened, and their seats.
 
 ghost use Rattle.std.specs.Prelude.{◌≡◌, All, length};
-ghost use Rattle.uni_any.specs.Belongs.{IsSeatOf};
+ghost use Rattle.uni_any.specs.Seats.{IsSeatOf};
 
 use seq_object::SeqObject;
 use std::alloc::Global;
 use std::process::Abort;
 use uni_any::{AnySeat, AnyShared, Row};
 
-/// An object of so many processes, with so many calls of each, and their seats.
+/// An object of so many processes, and their seats.
 pub(crate) fn opened<O: SeqObject>(
     rt: &impl Abort,
     alloc: Global,
     object: O,
     n: u64,
-    calls: u64,
 ) -> (AnyShared<O>, Vec<AnySeat<O>>)
     ensures count { length result.1.items ≡ n }
     ensures own { All (IsSeatOf result.0) result.1.items }
 {
-    let Ok(opened) = AnyShared::open(alloc, object, n, calls) else {
+    let Ok(opened) = AnyShared::open(alloc, object, n) else {
         panic!(rt; "not opened")
     };
     opened

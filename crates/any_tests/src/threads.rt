@@ -1,7 +1,7 @@
 //! Calls of four threads at the same time, on a stack and on a map of texts in parts. A fifth seat closes.
 
 ghost use Rattle.std.specs.Prelude.{All};
-ghost use Rattle.uni_any.specs.Belongs.{IsSeatOf};
+ghost use Rattle.uni_any.specs.Seats.{IsSeatOf};
 
 use crate::calls::newest;
 use crate::seats::{last, opened};
@@ -99,7 +99,7 @@ fn unmark_popped(marks: &mut [bool], replies: &[StackResp]) -> bool {
 #[test]
 fn four_threads_on_a_stack(rt: HostRuntime) -> Result<(), Fail> {
     let alloc = rt.alloc();
-    let (shared, mut seats) = opened(&rt, alloc, Stack, THREADS + 1, CALLS);
+    let (shared, mut seats) = opened(&rt, alloc, Stack, THREADS + 1);
     let closer = last(&rt, &shared, &mut seats);
     let Some(all) = on_a_stack(&rt, alloc, &shared, seats) else {
         panic!(rt; "out of memory")
@@ -113,7 +113,8 @@ fn four_threads_on_a_stack(rt: HostRuntime) -> Result<(), Fail> {
     for (number, is_left) in marks.iter().enumerate() {
         assert!(rt; *is_left == (number % 2 == 1));
     }
-    let last = shared.close_with(closer);
+    let closed = shared.close_with(closer);
+    let last = closed.block();
     assert!(rt; newest(alloc, &last.state)?.as_slice() == b"empty".as_slice());
     assert!(rt; last.rows.len() == 5);
     for (p, row) in last.rows.iter().enumerate() {
@@ -182,7 +183,7 @@ fn unmark_before(marks: &mut [bool], replies: &[Option<u64>]) -> Option<u64> {
 #[test]
 fn four_threads_on_a_map(rt: HostRuntime) -> Result<(), Fail> {
     let alloc = rt.alloc();
-    let (shared, mut seats) = opened(&rt, alloc, PartedMap, THREADS + 1, CALLS);
+    let (shared, mut seats) = opened(&rt, alloc, PartedMap, THREADS + 1);
     let mut closer = last(&rt, &shared, &mut seats);
     let Some(all) = on_a_map(&rt, alloc, &shared, seats) else {
         panic!(rt; "out of memory")

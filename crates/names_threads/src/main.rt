@@ -3,7 +3,7 @@
 #![tactic(auto)]
 
 ghost use Rattle.std.specs.Prelude.{All, IfSome};
-ghost use Rattle.uni_any.specs.Belongs.{IsSeatOf};
+ghost use Rattle.uni_any.specs.Seats.{IsSeatOf};
 
 use ready_objects::{Amount, DirectoryInv, DirectoryObject, DirectoryResp, Name};
 use std::alloc::Global;
@@ -76,8 +76,7 @@ fn put_in_threads<R: Threads + Sync>(
 
 /// How many names there are after all threads have ended; `None` where memory was refused.
 fn run<R: Threads + Sync>(rt: &R, alloc: Global) -> Option<u64> {
-    let opened = AnyShared::open(alloc, DirectoryObject, THREADS + 1, 2 * NAMES);
-    let (map, seats) = opened.ok()?;
+    let (map, seats) = AnyShared::open(alloc, DirectoryObject, THREADS + 1).ok()?;
     let (mut last, others) = last_and_others(&map, seats)?;
     put_in_threads(rt, alloc, &map, others)?;
     let answer = last.apply(alloc, &map, DirectoryInv::Size).ok()?;

@@ -1,6 +1,5 @@
 -- The acts of a process in a history.
-use Rattle.uni_any.specs.Laws.{responses, returned_by}
-use Rattle.uni_any.proofs.Vocabulary.{drop, Local, Act, Invoke, Invoked, Linearize, List, Respond, Returned, [], acts_by, ap, append-nil, arith, inl, inr, length, map, number_cases, plain, refl, sequential_acts, suc, sym, ℕ, ◌++◌, ◌+◌, ◌∙◌, ◌∷◌, ◌≡◌, ◌≢◌}
+use Rattle.uni_any.proofs.Vocabulary.{Act, Invoke, Invoked, Linearize, List, Respond, Returned, [], acts_by, ap, append-nil, arith, inl, inr, length, map, number_cases, plain, refl, sequential_acts, suc, sym, ℕ, ◌++◌, ◌+◌, ◌∙◌, ◌∷◌, ◌≡◌, ◌≢◌}
 
 pub acts_by-append : {I R : Type 0} (p : ℕ) (xs ys : List (Act I R)) → acts_by p (xs ++ ys) ≡ acts_by p xs ++ acts_by p ys
 acts_by-append p [] ys = refl
@@ -52,19 +51,3 @@ sequential_acts-snoc p k (x ∷ xs) c =
     let e : length xs + (k + 1) ≡ suc (length xs) + k = omega arith in
     ap (λ l. Invoke p k x.inv ∷ Respond p k x.reply ∷ l) (sequential_acts-snoc p (k + 1) xs c
     ∙ ap (λ j. sequential_acts p (k + 1) (map plain xs) ++ Invoke p j c.inv ∷ Respond p j c.reply ∷ []) e)
-
--- the calls of a process that have returned by a step: none, or one
-drop_all : {A : Type 0} (xs : List A) → drop (length xs) xs ≡ []
-drop_all [] = refl
-drop_all (x ∷ xs) = drop_all xs
-
-drop_last : {A : Type 0} (xs : List A) (a : A) → drop (length xs) (xs ++ a ∷ []) ≡ a ∷ []
-drop_last [] a = refl
-drop_last (x ∷ xs) a = drop_last xs a
-
-pub none_returned : {S I R : Type 0} (p : ℕ) (before after : Local I S R) → after.own ≡ before.own → returned_by p before after ≡ []
-none_returned p before after same = ap (λ calls. responses p (length before.own) (drop (length before.own) calls)) same ∙ ap (responses p (length before.own)) (drop_all before.own)
-
-pub one_returned : {S I R : Type 0} (p : ℕ) (before after : Local I S R) (call : Returned I R) → after.own ≡ before.own ++ call ∷ [] → returned_by p before after ≡ Respond p (length before.own) call.reply ∷ []
-one_returned p before after call more =
-    ap (λ calls. responses p (length before.own) (drop (length before.own) calls)) more ∙ ap (responses p (length before.own)) (drop_last before.own call)

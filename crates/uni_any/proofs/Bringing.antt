@@ -1,380 +1,471 @@
 -- The exchange that brings a block in: the calls that it applied take effect, and the own call returns.
-use Rattle.uni_any.proofs.Vocabulary.{AcceptsAll-append, Act, AreOrdered, AreWords, Asked, Atomic, Block, Board, Contains, Contains-append_cases, HasBrought, HasSeen, Idle, Image, Invoke, Invoked, IsAt, IsBoard, IsHistory, IsOf, IsOpen, IsOrdered, IsStageAt, IsTold, IsTrying, Linearize, List, Local, Mail, Mine, None, Option, Posting, Reading, Ready, Respond, Returned, Sequential, Sizes, Some, Stage, Step, Writing, [], acts_by, ap, append-nil, append_assoc, applied_in, arith, at_start, block_frame, call_frame, either, ending, eqb, exchanged, false, first_image, get_or-set_other, get_or-set_same, goes, has_block, image_from, in_of, inl, inr, inv_of, keeps, length, length-append, length-map, length-set, local_of, lt_cases, made_of, map, map-append, mul-le-mul_right, number_cases, pending_of, plain, refl, response_at, response_at-append, returns, row_in, sequential_acts, set_at, set_at-cases, set_at_elsewhere, set_at_same, slice_get, slice_get-append_left, slice_get-append_right, slice_index, slice_set, span, stage_of, subst, sym, true, version_in, with_local, word_of, ℕ, ◌*◌, ◌++◌, ◌+◌, ◌/◌, ◌<◌, ◌∙◌, ◌∷◌, ◌≡◌, ◌≢◌, ◌≤◌, ◌⊎◌}
-use Rattle.uni_any.proofs.Acts.{one_returned, acts_by-append, acts_by-linearized, responded_other, responded_own, sequential_acts-snoc}
-use Rattle.uni_any.proofs.Batches.{applied_from, image_from-append, linearized, row_from, state_from, taken_from}
+use Rattle.uni_any.proofs.Vocabulary.{IsStep, moment_of, AcceptsAll-append, Act, HasFollowed, AllowsChange, AreOrdered, Board, Contents, HasBrought, HasCome, HasDrafted, HasLast, HasTaken, Idle, Image, Invoke, Invoked, IsAt, IsBoard, IsHistory, IsOpen, IsOrdered, IsReader, IsShown, IsStageAt, IsTold, IsTrying, IsWhole, Letter, Linearize, List, Local, None, Option, Posting, Reading, Ready, Respond, Returned, Sequential, ShowsBoard, Some, Stage, Told, Version, View, Writing, [], acts_by, announced_at, announced_by, ap, applied_in, arith, at_start, base_of, begun, block_news, brought, called_by, either, ending, get_elem?, in_of, inl, inr, length, length-append, local_of, lt_cases, made_by, map, missed, number_in, pending_of, plain, posted, posted_at, process_in, refl, response_at, row_in, sequential_acts, set_at, set_at-cases, set_at_elsewhere, set_at_same, slice_set, some, stage_of, subst, sym, with_local, word_of, ℕ, ◌++◌, ◌+◌, ◌<◌, ◌∙◌, ◌∷◌, ◌≡◌, ◌≢◌, ◌≤◌, ◌⊎◌, HasBatch, Moves, ShowsNext, append-nil, responses, returned_by, with_word}
+use Rattle.std.proofs.Common.{append_assoc, ◌==◌}
+use Rattle.atomic_table.proofs.Lists.{exchanged}
+use Rattle.uni_any.proofs.Framing.{keeps_rule, buffers_same, drop_past, mine, own, shown_with, sound_with}
+use Rattle.uni_any.proofs.Growing.{accepted_then, agreed', agreed_then, acts_lin, board_then, calls, calls_then, come_cases, come_new, come_up, image_then, in_least, in_most, order1, place_before, still_taken, taken_then}
+use Rattle.uni_any.specs.Execution.{present_in}
 use Rattle.uni_any.specs.Execution.Next.{Bring, Fail}
-use Rattle.uni_any.specs.Laws.{Moves, TakesEffect}
-use Rattle.uni_any.proofs.Effects.{effects_are}
-use Rattle.uni_any.proofs.Frame.{Found, Given, sound_with, step_law}
-use Rattle.uni_any.proofs.Announcing.{reader_goes}
-use Rattle.uni_any.proofs.Ordering.{in_next, order_grown, order_kept, order_with, ordered_returned, response_stays, version_rises}
-use Rattle.uni_any.proofs.Posting.{words_same}
-use Rattle.uni_any.proofs.Slots.{block_number, row_and_column, slots_kept}
-use Rattle.uni_any.proofs.Stays.{stage_stays}
+use Rattle.uni_any.proofs.Effects.{effects_are, present_is}
+use Rattle.uni_any.proofs.Histories.{history_kept, own_told}
+use Rattle.uni_any.proofs.Orders.{followed_more, order_kept}
+use Rattle.uni_any.proofs.Posting.{keeps_same}
+use Rattle.uni_any.proofs.Starting.{present_image}
+use Rattle.uni_any.proofs.Staying.{board_stays, later, others_stay, reader_stays}
+use Rattle.uni_any.proofs.Acts.{responded_other, responded_own, sequential_acts-snoc}
+use Rattle.uni_any.proofs.Ordering.{ordered_returned, version_rises}
 use Rattle.uni_any.proofs.Sums.{rows_rise}
-use Rattle.uni_any.proofs.Takings.{history_taken}
-use mathlib.Core.Option.{Option as Maybe}
 
--- a call that was seen is open
-open_of : {S I R : Type 0} (object : Sequential S I R) (sizes : Sizes) (g : Board I S R) (q : ℕ) (l : Local I S R) (stage : Stage I S R) (c : Invoked I) → IsStageAt object sizes g q l stage → IsTold object g q l.own (pending_of stage)
-    → c.process ≡ q → c.nth ≡ in_of g q → g.announced q ≡ c.nth + 1 → g.content (call_frame sizes q c.nth) ≡ Asked c.inv → g.atomic.open_call q ≡ Some c
-open_of {S} {I} {R} object sizes g q l stage c = by_stage stage where
-  opened : (inv : I) → IsOpen sizes g q (length l.own) inv → IsTold object g q l.own (Some inv) → c.process ≡ q → c.nth ≡ in_of g q → g.announced q ≡ c.nth + 1 → g.content (call_frame sizes q c.nth) ≡ Asked c.inv → g.atomic.open_call q ≡ Some c
-  opened inv h t at nth due asks =
-      let same : length l.own ≡ c.nth = (let a = h.1 in omega arith) in
-      let e : Asked inv ≡ Asked c.inv = sym h.3 ∙ ap (λ k. g.content (call_frame sizes q k)) same ∙ asks in
-      let i : inv ≡ c.inv = cc in
-      t.0 ∙ (λ k. Some (record { process = sym at k; nth = same k; inv = i k }))
-
-  by_stage : (stage : Stage I S R) → IsStageAt object sizes g q l stage → IsTold object g q l.own (pending_of stage)
-      → c.process ≡ q → c.nth ≡ in_of g q → g.announced q ≡ c.nth + 1 → g.content (call_frame sizes q c.nth) ≡ Asked c.inv → g.atomic.open_call q ≡ Some c
-  by_stage Idle h t at nth due asks = absurd (let a = h.0.0 in let b = h.0.1 in omega arith)
-  by_stage (Posting inv count out) h t at nth due asks = absurd (let a = h.0.0 in let b = h.0.1 in omega arith)
-  by_stage (Ready inv tries) h t at nth due asks = opened inv h.0 t at nth due asks
-  by_stage (Reading inv tries r image) h t at nth due asks = opened inv h.0 t at nth due asks
-  by_stage (Writing inv tries image count out) h t at nth due asks = opened inv h.0 t at nth due asks
-
-module _ {O I S R : Type 0} (meaning : O → Sequential S I R) (o : O) (sizes : Sizes) (id : ℕ) (me : Mine O I S R) (p : ℕ) (of : IsOf o sizes p me)
-    (inv : I) (tries : ℕ) (image : Image S R) (stage : stage_of me ≡ Writing inv tries image sizes.processes false) (st : Step (Mail I (Block S R)))
-    (new_is : st.second ≡ word_of ((local_of me).word / span + 1) (me.0.known.first * sizes.calls + made_of me + 1)) where
+module _ {O I S R : Type 0} (meaning : O → Sequential S I R) (o : O) (n id : ℕ) (v : View O I S R) (alone : v.known.count ≡ 1) (processes : v.known.processes ≡ n) (inv : I) (tries : ℕ) (image : Image S R) (stage : stage_of v ≡ Writing inv tries image n) where
   abbrev l : Local I S R
-  l = local_of me
+  l = local_of v
 
-  abbrev m : ℕ
-  m = made_of me
+  abbrev p : ℕ
+  p = v.known.first
 
-  abbrev q0 : ℕ
-  q0 = me.0.known.first
+  abbrev new : ℕ
+  new = word_of (number_in l.word + 1) p
 
-  abbrev object : Sequential S I R
-  object = meaning o
+  pending_is : pending_of l.stage ≡ Some inv
+  pending_is = ap pending_of stage
 
-  abbrev f0 : ℕ
-  f0 = block_frame sizes (q0 * sizes.calls + m)
+  announced_was : announced_by n l ≡ made_by l + 1
+  announced_was = ap (announced_at n (made_by l)) stage
 
-  module _ (g : Board I S R) (local : ℕ → Local I S R) (words : List ℕ) (homes : List (Maybe (Mail I (Block S R)))) (f : Found meaning o sizes me g local words homes) where
-    abbrev w : ℕ
-    w = slice_index words 0
+  called_was : called_by l ≡ made_by l + 1
+  called_was = ap (begun (made_by l)) pending_is
 
-    board : IsBoard sizes g
-    board = f.sound.board
+  posted_was : (r : ℕ) → r < n → block_news l inv image ≡ posted l r
+  posted_was r r_in = sym (ap (λ s. posted_at l s r) stage ∙ elim (lt_cases r n) [ inl e ↦ rw e.1 refl | inr e ↦ absurd (let a = e.0 in omega (arith, r_in)) ])
 
-    at : IsStageAt object sizes g q0 l (Writing inv tries image sizes.processes false)
-    at = subst (IsStageAt object sizes g q0 l) stage f.mine.stage
+  module _ (c : Contents (Letter I S R) (View O I S R)) (g : Board I S R) (local : ℕ → Local I S R) (seat_of : ℕ → ℕ) (is : IsShown n meaning o g local seat_of c) (at : get_elem? c.views id ≡ some v) where
+    abbrev object : Sequential S I R
+    object = meaning o
 
-    trying : IsTrying object sizes g q0 l tries sizes.processes image
-    trying = at.3
+    p_in : p < n
+    p_in = (own meaning o n id v alone c g local seat_of is at).0
 
-    small : g.current < 4294967296
-    small = (let a = board.current in let b : sizes.processes * sizes.calls ≤ 64 * sizes.calls = mul-le-mul_right sizes.calls f.few.1 in let c = f.few.2 in omega arith)
+    local_is : local p ≡ l
+    local_is = (own meaning o n id v alone c g local seat_of is at).2
 
-    miss : w ≢ l.word → Given object sizes me g local words 0 w homes (TakesEffect object sizes g q0 w image) (HasBrought st me w)
-    miss apart = record {
-      board = g;
-      local' = goes l (Ready inv (tries + 1));
-      acts = [];
-      appended = sym (append-nil g.acts);
-      made = ((λ e. absurd (apart e)), (λ n. refl));
-      act = keeps;
-      single = tt;
-      valid = tt;
-      sound = sound_with object sizes g g local q0 (goes l (Ready inv (tries + 1))) f.sound board (λ q q_in n h. h) (record {
-        stage = (
-          at.0,
-          at.1,
-          (λ z e. elim (lt_cases z sizes.processes) [
-            | inl below ↦ (let x = at.2.written z below.0 in omega arith)
-            | inr above ↦ elim (number_cases z sizes.processes) [
-              | inl same ↦ (let x : false ≡ true = at.2.next (ap (g.slot f0) (sym same.0) ∙ e) in cc)
-              | inr other ↦ at.2.others z (let a = above.0 in let n = other.0 in omega arith) e
-            ]
-          ]),
-          (elim f.mine.reader.old [
-            | inl same ↦ absurd (apart (f.words_are.current ∙ sym same))
-            | inr old ↦ (let a = trying.later in omega arith)
-          ]),
-        );
-        apart = f.mine.apart;
-        reader = reader_goes sizes g q0 l (Ready inv (tries + 1)) f.mine.reader;
-      }) (history_taken object sizes g local q0 g.slot l (goes l (Ready inv (tries + 1))) f.local_is refl (sym (ap pending_of stage)) f.sound.history)
-          (order_kept object sizes.processes g.atomic.agreed g.calls_in_version g.version local f.sound.order q0 l (goes l (Ready inv (tries + 1))) f.inside f.local_is refl refl);
-      words_are = words_same sizes g g words 0 refl refl refl f.words_are;
-      slots_are = f.slots_are;
-      said = λ inv' tries' r' image' stage'.
-          let e : Writing inv tries image sizes.processes false ≡ Writing inv' tries' image' r' false = sym stage ∙ stage' in
-          let e0 : inv ≡ inv' = cc in let e1 : tries ≡ tries' = cc in
-          ((λ same. absurd (apart same)), (λ n. (λ k. (with_local me.0 (goes l (Ready (e0 k) (e1 k + 1))), me.1))));
-      can = (Fail inv tries image stage apart, refl);
-    }
+    its : IsAt object n g local p l
+    its = mine meaning o n id v alone c g local seat_of is at
 
-    module _ (same : w ≡ l.word) where
-      is : l.word ≡ word_of g.version g.current
-      is = sym same ∙ f.words_are.current
+    at_stage : IsStageAt object n g local p l (Writing inv tries image n)
+    at_stage = subst (IsStageAt object n g local p l) stage its.stage
 
-      seen : HasSeen object sizes g q0 sizes.processes image
-      seen = trying.fresh is
+    -- S has changed: the attempt has failed
+    module _ (apart : c.words 0 ≢ l.word) where
+      abbrev l0 : Local I S R
+      l0 = missed l inv tries image
 
-      abbrev calls : List (Invoked I)
-      calls = seen.batch.calls
+      miss : ShowsNext meaning o n g local seat_of (record { words = set_at c.words 0 (c.words 0); buffers = c.buffers; views = slice_set c.views id (with_local v l0) }) p l0 []
+      miss =
+          let pend : pending_of l0.stage ≡ pending_of l.stage = sym pending_is in
+          let keeps = keeps_same l l0 refl pend in
+          let called : called_by l0 ≡ called_by l = (λ k. begun (made_by l) (pend k)) in
+          let announced : announced_by n l0 ≡ announced_by n l = sym announced_was in
+          let told_on : called_by l ≡ in_of g p + 1 → called_by l0 ≡ in_of g p + 1 = (λ e. called ∙ e) in
+          let asked_on : (i : I) → in_of g p ≡ made_by l → pending_of l.stage ≡ Some i → (made_by l0 ≡ made_by l) × (pending_of l0.stage ≡ Some i) = (λ i e some_was. (refl, pend ∙ some_was)) in
+          let since_else : (q : ℕ) → q ≢ p → g.since q ≡ g.since q = (λ q apart. refl) in
+          let announced_on : g.since p < g.number → (g.since p ≡ g.since p) × (announced_by n l0 ≡ announced_by n l) = (λ before. (refl, announced)) in
+          let open' = g.atomic.open_call in
+          let next' = g.atomic.next_nth in
+          let g' = later object n g local p l l0 local_is g.since open' next' g.acts in
+          let w = its.writer in
+          let rd = reader_stays object n g local p l l0 local_is g.since open' next' g.acts since_else announced_on (omega arith) keeps told_on asked_on l its.reader in
+          shown_with meaning o n id v alone c g local seat_of is at l0 g' [] (sym (append-nil g.acts)) (set_at c.words 0 (c.words 0)) c.buffers (set_at_same c.words 0 (c.words 0) ∙ is.word) (buffers_same meaning o n id v alone c g local seat_of is at l0 refl posted_was)
+          (sound_with object n g g' local p l0 is.sound
+          (board_stays object n g local p l l0 local_is g.since open' next' g.acts since_else announced_on (omega arith) keeps told_on asked_on (omega (arith, called)) (is.sound.board.past p p_in) is.sound.board)
+          (λ q q_in apart h. others_stay object n g local p l l0 local_is g.since open' next' g.acts since_else announced_on (omega arith) keeps told_on asked_on q apart h)
+          (record {
+            stage = (
+              (record { few = at_stage.0.0.few; least = at_stage.0.0.least; most = at_stage.0.0.most }, refl),
+              elim its.reader.old [ inl same ↦ absurd (apart (is.word ∙ sym same)) | inr old ↦ (let a = at_stage.1.later in omega (arith, old)) ],
+            );
+            writer = record {
+              last = w.last;
+              present = w.present;
+              written = inl refl;
+              called = omega arith;
+              inv = λ e. refl;
+              made = omega arith;
+            };
+            reader = record { long = rd.long; process = rd.process; known = rd.known; old = rd.old; called = rd.called; inv = rd.inv };
+          })
+          (history_kept object n g local p l l0 local_is g.since is.sound.history p_in refl pend)
+          (order_kept object n g local p l l0 local_is g.since open' next' g.acts is.sound.order p_in refl refl))
 
-      abbrev agreed' : List (Invoked I)
-      agreed' = g.atomic.agreed ++ calls
+    -- S is as it was: the block is in
+    module _ (same : c.words 0 ≡ l.word) where
+      fresh : l.word ≡ word_of g.number g.process
+      fresh = sym same ∙ is.word
 
-      in_was : in_of g q0 ≡ m
-      in_was = ap (λ (z : Image S R). applied_in z q0) (sym (f.mine.reader.same is)) ∙ trying.lacks
+      number_is : number_in l.word ≡ g.number
+      number_is = (let b = is.sound.board.process in let d = is.few.1 in let e : number_in l.word ≡ number_in (word_of g.number g.process) = ap number_in fresh in omega (arith, b, d, e))
 
-      in_now : applied_in image q0 ≡ m + 1
-      in_now = (let a = seen.caught q0 f.inside (inl refl) in let b = at.0.1 in let c = in_was in elim (seen.told q0 f.inside) [ inl x ↦ absurd (omega arith) | inr x ↦ (let y = x.1 in omega arith) ])
+      drafted : HasDrafted object n g local p image
+      drafted = at_stage.4 fresh
 
-      reply : (x : R) × ((row_in image q0).reply ≡ Some x)
-      reply = trying.whole.replies q0 f.inside (let a = in_now in omega arith)
+      whole : IsWhole n image
+      whole = at_stage.3
+
+      -- the present version
+      now : (x : Version S R) × HasCome object n g x × (x.image ≡ g.image)
+      now =
+          let w = (is.sound.each g.process is.sound.board.process).writer in
+          ((local g.process).last, w.last, present_image object n g local is.sound.history is.sound.order (local g.process).last w.last (let a = w.present refl in omega arith))
+
+      now_number : now.0.number ≡ g.number
+      unfolding now
+      now_number = (is.sound.each g.process is.sound.board.process).writer.present refl
+
+      wide : length g.image.rows ≡ n
+      wide = ap (λ (z : Image S R). length z.rows) (sym now.2) ∙ (is.sound.board.whole now.0 now.1).long
+
+      in_was : in_of g p ≡ made_by l
+      in_was = drafted.lacks ∙ ap (λ (z : Local I S R). made_by z) local_is
+
+      in_now : applied_in image p ≡ made_by l + 1
+      in_now =
+          let a = drafted.caught p p_in (inl refl) in
+          let b = ap (λ (z : Local I S R). announced_by n z) local_is in
+          let d = announced_was in
+          elim (drafted.told p p_in) [ inl e ↦ absurd (let f = in_was in omega (arith, a, b, d, e)) | inr e ↦ (let f = in_was in let h = e.0 in omega arith) ]
+
+      reply : (x : R) × ((row_in image p).reply ≡ Some x)
+      reply = whole.replies p p_in (let a = in_now in omega arith)
 
       abbrev x : R
       x = reply.0
 
-      abbrev b : ℕ
-      b = q0 * sizes.calls + m
+      abbrev l' : Local I S R
+      l' = brought l inv x image
 
-      abbrev atomic1 : Atomic S I
-      atomic1 = record g.atomic { agreed = agreed' }
+      abbrev local' : ℕ → Local I S R
+      local' = set_at local p l'
 
-      abbrev atomic2 : Atomic S I
-      atomic2 = record atomic1 { open_call = set_at g.atomic.open_call q0 None }
+      abbrev open' : ℕ → Option (Invoked I)
+      open' = set_at g.atomic.open_call p None
 
       abbrev acts2 : List (Act I R)
-      acts2 = (g.acts ++ map (λ c. Linearize c) calls) ++ Respond q0 m x ∷ []
+      acts2 = (g.acts ++ map (λ c. Linearize c) (calls object n g local is.sound p p_in image drafted)) ++ Respond p (made_by l) x ∷ []
 
       abbrev g' : Board I S R
-      g' = record g {
-        version = g.version + 1;
-        current = b + 1;
-        image = image;
-        atomic = atomic2;
-        acts = acts2;
-        calls_in_version = in_next object sizes.processes g.atomic.agreed g.calls_in_version g.version local f.sound.order calls;
-      }
+      g' = board_then object n g local is.sound p p_in image drafted p open' acts2
 
-      abbrev l' : Local I S R
-      l' = returns (has_block l st.second image) inv x
-
-      word : st.second ≡ word_of g'.version g'.current
-      word = new_is ∙ ap (λ v. word_of (v + 1) (b + 1)) (let a = is in let c = small in let d : l.word / 4294967296 ≡ g.version = omega arith in d)
-
-      in_least : (q : ℕ) → q < sizes.processes → in_of g q ≤ applied_in image q
-      in_least q q_in = elim (seen.told q q_in) [ inl e ↦ (omega arith) | inr e ↦ (let a = e.1 in omega arith) ]
-
-      in_closed : (q : ℕ) → q < sizes.processes → g.announced q ≡ in_of g q → applied_in image q ≡ in_of g q
-      in_closed q q_in closed = elim (seen.told q q_in) [ inl e ↦ e | inr e ↦ absurd (let a = e.2 in omega arith) ]
-
-      board' : IsBoard sizes g'
-      board' = record {
-        current = (let a = block_number sizes q0 m f.inside at.0.0 in omega arith);
-        image = trying.whole;
-        in_most = λ q q_in. elim (seen.told q q_in) [ inl e ↦ (let a = board.in_most q q_in in omega arith) | inr e ↦ (let a = e.1 in let c = e.2 in omega arith) ];
-        soon = λ q q_in late. seen.caught q q_in (inr (omega arith));
-        room = board.room;
-        past = λ q q_in. (let a = board.past q q_in in omega arith);
-        versions = (let a = board.versions in let c = rows_rise g.image.rows image.rows q0 (board.image.long ∙ sym trying.whole.long) (let d = board.image.long in let e = f.inside in omega arith)
-            (λ i below. in_least i (let d = board.image.long in omega arith)) (let d = in_was in let e = in_now in omega arith) in omega arith);
-      }
-
-      -- an older word isn't the new one
-      not_new : (lq : Local I S R) → (lq.word ≡ word_of g.version g.current) ⊎ (lq.word < span * g.version) → lq.word < span * (g.version + 1)
-      not_new lq (inl e) = (let a = small in omega arith)
-      not_new lq (inr e) = omega arith
-
-      others' : (q : ℕ) → q < sizes.processes → q ≢ q0 → IsAt object sizes g q (local q) → IsAt object sizes g' q (local q)
-      others' q q_in apart h =
-          let older : (local q).word < span * (g.version + 1) = not_new (local q) h.reader.old in
-          record {
-            stage = stage_stays object sizes g g' q (local q) refl (in_least q q_in) (in_closed q q_in) refl (omega arith) (λ k r below from. refl) (λ k below. refl) (λ k r below from. refl) (λ k below. refl)
-                (λ r im was fresh. absurd (omega arith)) (local q).stage h.stage;
-            apart = λ k from below e. apart (sym (row_and_column sizes.calls q0 q m k at.0.0 below (omega arith)).0);
-            reader =
-                let was = h.reader in
-                record {
-                  old = inr older;
-                  base = was.base;
-                  same = λ e. absurd (omega arith);
-                  new = λ n. (b, refl, at.2.written q q_in, at.2.content);
-                  long = was.long;
-                  call = was.call;
-                  taken_most = was.taken_most;
-                };
-          }
-
-      longer : length l'.own ≡ m + 1
+      longer : made_by l' ≡ made_by l + 1
       longer = length-append l.own _
 
-      mine' : IsAt object sizes g' q0 l'
-      mine' =
-          let was = f.mine.reader in
-          record {
-            stage = ((at.0.1 ∙ sym longer, in_now ∙ sym longer), (λ j from below. at.1 j (let e = longer in omega arith) below));
-            apart = λ k from below e. (let a = longer in omega arith);
-            reader = record { old = inl word; base = trying.whole; same = λ e. refl; new = λ n. absurd (n word); long = was.long; call = was.call; taken_most = was.taken_most };
-          }
+      cases : (q : ℕ) → ((q ≡ p) × (local q ≡ l) × (local' q ≡ l')) ⊎ ((q ≢ p) × (local' q ≡ local q))
+      cases q = elim (set_at-cases local p l' q) [ inl here ↦ inl (here.0, ap local here.0 ∙ local_is, here.1) | inr other ↦ inr other ]
 
-      -- a call that is in has taken effect, with the reply that its row has
-      taken' : (q : ℕ) (own : List (Returned I R)) (i : I) → q < sizes.processes → (opened : (c : Invoked I) → Contains calls c → g.atomic.open_call c.process ≡ Some c) → IsTold object g q own (Some i) → (y : R) → applied_in image q ≡ length own + 1 → (row_in image q).reply ≡ Some y
-          → (place : ℕ) × (slice_get agreed' place ≡ Some (record { process = q; nth = length own; inv = i })) × (response_at object object.initial (map inv_of agreed') place ≡ Some y)
-      taken' q own i q_in opened h y in' told = elim (row_from object g.image calls q) [
-        | inl c ↦
-            let e : Some c.0 ≡ Some (record { process = q; nth = length own; inv = i }) = sym (opened c.0 c.1) ∙ ap g.atomic.open_call c.2 ∙ h.0 in
-            let call : c.0 ≡ record { process = q; nth = length own; inv = i } = cc in
-            let t = taken_from object g.image 0 calls c.0 y seen.batch.rising c.1 (λ d has. let z = (seen.batch.below d has).1 in let v = board.image.long in omega arith)
-            (ap (λ k. (row_in (image_from object g.image calls) k).reply) c.2 ∙ ap (λ (z : Image S R). (row_in z q).reply) (sym seen.batch.image_is) ∙ told) in
-            let wide : length (map inv_of g.atomic.agreed) ≡ length g.atomic.agreed = length-map g.atomic.agreed inv_of in (
-              length g.atomic.agreed + t.0,
-              slice_get-append_right g.atomic.agreed calls t.0 ∙ t.1 ∙ ap Some call,
-              ap (λ js. response_at object object.initial js (length g.atomic.agreed + t.0)) (map-append inv_of g.atomic.agreed calls)
-                  ∙ ap (λ k. response_at object object.initial (map inv_of g.atomic.agreed ++ map inv_of calls) (k + t.0)) (sym wide)
-                  ∙ response_at-append object object.initial (map inv_of g.atomic.agreed) (map inv_of calls) t.0
-                  ∙ ap (λ s. response_at object s (map inv_of calls) t.0) (sym (state_from object (first_image object sizes) g.atomic.agreed) ∙ ap (λ (z : Image S R). z.state) f.sound.history.image)
-                  ∙ t.2,
-            )
-        | inr row ↦
-            let same_row : row_in image q ≡ row_in g.image q = ap (λ (z : Image S R). row_in z q) seen.batch.image_is ∙ row in
-            let was = h.3 y (ap (λ z. z.applied) (sym same_row) ∙ in') (ap (λ z. z.reply) (sym same_row) ∙ told) in (
-              was.place,
-              slice_get-append_left g.atomic.agreed calls was.place _ was.there,
-              ap (λ js. response_at object object.initial js was.place) (map-append inv_of g.atomic.agreed calls)
-                  ∙ response_stays object object.initial (map inv_of g.atomic.agreed) (map inv_of calls) was.place y was.reply_is,
-            )
+      called_same : (q : ℕ) → called_by (local' q) ≡ called_by (local q)
+      called_same q = elim (cases q) [
+        | inl here ↦ ap (λ (z : Local I S R). called_by z) here.2 ∙ longer ∙ sym called_was ∙ ap (λ (z : Local I S R). called_by z) (sym here.1)
+        | inr other ↦ ap (λ (z : Local I S R). called_by z) other.1
       ]
 
-      opened : (c : Invoked I) → Contains calls c → g.atomic.open_call c.process ≡ Some c
-      opened c has =
-          let inside = (seen.batch.below c has).1 in
-          let a = seen.batch.asked c has in
-          open_of object sizes g c.process (local c.process) (local c.process).stage c (f.sound.each c.process inside).stage (f.sound.history.told c.process inside) refl a.0 a.1 a.2
+      announced_same : (q : ℕ) → announced_by n (local' q) ≡ announced_by n (local q)
+      announced_same q = elim (cases q) [
+        | inl here ↦ ap (λ (z : Local I S R). announced_by n z) here.2 ∙ longer ∙ sym announced_was ∙ ap (λ (z : Local I S R). announced_by n z) (sym here.1)
+        | inr other ↦ ap (λ (z : Local I S R). announced_by n z) other.1
+      ]
 
-      was_told : IsTold object g q0 l.own (Some inv)
-      was_told = subst (λ z. IsTold object g q0 l.own (pending_of z)) stage (subst (λ (z : Local I S R). IsTold object g q0 z.own (pending_of z.stage)) f.local_is (f.sound.history.told q0 f.inside))
+      up : (y : Version S R) → HasCome object n g y → HasCome object n g' y
+      up = come_up object n g local is.sound p p_in image drafted p open' acts2
 
-      acts_lin : (q : ℕ) → acts_by q (g.acts ++ map (λ c. Linearize c) calls) ≡ acts_by q g.acts
-      acts_lin q = acts_by-append q g.acts (map (λ c. Linearize c) calls) ∙ ap (λ js. acts_by q g.acts ++ js) (
-          ap (acts_by q) (sym (append-nil (map (λ c. Linearize c) calls))) ∙ acts_by-linearized q calls []) ∙ append-nil (acts_by q g.acts)
+      from : (y : Version S R) → HasCome object n g' y → HasCome object n g y ⊎ ((y.number ≡ g.number + 1) × (y.image ≡ image))
+      from = come_cases object n g local is.sound p p_in image drafted p open' acts2
 
-      acts_else : (q : ℕ) → q ≢ q0 → acts_by q acts2 ≡ acts_by q g.acts
-      acts_else q apart = responded_other q q0 m x (g.acts ++ map (λ c. Linearize c) calls) apart ∙ acts_lin q
+      least : (q : ℕ) → q < n → in_of g q ≤ applied_in image q
+      least = in_least object n g local is.sound p p_in image drafted
 
-      told_other : (q : ℕ) (own : List (Returned I R)) (pend : Option I) → q < sizes.processes → q ≢ q0 → IsTold object g q own pend → IsTold object g' q own pend
-      told_other q own None q_in apart h = (set_at_elsewhere g.atomic.open_call q0 None q apart ∙ h.0, h.1, acts_else q apart ∙ h.2)
-      told_other q own (Some i) q_in apart h = (
-        set_at_elsewhere g.atomic.open_call q0 None q apart ∙ h.0,
-        h.1,
-        acts_else q apart ∙ h.2,
-        (λ y in' told. let t = taken' q own i q_in opened h y in' told in record { place = t.0; there = t.1; reply_is = t.2 }),
-      )
+      most : (q : ℕ) → q < n → applied_in image q ≤ called_by (local q)
+      most = in_most object n g local is.sound p p_in image drafted
 
-      told_own : IsTold object g' q0 l'.own None
-      told_own = (
-        set_at_same g.atomic.open_call q0 None,
-        was_told.1 ∙ sym longer,
-        responded_own q0 m x (g.acts ++ map (λ c. Linearize c) calls) ∙ ap (λ js. js ++ Respond q0 m x ∷ []) (acts_lin q0 ∙ was_told.2)
-            ∙ append_assoc (sequential_acts q0 0 (map plain l.own)) (Invoke q0 m inv ∷ []) (Respond q0 m x ∷ [])
-            ∙ sym (sequential_acts-snoc q0 0 l.own (ending (has_block l st.second image) inv x) ∙ (λ k. sequential_acts q0 0 (map plain l.own) ++ Invoke q0 ((let z : m + 0 ≡ m = omega arith in z) k) inv ∷ Respond q0 ((let z : m + 0 ≡ m = omega arith in z) k) x ∷ [])),
-      )
-
-      history' : IsHistory object sizes g' (set_at local q0 l')
-      history' =
-          let was = f.sound.history in
-          let own = taken' q0 l.own inv f.inside opened was_told x in_now reply.1 in
-          record {
-            image = image_from-append object (first_image object sizes) g.atomic.agreed calls ∙ ap (λ z. image_from object z calls) was.image ∙ sym seen.batch.image_is;
-            agreed = λ c has. elim (Contains-append_cases g.atomic.agreed calls c has) [
-              | inl old ↦ (let h = was.agreed c old in (h.0, (let a = h.1 in let d = in_least c.process h.0 in omega arith)))
-              | inr new ↦
-                  let inside = (seen.batch.below c new).1 in
-                  let a = seen.batch.asked c new in
-                  let more : applied_in image c.process ≡ in_of g c.process + 1 = ap (λ (z : Image S R). applied_in z c.process) seen.batch.image_is
-                  ∙ applied_from object g.image 0 calls c seen.batch.rising new (λ d has'. let z = (seen.batch.below d has').1 in let v = board.image.long in omega arith) in
-                  (inside, (let d = a.0 in omega arith))
-            ];
-            start = was.start;
-            accepted = AcceptsAll-append object (at_start object.initial) atomic1 atomic2 (g.acts ++ map (λ c. Linearize c) calls) (Respond q0 m x ∷ [])
-                (AcceptsAll-append object (at_start object.initial) g.atomic atomic1 g.acts (map (λ c. Linearize c) calls) was.accepted
-                (linearized object g.atomic 0 calls seen.batch.rising opened (λ d has c has' same'.
-                let h = was.agreed d has in let a = seen.batch.asked c has' in let e : in_of g d.process ≡ in_of g c.process = ap (in_of g) same' in let y = h.1 in let z = a.0 in omega arith)))
-                (atomic2, ((inv, own.0, was_told.0, own.1, subst (λ z. response_at object z (map (λ c. c.inv) agreed') own.0 ≡ Some x) (sym was.start) own.2), refl), refl);
-            told = λ q q_in. elim (set_at-cases local q0 l' q) [
-              | inl here ↦ subst (λ (z : Local I S R). IsTold object g' q z.own (pending_of z.stage)) (sym here.1) (subst (λ k. IsTold object g' k l'.own None) (sym here.0) told_own)
-              | inr other ↦ subst (λ (z : Local I S R). IsTold object g' q z.own (pending_of z.stage)) (sym other.1) (told_other q (local q).own (pending_of (local q).stage) q_in other.0 (was.told q q_in))
-            ];
-          }
-
-      abbrev order1 : AreOrdered object g'.atomic.agreed g'.calls_in_version sizes.processes g'.version local
-      order1 = order_grown object sizes.processes g.atomic.agreed g.calls_in_version g.version local f.sound.order calls
-
-      mine_ordered : IsOrdered object g'.atomic.agreed g'.calls_in_version g'.version q0 l.after l.own
-      mine_ordered = subst (λ (z : Local I S R). IsOrdered object g'.atomic.agreed g'.calls_in_version g'.version q0 z.after z.own) f.local_is (order1.each q0 f.inside)
-
-      present : version_in st.second ≡ g'.version
-      present = (let e = word in let a = block_number sizes q0 m f.inside at.0.0 in let c : sizes.processes * sizes.calls ≤ 64 * sizes.calls = mul-le-mul_right sizes.calls f.few.1 in let d = f.few.2 in omega arith)
-
-      follows_less : l.after < version_in st.second
-      follows_less =
-          let own = taken' q0 l.own inv f.inside opened was_told x in_now reply.1 in
-          let less = version_rises object sizes.processes g'.atomic.agreed g'.calls_in_version g'.version local order1 q0 l.after l.own mine_ordered inv x own.0 own.1 in
-          (let e = present in omega (arith, less))
-
-      order' : AreOrdered object g'.atomic.agreed g'.calls_in_version sizes.processes g'.version (set_at local q0 l')
-      order' =
-          let own = taken' q0 l.own inv f.inside opened was_told x in_now reply.1 in
-          let returned = ordered_returned object sizes.processes g'.atomic.agreed g'.calls_in_version g'.version local order1 q0 l.after l.own mine_ordered inv x own.0 own.1 own.2
-          (λ c has mine. let b = (history'.agreed c has).1 in let e : in_of g' c.process ≡ in_of g' q0 = ap (in_of g') mine in let d = in_now in omega arith) in
-          order_with object sizes.processes g'.atomic.agreed g'.calls_in_version g'.version local order1 q0 l'
-          (subst (λ v. IsOrdered object g'.atomic.agreed g'.calls_in_version g'.version q0 v (l.own ++ record { inv = inv; reply = x; after = l.after; version = v } ∷ [])) (sym present) returned)
-
-      words' : AreWords sizes g' (slice_set words 0 st.second)
-      words' =
-          let are = f.words_are in
-          record {
-            wide = length-set words 0 st.second ∙ are.wide;
-            current = get_or-set_same words 0 st.second 0 (let v = are.wide in omega arith) ∙ word;
-            announced = λ z z_in. get_or-set_other words 0 (1 + z) st.second 0 (λ (e : 1 + z ≡ 0). omega arith) ∙ are.announced z z_in;
-          }
-
-      hit : Given object sizes me g local words 0 st.second homes (TakesEffect object sizes g q0 w image) (HasBrought st me w)
-      hit = record {
-        board = g';
-        local' = l';
-        acts = map (λ c. Linearize c) calls ++ Respond q0 m x ∷ [];
-        appended = append_assoc g.acts (map (λ c. Linearize c) calls) (Respond q0 m x ∷ []);
-        made = ((λ e. (seen.batch, ap (λ js. map (λ c. Linearize c) calls ++ js) (sym (one_returned q0 l l' _ refl)))), (λ n. absurd (n same)));
-        act = keeps;
-        single = tt;
-        valid = tt;
-        sound = sound_with object sizes g g' local q0 l' f.sound board' others' mine' history' order';
-        words_are = words';
-        slots_are = slots_kept sizes g g' homes f.slots_are (λ e r. ((λ n. n), (λ full. (full, refl))));
-        said = λ inv' tries' r' image' stage'.
-            let e : Writing inv tries image sizes.processes false ≡ Writing inv' tries' image' r' false = sym stage ∙ stage' in
-            let e0 : inv ≡ inv' = cc in let e3 : image ≡ image' = cc in (
-              (λ this. (
-                x,
-                ap (λ (z : Image S R). (row_in z q0).reply) (sym e3) ∙ reply.1,
-                ap (λ (z : Image S R). applied_in z q0) (sym e3) ∙ in_now,
-                follows_less,
-                (λ k. (with_local me.0 (returns (has_block l st.second (e3 k)) (e0 k) x), me.1)),
-              )),
-              (λ n. absurd (n same)),
-            );
-        can = (
-          Bring inv tries image x stage same reply.1,
-          (λ k. record {
-            word = 0;
-            becomes = sym new_is k;
-            homes = homes;
-            leaves = returns (has_block l (sym new_is k) image) inv x;
-            acts = map (λ c. Linearize c) (effects_are object sizes local l.base image g (f.mine.reader.same is) f.sound seen.batch k) ++ Respond q0 m x ∷ [];
-          }),
-        );
+      board' : IsBoard object n g' local'
+      board' = record {
+        process = p_in;
+        whole = λ y come. elim (from y come) [ inl old ↦ is.sound.board.whole y old | inr new ↦ subst (IsWhole n) (sym new.1) whole ];
+        rises = λ y come q q_in. elim (from y come) [
+          | inl old ↦ (let a = is.sound.board.rises y old q q_in in let b = least q q_in in omega arith)
+          | inr new ↦ (let a = ap (λ (z : Image S R). applied_in z q) new.1 in omega arith)
+        ];
+        in_most = λ q q_in. (let a = most q q_in in let b = called_same q in omega arith);
+        soon = λ q q_in late. (let a = drafted.caught q q_in (inr (omega (arith, late))) in let b = announced_same q in omega arith);
+        past = λ q q_in. (let a = is.sound.board.past q q_in in omega arith);
+        versions = (let a = is.sound.board.versions in let b = rows_rise g.image.rows image.rows p (wide ∙ sym whole.long) (let d = wide in omega (arith, p_in)) (λ i below. least i (let d = wide in omega (arith, below))) (let d = in_was in let e = in_now in omega arith) in omega arith);
       }
 
-  pub brings_in : (s : ℕ) → l.word ≡ s → Moves meaning o sizes id me 0 (λ found. either (eqb found s) st.second found) (λ g found. TakesEffect object sizes g p found image) (λ found me'. HasBrought st me found me')
-  brings_in s word_is = subst (λ k. Moves meaning o sizes id me 0 (λ found. either (eqb found s) st.second found) (λ g found. TakesEffect object sizes g k found image) (λ found me'. HasBrought st me found me')) of.first
-      (step_law meaning o sizes id me 0 (λ found. either (eqb found s) st.second found) (λ g found. TakesEffect object sizes g q0 found image) (λ found me'. HasBrought st me found me') of.alone (λ g local words homes f.
-      exchanged (slice_index words 0) s st.second (λ y. Given object sizes me g local words 0 y homes (TakesEffect object sizes g q0 (slice_index words 0) image) (HasBrought st me (slice_index words 0)))
-      (λ e. hit g local words homes f (e ∙ sym word_is)) (λ n. miss g local words homes f (λ e. n (e ∙ word_is)))))
+      reader_up : (lq : Local I S R) → IsReader object n g local lq → IsReader object n g' local' lq
+      reader_up lq h = record {
+        long = h.long;
+        process = h.process;
+        known = elim (cases (process_in lq.word)) [
+          | inl here ↦
+              let k = h.known in
+              let a = ap (λ (z : Local I S R). z.last.number) here.1 in
+              let b = ap (λ (z : Local I S R). z.last.number) here.2 in
+              let d = its.writer.last.0 in
+              let e = number_is in
+              omega (arith, k, a, b, d, e)
+          | inr other ↦ (let k = h.known in let a = ap (λ (z : Local I S R). z.last.number) other.1 in omega arith)
+        ];
+        old = inr (older lq h.old);
+        called = λ q q_in. (let a = h.called q q_in in let b = called_same q in omega arith);
+        inv = λ q q_in call. elim (cases q) [
+          | inl here ↦
+              let a = h.called q q_in in
+              let b = ap (λ (z : Local I S R). called_by z) here.1 in
+              let d = ap (λ (z : Local I S R). made_by z) here.2 in
+              let e = longer in
+              let f = called_was in
+              absurd (omega (arith, a, b, call, d, e, f))
+          | inr other ↦ h.inv q q_in (call ∙ ap (λ (z : Local I S R). made_by z + 1) other.1) ∙ ap (λ (z : Local I S R). pending_of z.stage) (sym other.1)
+        ];
+      } where
+        older : (lq : Local I S R) → (lq.word ≡ word_of g.number g.process) ⊎ (number_in lq.word < g.number) → number_in lq.word < g.number + 1
+        older lq (inl e) = (let b = is.sound.board.process in let d = is.few.1 in let f : number_in lq.word ≡ number_in (word_of g.number g.process) = ap number_in e in omega (arith, b, d, f))
+        older lq (inr e) = omega (arith, e)
+
+      -- S isn't as it was for whoever had loaded it
+      stale : (lq : Local I S R) → IsReader object n g local lq → lq.word ≡ word_of (g.number + 1) p → ⊥
+      stale lq h e =
+          let d = is.few.1 in
+          let f : number_in lq.word ≡ number_in (word_of (g.number + 1) p) = ap number_in e in
+          let k : number_in lq.word < g.number + 1 = elim h.old [
+            | inl z ↦ (let b = is.sound.board.process in let y : number_in lq.word ≡ number_in (word_of g.number g.process) = ap number_in z in omega (arith, b, d, y))
+            | inr z ↦ omega (arith, z)
+          ] in
+          omega (arith, d, f, k, p_in)
+
+      has_up : (lq : Local I S R) (t : Told I S R) → HasLast object n g local lq t → HasLast object n g' local' lq t
+      has_up lq t (inl e) = inl e
+      has_up lq t (inr e) = inr (e.0, e.1, up t.last e.2)
+
+      others' : (q : ℕ) → q < n → q ≢ p → IsAt object n g local q (local q) → IsAt object n g' local' q (local q)
+      others' q q_in apart h = record {
+        stage = by (local q).stage refl h.stage;
+        writer = record {
+          last = up (local q).last h.writer.last;
+          present = λ e. absurd (apart (sym e));
+          written = has_up (local q) (local q).written h.writer.written;
+          called = h.writer.called;
+          inv = h.writer.inv;
+          made = h.writer.made;
+        };
+        reader = reader_up (local q) h.reader;
+      } where
+        few : (stage : Stage I S R) → stage ≡ (local q).stage → begun (made_by (local q)) (pending_of stage) ≡ called_by (local q)
+        few stage e = ap (λ s. begun (made_by (local q)) (pending_of s)) e
+
+        open_up : (inv : I) → called_by (local q) ≡ made_by (local q) + 1 → IsOpen object n g local q (local q) inv → IsOpen object n g' local' q (local q) inv
+        open_up inv called o = record { few = o.few; least = (let a = o.least in let b = least q q_in in omega arith); most = (let a = most q q_in in omega (arith, called)) }
+
+        trying_up : (tries : ℕ) → called_by (local q) ≡ made_by (local q) + 1 → made_by (local q) ≤ in_of g q → IsTrying object n g local q (local q) tries → IsTrying object n g' local' q (local q) tries
+        trying_up tries called in_least' t = record {
+          later = t.later;
+          least = λ y come late. elim (from y come) [
+            | inl old ↦ t.least y old late
+            | inr new ↦ (let a = ap (λ (z : Image S R). applied_in z q) new.1 in let b = least q q_in in omega (arith, in_least'))
+          ];
+          soon = λ enough y come late. elim (from y come) [
+            | inl old ↦ t.soon enough y old late
+            | inr new ↦
+                let recent : number_in (local q).word ≤ now.0.number =
+                let a = now_number in
+                elim h.reader.old [
+                  | inl z ↦ (let b = is.sound.board.process in let d = is.few.1 in let f : number_in (local q).word ≡ number_in (word_of g.number g.process) = ap number_in z in omega (arith, b, d, f, a))
+                  | inr z ↦ omega (arith, z, a)
+                ] in
+                let was = t.soon enough now.0 now.1 recent in
+                let a = ap (λ (z : Image S R). applied_in z q) now.2 in
+                let b = least q q_in in
+                let d = most q q_in in
+                let e = ap (λ (z : Image S R). applied_in z q) new.1 in
+                omega (arith, was, a, b, d, e, called)
+          ];
+        }
+
+        by : (stage : Stage I S R) → stage ≡ (local q).stage → IsStageAt object n g local q (local q) stage → IsStageAt object n g' local' q (local q) stage
+        by Idle e s = (elim (drafted.told q q_in) [ inl t ↦ t ∙ s.0 | inr t ↦ absurd (let a = few Idle e in let b = s.0 in let d = t.1 in omega arith) ], s.1)
+        by (Posting inv count) e s = (open_up inv (sym (few (Posting inv count) e)) s.0, s.1, s.2)
+        by (Ready inv tries) e s = ((open_up inv (sym (few (Ready inv tries) e)) s.0.0, s.0.1), (let a = s.1 in omega arith))
+        by (Reading inv tries count) e s = (
+          (open_up inv (sym (few (Reading inv tries count) e)) s.0.0, s.0.1),
+          trying_up tries (sym (few (Reading inv tries count) e)) s.0.0.least s.1,
+          record {
+            most = s.2.most;
+            base = λ below. (let b = s.2.base below in record { come = up (base_of object n (local q)) b.come; least = b.least; fresh = λ z. absurd (stale (local q) h.reader z) });
+            caught = λ z. absurd (stale (local q) h.reader z);
+            lacks = s.2.lacks;
+            own = s.2.own;
+          },
+        )
+        by (Writing inv tries image count) e s = (
+          (open_up inv (sym (few (Writing inv tries image count) e)) s.0.0, s.0.1),
+          trying_up tries (sym (few (Writing inv tries image count) e)) s.0.0.least s.1,
+          s.2,
+          s.3,
+          (λ z. absurd (stale (local q) h.reader z)),
+        )
+
+      mine' : IsAt object n g' local' p l'
+      mine' =
+          let rd = reader_up l its.reader in
+          record {
+            stage = (in_now ∙ sym longer, (let a = at_stage.0.0.few in let b = longer in omega arith));
+            writer = record {
+              last = come_new object n g local is.sound p p_in image drafted p open' acts2 l'.last (ap (λ k. k + 1) number_is) refl;
+              present = λ e. ap (λ k. k + 1) number_is;
+              written = inr (refl, (let a = its.writer.last.0 in let b = number_is in omega arith), up l.last its.writer.last);
+              called = (let a = longer in omega arith);
+              inv = λ e. absurd (let a = longer in omega (arith, e));
+              made = (let a = longer in omega arith);
+            };
+            reader = record { long = rd.long; process = rd.process; known = rd.known; old = rd.old; called = rd.called; inv = rd.inv };
+          }
+
+      was_told : IsTold object n g local p l.own (Some inv)
+      was_told = subst (λ z. IsTold object n g local p l.own z) pending_is (own_told object n g local p l l' local_is g.since is.sound.history p_in)
+
+      taken : HasTaken object (agreed' object n g local is.sound p p_in image drafted) (record { process = p; nth = made_by l; inv = inv }) x
+      taken = taken_then object n g local is.sound p p_in image drafted wide p l.own inv p_in was_told now x in_now reply.1
+
+      acts_else : (q : ℕ) → q ≢ p → acts_by q acts2 ≡ acts_by q g.acts
+      acts_else q apart = responded_other q p (made_by l) x (g.acts ++ map (λ c. Linearize c) (calls object n g local is.sound p p_in image drafted)) apart ∙ acts_lin object n g local is.sound p p_in image drafted q
+
+      told_other : (q : ℕ) (own : List (Returned I R)) (pend : Option I) → q < n → q ≢ p → IsTold object n g local q own pend → IsTold object n g' local' q own pend
+      told_other q _ None q_in apart h = (set_at_elsewhere g.atomic.open_call p None q apart ∙ h.0, h.1, acts_else q apart ∙ h.2)
+      told_other q its (Some i) q_in apart h = (
+        set_at_elsewhere g.atomic.open_call p None q apart ∙ h.0,
+        h.1,
+        acts_else q apart ∙ h.2,
+        (λ y z come applied told. elim (from y come) [
+          | inl old ↦ (let t = h.3 y z old applied told in still_taken object n g local is.sound p p_in image drafted (record { process = q; nth = length its; inv = i }) z t.0 y.number old.0 t.1)
+          | inr new ↦
+              let t = taken_then object n g local is.sound p p_in image drafted wide q its i q_in h now z (ap (λ (w : Image S R). applied_in w q) (sym new.1) ∙ applied) (ap (λ (w : Image S R). (row_in w q).reply) (sym new.1) ∙ told) in
+              let b = place_before object n g local is.sound p p_in image drafted (record { process = q; nth = length its; inv = i }) z t in
+              (t, subst (λ k. t.place < calls_then object n g local is.sound p p_in image drafted k) (sym new.0) b)
+        ]),
+      )
+
+      told_own : IsTold object n g' local' p l'.own None
+      told_own = (
+        set_at_same g.atomic.open_call p None,
+        was_told.1 ∙ sym longer,
+        responded_own p (made_by l) x (g.acts ++ map (λ c. Linearize c) (calls object n g local is.sound p p_in image drafted)) ∙ ap (λ js. js ++ Respond p (made_by l) x ∷ []) (acts_lin object n g local is.sound p p_in image drafted p ∙ was_told.2)
+            ∙ append_assoc (sequential_acts p 0 (map plain l.own)) (Invoke p (made_by l) inv ∷ []) (Respond p (made_by l) x ∷ [])
+            ∙ sym (sequential_acts-snoc p 0 l.own (ending l inv x (number_in l.word + 1))
+            ∙ (λ k. sequential_acts p 0 (map plain l.own) ++ Invoke p ((let z : made_by l + 0 ≡ made_by l = omega arith in z) k) inv ∷ Respond p ((let z : made_by l + 0 ≡ made_by l = omega arith in z) k) x ∷ [])),
+      )
+
+      history' : IsHistory object n g' local'
+      history' =
+          let was = is.sound.history in
+          record {
+            image = image_then object n g local is.sound p p_in image drafted;
+            agreed = agreed_then object n g local is.sound p p_in image drafted wide;
+            start = was.start;
+            accepted = AcceptsAll-append object (at_start object.initial) (record g.atomic { agreed = agreed' object n g local is.sound p p_in image drafted }) g'.atomic (g.acts ++ map (λ c. Linearize c) (calls object n g local is.sound p p_in image drafted)) (Respond p (made_by l) x ∷ [])
+                (accepted_then object n g local is.sound p p_in image drafted wide)
+                (g'.atomic, ((inv, taken.place, was_told.0, taken.there, subst (λ z. response_at object z (map (λ c. c.inv) (agreed' object n g local is.sound p p_in image drafted)) taken.place ≡ Some x) (sym was.start) taken.reply_is), refl), refl);
+            told = λ q q_in. elim (set_at-cases local p l' q) [
+              | inl here ↦ subst (λ (z : Local I S R). IsTold object n g' local' q z.own (pending_of z.stage)) (sym here.1) (subst (λ k. IsTold object n g' local' k l'.own None) (sym here.0) told_own)
+              | inr other ↦ subst (λ (z : Local I S R). IsTold object n g' local' q z.own (pending_of z.stage)) (sym other.1) (told_other q (local q).own (pending_of (local q).stage) q_in other.0 (was.told q q_in))
+            ];
+          }
+
+      -- the order
+      mine_ordered : IsOrdered object (agreed' object n g local is.sound p p_in image drafted) (calls_then object n g local is.sound p p_in image drafted) (g.number + 1) p l.after l.own
+      mine_ordered = subst (λ (z : Local I S R). IsOrdered object (agreed' object n g local is.sound p p_in image drafted) (calls_then object n g local is.sound p p_in image drafted) (g.number + 1) p z.after z.own) local_is
+          ((order1 object n g local is.sound p p_in image drafted).each p p_in)
+
+      rises : l.after < number_in l.word + 1
+      rises =
+          let less = version_rises object n (agreed' object n g local is.sound p p_in image drafted) (calls_then object n g local is.sound p p_in image drafted) (g.number + 1) local (order1 object n g local is.sound p p_in image drafted)
+          p l.after l.own mine_ordered inv x taken.place taken.there in
+          (let a = number_is in omega (arith, less))
+
+      order' : AreOrdered object n g' local'
+      order' =
+          let o = order1 object n g local is.sound p p_in image drafted in
+          let returned = ordered_returned object n (agreed' object n g local is.sound p p_in image drafted) (calls_then object n g local is.sound p p_in image drafted) (g.number + 1) local o p l.after l.own mine_ordered inv x taken.place taken.there taken.reply_is
+          (λ d has mine'. let b = (agreed_then object n g local is.sound p p_in image drafted wide d has).1 in let e : applied_in image d.process ≡ applied_in image p = ap (applied_in image) mine' in let f = in_now in omega arith) in
+          let here : g.number + 1 ≡ number_in l.word + 1 = (let a = number_is in omega arith) in
+          record {
+            counted = o.counted;
+            rising = o.rising;
+            each = λ q q_in. elim (set_at-cases local p l' q) [
+              | inl at_p ↦ subst (λ (z : Local I S R). IsOrdered object g'.atomic.agreed g'.calls_in g'.number q z.after z.own) (sym at_p.1) (subst (λ k. IsOrdered object g'.atomic.agreed g'.calls_in g'.number k l'.after l'.own) (sym at_p.0)
+                  (subst (λ k. IsOrdered object g'.atomic.agreed g'.calls_in g'.number p k (l.own ++ record { inv = inv; reply = x; after = l.after; version = k } ∷ [])) here returned))
+              | inr other ↦ subst (λ (z : Local I S R). IsOrdered object g'.atomic.agreed g'.calls_in g'.number q z.after z.own) (sym other.1) (o.each q q_in)
+            ];
+            followed = λ q q_in. elim (set_at-cases local p l' q) [
+              | inl at_p ↦ subst (λ (z : Local I S R). HasFollowed z.after z.own) (sym at_p.1) (followed_more l.own l.after (ending l inv x (number_in l.word + 1)) (subst (λ (z : Local I S R). HasFollowed z.after z.own) local_is (is.sound.order.followed p p_in)) (let a = rises in omega arith))
+              | inr other ↦ subst (λ (z : Local I S R). HasFollowed z.after z.own) (sym other.1) (is.sound.order.followed q q_in)
+            ];
+          }
+
+      hit : ShowsNext meaning o n g local seat_of (record { words = set_at c.words 0 new; buffers = c.buffers; views = slice_set c.views id (with_local v l') }) p l' (map (λ d. Linearize d) (calls object n g local is.sound p p_in image drafted) ++ Respond p (made_by l) x ∷ [])
+      hit = shown_with meaning o n id v alone c g local seat_of is at l' g' (map (λ d. Linearize d) (calls object n g local is.sound p p_in image drafted) ++ Respond p (made_by l) x ∷ []) (append_assoc g.acts (map (λ d. Linearize d) (calls object n g local is.sound p p_in image drafted)) (Respond p (made_by l) x ∷ [])) (set_at c.words 0 new) c.buffers (set_at_same c.words 0 new ∙ ap (λ k. word_of (k + 1) p) number_is) (buffers_same meaning o n id v alone c g local seat_of is at l' refl posted_was)
+          (sound_with object n g g' local p l' is.sound board' others' mine' history' order')
+
+    told_play : (found : ℕ) (w : View O I S R) → (found ≡ l.word → (z : R) × ((row_in image p).reply ≡ Some z) × (l.after < number_in l.word + 1) × (w ≡ with_local v (brought l inv z image))) → (found ≢ l.word → w ≡ with_local v (missed l inv tries image)) → HasBrought v found w
+    told_play found w in_it out_of_it inv' tries' image' stage' =
+        let e : Writing inv tries image n ≡ Writing inv' tries' image' v.known.processes = sym stage ∙ stage' in
+        let e0 : inv ≡ inv' = cc in
+        let e1 : tries ≡ tries' = cc in
+        let e2 : image ≡ image' = cc in (
+          (λ hit. let y = in_it hit in (y.0, ap (λ (z : Image S R). (row_in z p).reply) (sym e2) ∙ y.1, y.2, y.3 ∙ (λ k. with_local v (brought l (e0 k) y.0 (e2 k))))),
+          (λ miss. out_of_it miss ∙ (λ k. with_local v (missed l (e0 k) (e1 k) (e2 k)))),
+        )
+
+    -- the acts of it
+    abbrev MakesBring : ℕ → View O I S R → List (Act I R) → Type 0
+    MakesBring found w acts =
+        (found ≡ l.word → (batch : HasBatch (meaning o) n g local image) × (acts ≡ map (λ d. Linearize d) batch.calls ++ returned_by v w))
+        × (found ≢ l.word → acts ≡ [])
+
+    -- it is a step of an execution, by which S becomes this
+    abbrev IsStepTo : (becomes : ℕ) → View O I S R → List (Act I R) → Type 0
+    IsStepTo becomes w acts = IsStep (meaning o) n (moment_of c local) p l (record { word = becomes; buffers = c.buffers; leaves = w.known.local; acts = acts })
+
+    step_hit : (e : c.words 0 ≡ l.word) → IsStepTo new (with_local v (l' e)) (map (λ d. Linearize d) (drafted e).batch.calls ++ Respond p (made_by l) (x e) ∷ [])
+    step_hit e = (
+      Bring inv tries image (x e) stage e (reply e).1,
+      (λ k. record {
+        word = new;
+        buffers = c.buffers;
+        leaves = brought l inv (x e) image;
+        acts = map (λ d. Linearize d) (effects_are (meaning o) n g local is.sound image (drafted e).batch (present_in (moment_of c local)).image (present_is meaning o n g local seat_of c is) k) ++ Respond p (made_by l) (x e) ∷ [];
+      }),
+    )
+
+    out : (w : View O I S R) × (acts : List (Act I R)) × ShowsNext meaning o n g local seat_of (with_word (λ found. either (found == l.word) new found) id c w) p w.known.local acts × MakesBring (c.words 0) w acts × HasBrought v (c.words 0) w
+        × IsStepTo (either (c.words 0 == l.word) new (c.words 0)) w acts
+    out = exchanged (c.words 0) l.word new (λ y. (w : View O I S R) × (acts : List (Act I R)) × ShowsNext meaning o n g local seat_of (record { words = set_at c.words 0 y; buffers = c.buffers; views = slice_set c.views id w }) p w.known.local acts × MakesBring (c.words 0) w acts × HasBrought v (c.words 0) w × IsStepTo y w acts)
+        (λ e. (
+          with_local v (l' e),
+          _,
+          hit e,
+          ((λ z. ((drafted e).batch, ap (λ rs. map (λ d. Linearize d) ((drafted e).batch).calls ++ rs) (ap (responses p (made_by l)) (sym (drop_past l.own _))))), (λ z. absurd (z e))),
+          told_play (c.words 0) (with_local v (l' e)) (λ z. (x e, (reply e).1, rises e, refl)) (λ z. absurd (z e)),
+          step_hit e,
+        ))
+        (λ z. (
+          with_local v (missed l inv tries image),
+          [],
+          miss z,
+          ((λ e. absurd (z e)), (λ y. refl)),
+          told_play (c.words 0) (with_local v (missed l inv tries image)) (λ e. absurd (z e)) (λ y. refl),
+          (Fail inv tries image stage z, refl),
+        ))
+
+  pub brings_move : Moves meaning o n id v (with_word (λ found. either (found == l.word) new found) id) (λ g local c w acts. (c.words 0 ≡ l.word → (batch : HasBatch (meaning o) n g local image) × (acts ≡ map (λ d. Linearize d) batch.calls ++ returned_by v w))
+      × (c.words 0 ≢ l.word → acts ≡ [])) (λ c w. HasBrought v (c.words 0) w)
+  brings_move c g local seat_of is at = out c g local seat_of is at
+
+  pub brings : AllowsChange (ShowsBoard meaning o n) id v 0 (λ found. either (found == l.word) new found) (HasBrought v)
+  brings c shown at = keeps_rule meaning o n id v alone (with_word (λ found. either (found == l.word) new found) id) _ _ brings_move c shown at

@@ -1,7 +1,8 @@
 -- The calls that take effect by an exchange.
-use Rattle.uni_any.proofs.Vocabulary.{Asked, Board, Contains, HasBatch, Image, Invoked, IsOpen, IsRising, IsSound, IsStageAt, List, Local, Posting, Reading, Ready, Sequential, Sizes, Some, Stage, Writing, Idle, [], ap, applied_in, arith, call_frame, in_of, inl, inr, length, number_cases, pending_of, refl, subst, suc, sym, zero, ℕ, ◌++◌, ◌+◌, ◌<◌, ◌∙◌, ◌∷◌, ◌≡◌, ◌≢◌, ◌≤◌, ◌⊎◌}
-use Rattle.uni_any.specs.Execution.{call_of, calls_between, pending_call}
+use Rattle.uni_any.proofs.Vocabulary.{Board, Contains, Contents, HasBatch, HasCome, Image, Invoked, IsRising, IsShown, IsSound, List, [], number_cases, subst, suc, zero, ◌++◌, ◌∷◌, ◌≢◌, ◌≤◌, ◌⊎◌, Letter, Local, Sequential, Version, View, ap, applied_in, arith, in_of, inl, inr, length, moment_of, refl, sym, ℕ, ◌+◌, ◌<◌, ◌∙◌, ◌≡◌}
 use Rattle.uni_any.proofs.Batches.{applied_from, contains_cons, contains_first, contains_later, not_empty, rising_from, row_from}
+use Rattle.uni_any.specs.Execution.{call_of, calls_between, pending_call, present_in}
+use Rattle.uni_any.proofs.Starting.{loaded_process, present_image}
 
 -- the calls by which an image has more than another one
 module _ {I S R : Type 0} (pending : ℕ → List (Invoked I)) (before after' : Image S R) where
@@ -55,43 +56,32 @@ module _ {I S R : Type 0} (pending : ℕ → List (Invoked I)) (before after' : 
         ]) in
         λ i. first i ++ others i
 
-module _ {S I R : Type 0} (object : Sequential S I R) (sizes : Sizes) where
-  -- a call that an exchange brings in is the pending one of its process
-  pending_is : (g : Board I S R) (q : ℕ) (l : Local I S R) (stage : Stage I S R) (c : Invoked I) → IsStageAt object sizes g q l stage → c.process ≡ q → c.nth ≡ in_of g q → g.announced q ≡ c.nth + 1
-      → g.content (call_frame sizes q c.nth) ≡ Asked c.inv → call_of q (length l.own) (pending_of stage) ≡ c ∷ []
-  pending_is g q l stage c = by_stage stage where
-    opened_is : (inv : I) → IsOpen sizes g q (length l.own) inv → c.process ≡ q → c.nth ≡ in_of g q → g.announced q ≡ c.nth + 1 → g.content (call_frame sizes q c.nth) ≡ Asked c.inv
-        → call_of q (length l.own) (Some inv) ≡ c ∷ []
-    opened_is inv h at nth due asks_it =
-        let same : length l.own ≡ c.nth = (let a = h.1 in omega arith) in
-        let e : Asked inv ≡ Asked c.inv = sym h.3 ∙ ap (λ k. g.content (call_frame sizes q k)) same ∙ asks_it in
-        let i : inv ≡ c.inv = cc in
-        λ k. record { process = sym at k; nth = same k; inv = i k } ∷ []
-
-    by_stage : (stage : Stage I S R) → IsStageAt object sizes g q l stage → c.process ≡ q → c.nth ≡ in_of g q → g.announced q ≡ c.nth + 1 → g.content (call_frame sizes q c.nth) ≡ Asked c.inv
-        → call_of q (length l.own) (pending_of stage) ≡ c ∷ []
-    by_stage Idle h at nth due asks_it = absurd (let a = h.0.0 in let b = h.0.1 in omega arith)
-    by_stage (Posting inv count out) h at nth due asks_it = absurd (let a = h.0.0 in let b = h.0.1 in omega arith)
-    by_stage (Ready inv tries) h at nth due asks_it = opened_is inv h.0 at nth due asks_it
-    by_stage (Reading inv tries r image) h at nth due asks_it = opened_is inv h.0 at nth due asks_it
-    by_stage (Writing inv tries image count out) h at nth due asks_it = opened_is inv h.0 at nth due asks_it
-
-  -- so they are the calls by which the attempt's image has more than that with which it began
-  pub effects_are : (local : ℕ → Local I S R) (base image : Image S R) (g : Board I S R) → base ≡ g.image → IsSound object sizes g local → (batch : HasBatch object sizes g sizes.processes image)
-      → calls_between (λ q. pending_call q (local q)) base image 0 sizes.processes ≡ batch.calls
-  effects_are local base image g base_is sound batch =
-      calls_are (λ q. pending_call q (local q)) base image sizes.processes 0 batch.calls batch.rising
+-- the calls that an exchange brings in are those by which its block has more than the present version
+module _ {S I R : Type 0} (object : Sequential S I R) (n : ℕ) (g : Board I S R) (local : ℕ → Local I S R) (sound : IsSound object n g local) (image : Image S R) (batch : HasBatch object n g local image) where
+  pub effects_are : (before : Image S R) → before ≡ g.image → calls_between (λ q. pending_call q (local q)) before image 0 n ≡ batch.calls
+  effects_are before same =
+      let long : length g.image.rows ≡ n = ap (λ (z : Image S R). length z.rows) (sym (present_is.2)) ∙ (sound.board.whole present_is.0 present_is.1).long in
+      calls_are (λ q. pending_call q (local q)) before image n 0 batch.calls batch.rising
       (λ c has.
-      let c_in : c.process < sizes.processes = (batch.below c has).1 in
+      let c_in : c.process < n = batch.below c has in
       let a = batch.asked c has in
       let more : applied_in image c.process ≡ in_of g c.process + 1 = ap (λ (z : Image S R). applied_in z c.process) batch.image_is
-      ∙ applied_from object g.image 0 batch.calls c batch.rising has (λ d has'. let z = (batch.below d has').1 in let v = sound.board.image.long in omega arith) in
-      let was : applied_in base c.process ≡ in_of g c.process = ap (λ (z : Image S R). applied_in z c.process) base_is in (
+      ∙ applied_from object g.image 0 batch.calls c batch.rising has (λ d has'. let z = batch.below d has' in omega (arith, z, long)) in
+      let was : applied_in before c.process ≡ in_of g c.process = ap (λ (z : Image S R). applied_in z c.process) same in (
         (omega arith),
-        pending_is g c.process (local c.process) (local c.process).stage c (sound.each c.process c_in).stage refl a.0 a.1 a.2,
+        (λ k. call_of c.process (sym a.1 k) (a.2 k)),
         (λ e. omega (arith, more, was, e)),
       ))
       (λ z from below. elim (row_from object g.image batch.calls z) [
         | inl there ↦ inl there
-        | inr row ↦ inr (ap (λ (i : Image S R). applied_in i z) batch.image_is ∙ ap (λ r. r.applied) row ∙ sym (ap (λ (i : Image S R). applied_in i z) base_is))
-      ])
+        | inr row ↦ inr (ap (λ (i : Image S R). applied_in i z) batch.image_is ∙ ap (λ r. r.applied) row ∙ sym (ap (λ (i : Image S R). applied_in i z) same))
+      ]) where
+        present_is : (x : Version S R) × HasCome object n g x × (x.image ≡ g.image)
+        present_is = (let w = (sound.each g.process sound.board.process).writer in ((local g.process).last, w.last, present_image object n g local sound.history sound.order (local g.process).last w.last (let a = w.present refl in omega arith)))
+
+-- the version that S names is the present one
+pub present_is : {O I S R : Type 0} (meaning : O → Sequential S I R) (o : O) (n : ℕ) (g : Board I S R) (local : ℕ → Local I S R) (seat_of : ℕ → ℕ) (c : Contents (Letter I S R) (View O I S R)) → IsShown n meaning o g local seat_of c → (present_in (moment_of c local)).image ≡ g.image
+present_is meaning o n g local seat_of c is =
+    let x = (is.sound.each g.process is.sound.board.process).writer in
+    ap (λ q. (local q).last.image) (loaded_process meaning o n g local seat_of c is)
+    ∙ present_image (meaning o) n g local is.sound.history is.sound.order (local g.process).last x.last (let a = x.present refl in omega arith)

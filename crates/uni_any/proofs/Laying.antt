@@ -1,209 +1,142 @@
--- The steps that lay out a block.
-use Rattle.uni_any.proofs.Vocabulary.{[], append-nil, AreHome, AreSlots, Block, Board, HasLaid, HasLaidOpen, HoldsBlock, Image, IsAt, IsLaid, IsLaying, IsOf, IsOpen, IsStageAt, IsTrying, List, Local, Made, Mail, Mine, Reading, Sequential, Sizes, Some, Step, Valid, Writing, applied_in, length, ap, arith, block_frame, call_frame, carried_after, false, frames_of, gives, goes, homes_after, inl, inr, local_of, made_of, number_cases, pending_of, put_back, refl, rest, set_at, set_at_elsewhere, set_at_same, slice_index, slot_of, stage_of, subst, sym, takes, true, with_local, ℕ, ◌*◌, ◌+◌, ◌<◌, ◌∙◌, ◌∷◌, ◌≡◌, ◌≢◌, ◌⊎◌}
-use Rattle.uni_any.specs.Execution.{moment_of}
-use Rattle.uni_any.specs.Execution.Next.{OpenBlock, CloseBlock}
-use Rattle.uni_any.specs.Ran.{CanTake}
-use Rattle.uni_any.specs.Laws.{IsSingle, MakesNoAct, Moves}
-use Rattle.uni_any.proofs.Frame.{Found, Given, sound_with, step_law}
-use Rattle.uni_any.proofs.Ordering.{order_kept}
-use Rattle.uni_any.proofs.Slots.{block_inside, block_number}
-use Rattle.uni_any.proofs.Announcing.{reader_goes}
-use Rattle.uni_any.proofs.Frames.{board_framed, content_else, framed, given_framed, history_framed, laid_closed, laid_open, others_framed, reader_framed, slots_else, taken_framed, trying_framed}
-use Rattle.uni_any.proofs.Posting.{blocks_apart, call_no_block, words_same}
-use Rattle.atomic_table.specs.Table.{Act}
-use mathlib.Core.Option.{Option as Maybe}
+-- The write of a block.
+use Rattle.uni_any.proofs.Vocabulary.{AllowsWrite, Board, Contents, HasDrafted, HasLaid, Image, IsAnnounced, IsAt, IsLaying, IsShown, IsStageAt, IsTrying, IsWhole, Letter, Local, Reading, Sequential, ShowsBoard, Some, Told, View, Writing, announced_at, announced_by, ap, arith, base_of, begun, block_news, called_by, drafted, get_elem?, goes, in_of, inl, inr, local_of, lt_cases, made_by, pending_of, posted, posted_at, refl, slice_set, some, subst, sym, told_by, with_local, with_value, word_of, ℕ, ◌+◌, ◌<◌, ◌∙◌, ◌≡◌, ◌≢◌, Moves, ShowsNext, append-nil, with_letter, []}
+use Rattle.uni_any.proofs.Drafting.{draft_is, draft_whole}
+use Rattle.uni_any.proofs.Framing.{keeps_rule, buffers_written, mine, object_is, own, shown_with, sound_with}
+use Rattle.uni_any.specs.Execution.Next.{Lay}
+use Rattle.uni_any.specs.Plays.{IsLayingAt}
+use Rattle.uni_any.proofs.Histories.{history_kept}
+use Rattle.uni_any.proofs.Orders.{order_kept}
+use Rattle.uni_any.proofs.Posting.{keeps_same}
+use Rattle.uni_any.proofs.Staying.{board_stays, drafted_same, later, others_stay, reader_stays}
 
-module _ {O I S R : Type 0} (meaning : O → Sequential S I R) (o : O) (sizes : Sizes) (id : ℕ) (me : Mine O I S R) (p : ℕ) (of : IsOf o sizes p me) where
+module _ {O I S R : Type 0} (meaning : O → Sequential S I R) (o : O) (n id : ℕ) (v : View O I S R) (alone : v.known.count ≡ 1) (processes : v.known.processes ≡ n) (inv : I) (tries : ℕ) (image : Image S R) (r : ℕ) (r_in : r < n)
+    (laying : IsLaying meaning inv tries image r v) (x : Letter I S R) (news : told_by x ≡ block_news (local_of v) inv image) where
   abbrev l : Local I S R
-  l = local_of me
+  l = local_of v
 
-  abbrev m : ℕ
-  m = made_of me
+  abbrev p : ℕ
+  p = v.known.first
 
-  abbrev q0 : ℕ
-  q0 = me.0.known.first
+  abbrev l' : Local I S R
+  l' = record l { stage = Writing inv tries image (r + 1) }
 
-  abbrev object : Sequential S I R
-  object = meaning o
+  posted_here : told_by x ≡ posted l' r
+  posted_here = news ∙ sym (elim (lt_cases r (r + 1)) [ inl e ↦ rw e.1 refl | inr e ↦ absurd (let a = e.0 in omega arith) ])
 
-  abbrev f0 : ℕ
-  f0 = block_frame sizes (q0 * sizes.calls + m)
+  posted_else : (q : ℕ) → q ≢ r → posted l' q ≡ posted l q
+  posted_else q apart = elim laying [
+    | inl first ↦ elim (lt_cases q (r + 1)) [
+      | inl e ↦ absurd (let a = e.0 in let z = first.0 in omega (arith, apart))
+      | inr e ↦ rw e.1 (ap (λ s. posted_at l s q) (sym first.1))
+    ]
+    | inr on ↦ elim (lt_cases q (r + 1)) [
+      | inl e ↦ elim (lt_cases q r) [
+        | inl d ↦ rw e.1 (sym (ap (λ s. posted_at l s q) on ∙ rw d.1 refl))
+        | inr d ↦ absurd (let a = e.0 in let b = d.0 in omega (arith, apart))
+      ]
+      | inr e ↦ elim (lt_cases q r) [
+        | inl d ↦ absurd (let a = e.0 in let b = d.0 in omega arith)
+        | inr d ↦ rw e.1 (sym (ap (λ s. posted_at l s q) on ∙ rw d.1 refl))
+      ]
+    ]
+  ]
 
-  module _ (inv : I) (tries : ℕ) (image : Image S R) (g : Board I S R) (local : ℕ → Local I S R) (words : List ℕ) (homes : List (Maybe (Mail I (Block S R)))) (f : Found meaning o sizes me g local words homes)
-      (opened : IsOpen sizes g q0 m inv) (later : AreHome sizes g q0 (m + 1)) (trying : IsTrying object sizes g q0 l tries sizes.processes image) where
-    f_in : f0 < frames_of sizes
-    f_in = block_inside sizes (q0 * sizes.calls + m) (block_number sizes q0 m f.inside opened.0)
+  pending_is : pending_of l.stage ≡ Some inv
+  pending_is = elim laying [ inl first ↦ ap pending_of first.1 | inr on ↦ ap pending_of on ]
 
-    pub theirs : (q k : ℕ) → q < sizes.processes → k < sizes.calls → q ≢ q0 → (call_frame sizes q k ≢ f0) × (block_frame sizes (q * sizes.calls + k) ≢ f0)
-    theirs q k q_in k_in apart = ((λ e. call_no_block sizes q k (q0 * sizes.calls + m) q_in k_in (sym e)), (λ e. apart (blocks_apart sizes q k q0 m k_in opened.0 e).0))
+  announced_was : announced_by n l ≡ made_by l + 1
+  announced_was = elim laying [ inl first ↦ ap (announced_at n (made_by l)) first.1 | inr on ↦ ap (announced_at n (made_by l)) on ]
 
-    pub asked : (z k : ℕ) → z < sizes.processes → g.announced z ≡ k + 1 → call_frame sizes z k ≢ f0
-    asked z k z_in e same = call_no_block sizes z k (q0 * sizes.calls + m) z_in (let r = f.sound.board.room z z_in in omega arith) (sym same)
+  told_play : HasLaid meaning v r x (goes v (Writing inv tries image (r + 1)))
+  told_play inv' tries' image' laying' news' =
+      let same_inv : Some inv ≡ Some inv' = ap (λ (t : Told I S R). t.inv) (sym news ∙ news') in
+      let e0 : inv ≡ inv' = cc in
+      let e2 : image ≡ image' = ap (λ (t : Told I S R). t.next.image) (sym news ∙ news') in
+      let e1 : tries ≡ tries' = by laying laying' in
+      (λ k. goes v (Writing (e0 k) (e1 k) (e2 k) (r + 1))) where
+        by : IsLaying meaning inv tries image r v → IsLaying meaning inv' tries' image' r v → tries ≡ tries'
+        by (inl a) (inl b) = let e : Reading inv tries v.known.processes ≡ Reading inv' tries' v.known.processes = sym a.1 ∙ b.1 in cc
+        by (inl a) (inr b) = absurd (let e : Reading inv tries v.known.processes ≡ Writing inv' tries' image' r = sym a.1 ∙ b in cc)
+        by (inr a) (inl b) = absurd (let e : Writing inv tries image r ≡ Reading inv' tries' v.known.processes = sym a ∙ b.1 in cc)
+        by (inr a) (inr b) = let e : Writing inv tries image r ≡ Writing inv' tries' image' r = sym a ∙ b in cc
 
-    pub current : (c : ℕ) → g.current ≡ c + 1 → block_frame sizes c ≢ f0
-    current c e same = f.mine.apart m (omega arith) opened.0 (omega arith)
+  module _ (c : Contents (Letter I S R) (View O I S R)) (g : Board I S R) (local : ℕ → Local I S R) (seat_of : ℕ → ℕ) (is : IsShown n meaning o g local seat_of c) (at : get_elem? c.views id ≡ some v) where
+    abbrev object : Sequential S I R
+    object = meaning o
 
-    module _ (row : ℕ → ℕ) where
-      abbrev g' : Board I S R
-      g' = framed object sizes g f0 q0 row (Made image) theirs asked current
+    p_in : p < n
+    p_in = (own meaning o n id v alone c g local seat_of is at).0
 
-      home' : AreHome sizes g' q0 (m + 1)
-      home' j from below =
-          let h = later j from below in
-          let a : call_frame sizes q0 j ≢ f0 = (λ e. call_no_block sizes q0 j (q0 * sizes.calls + m) f.inside below (sym e)) in
-          let b : block_frame sizes (q0 * sizes.calls + j) ≢ f0 = (λ e. let x = (blocks_apart sizes q0 j q0 m below opened.0 e).1 in omega arith) in (
-            (λ r e. h.0 r (sym (slots_else object sizes g f0 q0 row (Made image) theirs asked current (call_frame sizes q0 j) r a) ∙ e)),
-            (λ r e. h.1 r (sym (slots_else object sizes g f0 q0 row (Made image) theirs asked current (block_frame sizes (q0 * sizes.calls + j)) r b) ∙ e)),
+    local_is : local p ≡ l
+    local_is = (own meaning o n id v alone c g local seat_of is at).2
+
+    its : IsAt object n g local p l
+    its = mine meaning o n id v alone c g local seat_of is at
+
+    facts : IsAnnounced object n g local p l inv × IsTrying object n g local p l tries × IsWhole n image × (l.word ≡ word_of g.number g.process → HasDrafted object n g local p image)
+    facts = elim laying [
+      | inl first ↦
+          let at_read : IsStageAt object n g local p l (Reading inv tries n) = subst (IsStageAt object n g local p l) (first.1 ∙ ap (Reading inv tries) processes) its.stage in
+          let image_is : drafted object (base_of object n l).image l.seen ≡ image =
+          (λ k. drafted (meaning (sym (object_is meaning o n id v alone c g local seat_of is at) k)) (base_of (meaning (sym (object_is meaning o n id v alone c g local seat_of is at) k)) (sym processes k) l).image l.seen) ∙ sym first.2 in (
+            at_read.0,
+            at_read.1,
+            subst (IsWhole n) image_is (draft_whole object n g local is.sound p l its.reader at_read.2 local_is),
+            (λ fresh. subst (HasDrafted object n g local p) image_is (draft_is object n g local is.sound p l its.reader at_read.2 local_is fresh)),
           )
+      | inr on ↦ (let h : IsStageAt object n g local p l (Writing inv tries image r) = subst (IsStageAt object n g local p l) on its.stage in (h.0, h.1, h.3, h.4))
+    ]
 
-      opened' : IsOpen sizes g' q0 m inv
-      opened' = (
-        opened.0,
-        opened.1,
-        opened.2,
-        content_else object sizes g f0 q0 row (Made image) theirs asked current (call_frame sizes q0 m) (λ e. call_no_block sizes q0 m (q0 * sizes.calls + m) f.inside opened.0 (sym e)) ∙ opened.3,
-      )
+    shows : ShowsNext meaning o n g local seat_of (record { words = c.words; buffers = with_value c.buffers p r (Some x); views = slice_set c.views id (with_local v l') }) p l' []
+    shows =
+        let f = facts in
+        let pend : pending_of l'.stage ≡ pending_of l.stage = sym pending_is in
+        let keeps = keeps_same l l' refl pend in
+        let called : called_by l' ≡ called_by l = (λ k. begun (made_by l) (pend k)) in
+        let announced : announced_by n l' ≡ announced_by n l = sym announced_was in
+        let told_on : called_by l ≡ in_of g p + 1 → called_by l' ≡ in_of g p + 1 = (λ e. called ∙ e) in
+        let asked_on : (i : I) → in_of g p ≡ made_by l → pending_of l.stage ≡ Some i → (made_by l' ≡ made_by l) × (pending_of l'.stage ≡ Some i) = (λ i e some_was. (refl, pend ∙ some_was)) in
+        let since_else : (q : ℕ) → q ≢ p → g.since q ≡ g.since q = (λ q apart. refl) in
+        let announced_on : g.since p < g.number → (g.since p ≡ g.since p) × (announced_by n l' ≡ announced_by n l) = (λ before. (refl, announced)) in
+        let open' = g.atomic.open_call in
+        let next' = g.atomic.next_nth in
+        let g' = later object n g local p l l' local_is g.since open' next' g.acts in
+        let w = its.writer in
+        let rd = reader_stays object n g local p l l' local_is g.since open' next' g.acts since_else announced_on (omega arith) keeps told_on asked_on l its.reader in
+        shown_with meaning o n id v alone c g local seat_of is at l' g' [] (sym (append-nil g.acts)) c.words (with_value c.buffers p r (Some x)) is.word (buffers_written meaning o n id v alone c g local seat_of is at l' refl r x posted_here posted_else)
+        (sound_with object n g g' local p l' is.sound
+        (board_stays object n g local p l l' local_is g.since open' next' g.acts since_else announced_on (omega arith) keeps told_on asked_on (omega (arith, called)) (is.sound.board.past p p_in) is.sound.board)
+        (λ q q_in apart h. others_stay object n g local p l l' local_is g.since open' next' g.acts since_else announced_on (omega arith) keeps told_on asked_on q apart h)
+        (record {
+          stage = (
+            (record { few = f.0.0.few; least = f.0.0.least; most = f.0.0.most }, f.0.1),
+            record { later = f.1.later; least = f.1.least; soon = f.1.soon },
+            omega (arith, r_in),
+            f.2,
+            (λ fresh. drafted_same object n g local p l l' local_is g.since open' next' g.acts since_else announced_on (omega arith) keeps told_on asked_on announced refl refl p image (f.3 fresh)),
+          );
+          writer = record {
+            last = w.last;
+            present = w.present;
+            written = w.written;
+            called = (let a = w.called in omega (arith, called));
+            inv = λ e. w.inv e ∙ sym pend;
+            made = w.made;
+          };
+          reader = record { long = rd.long; process = rd.process; known = rd.known; old = rd.old; called = rd.called; inv = rd.inv };
+        })
+        (history_kept object n g local p l l' local_is g.since is.sound.history p_in refl pend)
+        (order_kept object n g local p l l' local_is g.since open' next' g.acts is.sound.order p_in refl refl))
 
-      trying' : (l' : Local I S R) → l'.word ≡ l.word → l'.base ≡ l.base → l'.own ≡ l.own → IsTrying object sizes g' q0 l' tries sizes.processes image
-      trying' l' word base own =
-          let t = trying_framed object sizes g f0 q0 row (Made image) theirs asked current q0 l tries sizes.processes image trying in
-          record {
-            later = (let a = t.later in omega arith);
-            whole = t.whole;
-            lacks = ap (λ (b : Image S R). applied_in b q0) base ∙ t.lacks ∙ ap length (sym own);
-            own = λ e. absurd (let i = f.inside in omega arith);
-            looked = t.looked;
-            fresh = λ e. t.fresh (sym word ∙ e);
-          }
+  pub lays_move : Moves meaning o n id v (with_letter p r (Some x) id) (λ g local c w acts. acts ≡ []) (λ c w. HasLaid meaning v r x w)
+  lays_move c g local seat_of is at = (
+    with_local v l',
+    [],
+    shows c g local seat_of is at,
+    refl,
+    told_play,
+    (Lay inv tries r image x (subst (λ k. IsLayingAt (meaning o) k inv tries image r l) processes (subst (λ u. IsLayingAt (meaning u) v.known.processes inv tries image r l) (object_is meaning o n id v alone c g local seat_of is at) laying)) r_in news, refl),
+  )
 
-      mine_laying : (count : ℕ) (out : _) → IsLaid sizes g' f0 count out (Made image) → IsAt object sizes g' q0 (goes l (Writing inv tries image count out))
-      mine_laying count out laid = record {
-        stage = (opened', home', laid, trying' (goes l (Writing inv tries image count out)) refl refl refl);
-        apart = f.mine.apart;
-        reader = reader_goes sizes g' q0 l (Writing inv tries image count out) (reader_framed object sizes g f0 q0 row (Made image) theirs asked current q0 l f.mine.reader);
-      }
-
-      pub given_laying : (count : ℕ) (out : _) (act : Act (Mail I (Block S R))) → IsSingle act → (says : Mine O I S R → Type 0) → pending_of l.stage ≡ Some inv
-          → IsLaid sizes g' f0 count out (Made image) → Valid homes me.1 act → AreSlots sizes g' (homes_after homes me.1 act)
-          → says (with_local me.0 (goes l (Writing inv tries image count out)), carried_after me.1 act)
-          → CanTake object sizes (moment_of words homes local) q0 l (record { word = 1 + q0; becomes = slice_index words (1 + q0); homes = homes_after homes me.1 act; leaves = goes l (Writing inv tries image count out); acts = [] })
-          → Given object sizes me g local words (1 + q0) (slice_index words (1 + q0)) homes MakesNoAct says
-      given_laying count out act single says pending laid valid are said can = record {
-        board = g';
-        local' = goes l (Writing inv tries image count out);
-        acts = [];
-        appended = sym (append-nil g.acts);
-        made = refl;
-        act = act;
-        single = single;
-        valid = valid;
-        sound = sound_with object sizes g g' local q0 (goes l (Writing inv tries image count out)) f.sound
-            (board_framed object sizes g f0 q0 row (Made image) theirs asked current f.sound.board)
-            (others_framed object sizes g f0 q0 row (Made image) theirs asked current local)
-            (mine_laying count out laid)
-            (history_framed object sizes g f0 q0 row (Made image) theirs asked current local l (goes l (Writing inv tries image count out)) f.local_is refl (sym pending) f.sound.history)
-            (order_kept object sizes.processes g.atomic.agreed g.calls_in_version g.version local f.sound.order q0 l (goes l (Writing inv tries image count out)) f.inside f.local_is refl refl);
-        words_are = words_same sizes g g' words (1 + q0) refl refl refl f.words_are;
-        slots_are = are;
-        said = said;
-        can = can;
-      }
-
-      open_from : (r : ℕ) (r_in : r < sizes.processes) → pending_of l.stage ≡ Some inv → g.slot f0 r ≢ 1 → row r ≡ 1
-          → ((c : ℕ) → c ≢ r → (row c ≢ 1 → g.slot f0 c ≢ 1) × (row c ≡ 2 → (g.slot f0 c ≡ 2) × (Made image ≡ g.content f0)))
-          → ((z : ℕ) → z < r → row z ≡ 2) → ((z : ℕ) → r < z → row z ≢ 1) → (says : Mine O I S R → Type 0)
-          → ((y : Mail I (Block S R)) → says (with_local me.0 (goes l (Writing inv tries image r true)), (slot_of sizes f0 r, y) ∷ me.1))
-          → ((r ≡ 0) × (l.stage ≡ Reading inv tries sizes.processes image)) ⊎ (l.stage ≡ Writing inv tries image r false)
-          → Given object sizes me g local words (1 + q0) (slice_index words (1 + q0)) homes MakesNoAct says
-      open_from r r_in pending here out rows before after says said turn =
-          let t = taken_framed object sizes g f0 q0 row (Made image) theirs asked current f_in r r_in homes me.1 f.slots_are here out rows in
-          given_laying r true (takes (slot_of sizes f0 r) t.0) tt says pending
-          (laid_open object sizes g f0 q0 row (Made image) theirs asked current f_in r r_in out before after) t.1 t.2 (said t.0)
-          (OpenBlock inv tries r image t.0 turn r_in t.1, refl)
-
-  -- a slot of the block is taken
-  module _ (inv : I) (tries r : ℕ) (image : Image S R) (r_in : r < sizes.processes) (st : Step (Mail I (Block S R))) where
-    opened_told : (sizes_are : me.0.known.sizes ≡ sizes) → IsLaying inv tries image r me → (y : Mail I (Block S R)) (found : ℕ)
-        → HasLaidOpen st me found (with_local me.0 (goes l (Writing inv tries image r true)), (slot_of sizes f0 r, y) ∷ me.1)
-    opened_told sizes_are laying y found inv' tries' r' image' laying' =
-        let e = same_turn laying laying' in
-        (y, (λ k. (with_local me.0 (goes l (Writing (e.0 k) (e.1 k) (e.3 k) (e.2 k) true)), (slot_of (sym sizes_are k) (block_frame (sym sizes_are k) (q0 * (sym sizes_are k).calls + m)) (e.2 k), y) ∷ me.1))) where
-          same_turn : IsLaying inv tries image r me → IsLaying inv' tries' image' r' me → (inv ≡ inv') × (tries ≡ tries') × (r ≡ r') × (image ≡ image')
-          same_turn (inl x) (inl y) =
-              let e : Reading inv tries me.0.known.sizes.processes image ≡ Reading inv' tries' me.0.known.sizes.processes image' = sym x.1 ∙ y.1 in
-              let a : inv ≡ inv' = cc in let b : tries ≡ tries' = cc in let d : image ≡ image' = cc in
-              (a, b, x.0 ∙ sym y.0, d)
-          same_turn (inl x) (inr y) = absurd (let e : Reading inv tries me.0.known.sizes.processes image ≡ Writing inv' tries' image' r' false = sym x.1 ∙ y in cc)
-          same_turn (inr x) (inl y) = absurd (let e : Writing inv tries image r false ≡ Reading inv' tries' me.0.known.sizes.processes image' = sym x ∙ y.1 in cc)
-          same_turn (inr x) (inr y) =
-              let e : Writing inv tries image r false ≡ Writing inv' tries' image' r' false = sym x ∙ y in
-              let a : inv ≡ inv' = cc in let b : tries ≡ tries' = cc in let c : r ≡ r' = cc in let d : image ≡ image' = cc in
-              (a, b, c, d)
-
-    module _ (g : Board I S R) (local : ℕ → Local I S R) (words : List ℕ) (homes : List (Maybe (Mail I (Block S R)))) (f : Found meaning o sizes me g local words homes) where
-      abbrev i : ℕ
-      i = 1 + q0
-
-      abbrev Wanted : Type 0
-      Wanted = Given object sizes me g local words i (slice_index words i) homes MakesNoAct (HasLaidOpen st me (slice_index words i))
-
-      from_reading : r ≡ 0 → stage_of me ≡ Reading inv tries sizes.processes image → IsLaying inv tries image r me → Wanted
-      from_reading first stage laying =
-          let at : IsStageAt object sizes g q0 l (Reading inv tries sizes.processes image) = subst (IsStageAt object sizes g q0 l) stage f.mine.stage in
-          let row : ℕ → ℕ = set_at (λ z. 0) r 1 in
-          let else : (z : ℕ) → z ≢ r → row z ≡ 0 = (λ z n. set_at_elsewhere (λ z. 0) r 1 z n) in
-          open_from inv tries image g local words homes f at.0 at.1 at.3 row r r_in (ap pending_of stage) (at.2 r) (set_at_same (λ z. 0) r 1)
-          (λ c n. ((λ e. at.2 c), (λ e. absurd (let x = else c n in omega arith))))
-          (λ z below. absurd (omega arith)) (λ z above e. let x = else z (λ y. omega arith) in omega arith)
-          (HasLaidOpen st me (slice_index words i)) (λ y. opened_told f.sizes_are laying y (slice_index words i)) (inl (first, stage))
-
-      from_writing : stage_of me ≡ Writing inv tries image r false → Wanted
-      from_writing stage =
-          let at : IsStageAt object sizes g q0 l (Writing inv tries image r false) = subst (IsStageAt object sizes g q0 l) stage f.mine.stage in
-          let row : ℕ → ℕ = set_at (g.slot f0) r 1 in
-          let else : (z : ℕ) → z ≢ r → row z ≡ g.slot f0 z = (λ z n. set_at_elsewhere (g.slot f0) r 1 z n) in
-          open_from inv tries image g local words homes f at.0 at.1 at.3 row r r_in (ap pending_of stage) (λ e. let x : false ≡ true = at.2.next e in cc) (set_at_same (g.slot f0) r 1)
-          (λ c n. ((λ e x. e (else c n ∙ x)), (λ e. (sym (else c n) ∙ e, sym at.2.content))))
-          (λ z below. else z (λ y. omega arith) ∙ at.2.written z below) (λ z above e. at.2.others z above (sym (else z (λ y. omega arith)) ∙ e))
-          (HasLaidOpen st me (slice_index words i)) (λ y. opened_told f.sizes_are (inr stage) y (slice_index words i)) (inr stage)
-
-    pub lays_open : IsLaying inv tries image r me → Moves meaning o sizes id me (1 + p) (λ n. n) (λ g found. MakesNoAct) (λ found me'. HasLaidOpen st me found me')
-    lays_open laying = subst (λ z. Moves meaning o sizes id me (1 + z) (λ n. n) (λ g found. MakesNoAct) (λ found me'. HasLaidOpen st me found me')) of.first
-        (step_law meaning o sizes id me (1 + q0) (λ n. n) (λ g found. MakesNoAct) (λ found me'. HasLaidOpen st me found me') of.alone (λ g local words homes f.
-        elim laying [
-          | inl first ↦ from_reading g local words homes f first.0 (first.1 ∙ ap (λ k. Reading inv tries k image) (ap (λ (z : Sizes). z.processes) f.sizes_are)) (inl first)
-          | inr next ↦ from_writing g local words homes f next
-        ]))
-
-  -- it is given back
-  module _ (inv : I) (tries r : ℕ) (image : Image S R) (stage : stage_of me ≡ Writing inv tries image r true) (holds : HoldsBlock sizes q0 r image me) (st : Step (Mail I (Block S R))) where
-    module _ (g : Board I S R) (local : ℕ → Local I S R) (words : List ℕ) (homes : List (Maybe (Mail I (Block S R)))) (f : Found meaning o sizes me g local words homes) where
-      close_now : Given object sizes me g local words (1 + q0) (slice_index words (1 + q0)) homes MakesNoAct (HasLaid st me (slice_index words (1 + q0)))
-      close_now =
-          let at : IsStageAt object sizes g q0 l (Writing inv tries image r true) = subst (IsStageAt object sizes g q0 l) stage f.mine.stage in
-          let out = at.2.is_out refl in
-          let row : ℕ → ℕ = set_at (g.slot f0) r 2 in
-          let else : (z : ℕ) → z ≢ r → row z ≡ g.slot f0 z = (λ z n. set_at_elsewhere (g.slot f0) r 2 z n) in
-          let th = theirs inv tries image g local words homes f at.0 at.1 at.3 in
-          let ask = asked inv tries image g local words homes f at.0 at.1 at.3 in
-          let cu = current inv tries image g local words homes f at.0 at.1 at.3 in
-          let fi = f_in inv tries image g local words homes f at.0 at.1 at.3 in
-          given_laying inv tries image g local words homes f at.0 at.1 at.3 row (r + 1) false gives tt (HasLaid st me (slice_index words (1 + q0))) (ap pending_of stage)
-          (laid_closed object sizes g f0 q0 row (Made image) th ask cu fi r out.0
-          (λ z below. elim (number_cases z r) [
-            | inl same ↦ ap row same.0 ∙ set_at_same (g.slot f0) r 2
-            | inr other ↦ else z other.0 ∙ at.2.written z (let n = other.0 in omega arith)
-          ])
-          (λ z above e. at.2.others z above (sym (else z (λ y. omega arith)) ∙ e)))
-          tt
-          (given_framed object sizes g f0 q0 row (Made image) th ask cu fi r out.0 homes me.1 holds.0 f.slots_are holds.2 holds.1
-          (λ c n. ((λ e x. e (else c n ∙ x)), (λ e. (sym (else c n) ∙ e, sym at.2.content)))))
-          (λ inv' tries' r' image' stage'.
-          let e : Writing inv tries image r true ≡ Writing inv' tries' image' r' true = sym stage ∙ stage' in
-          let a : inv ≡ inv' = cc in let b : tries ≡ tries' = cc in let c : r ≡ r' = cc in let d : image ≡ image' = cc in
-          λ k. (with_local me.0 (goes l (Writing (a k) (b k) (d k) (c k + 1) false)), rest me.1))
-          (CloseBlock inv tries r image holds.0 stage holds.1, (λ k. record { word = 1 + q0; becomes = slice_index words (1 + q0); homes = put_back homes (sym holds.2 k); leaves = goes l (Writing inv tries image (r + 1) false); acts = [] }))
-
-    pub lays : Moves meaning o sizes id me (1 + p) (λ n. n) (λ g found. MakesNoAct) (λ found me'. HasLaid st me found me')
-    lays = subst (λ z. Moves meaning o sizes id me (1 + z) (λ n. n) (λ g found. MakesNoAct) (λ found me'. HasLaid st me found me')) of.first
-        (step_law meaning o sizes id me (1 + q0) (λ n. n) (λ g found. MakesNoAct) (λ found me'. HasLaid st me found me') of.alone (λ g local words homes f. close_now g local words homes f))
+  pub lays : AllowsWrite (ShowsBoard meaning o n) id v p r x (HasLaid meaning v r x)
+  lays c shown at = keeps_rule meaning o n id v alone (with_letter p r (Some x) id) _ _ lays_move c shown at

@@ -1,59 +1,76 @@
--- Seats that have made no call, in order.
+-- How a seat begins.
+use Rattle.std.specs.Prelude.{All, is_some, true}
+use Rattle.std.proofs.lemmas.Bool.{false≢true}
 use Rattle.std.specs.Arc.{arc_value}
-use Rattle.uni_any.proofs.Vocabulary.{All, List, Sequential, Sizes, Some, View, [], ap, arith, at_rest, false, first_image, image_of, inl, inr, length, length-append, length-map, length-replicate, map, nothing_taken, pending_of, refl, replicate, slice_get, slice_index_or, subst, suc, sym, zero, ℕ, ◌++◌, ◌+◌, ◌<◌, ◌∙◌, ◌∷◌, ◌≡◌}
 use Rattle.uni_any.proofs.Ordering.{get_snoc}
-use Rattle.uni_any.specs.Belongs.{AreFirstSeats, IsFreshSeat, IsSeatOf, StandsAt, taken_as}
+use Rattle.triple_buffers.specs.Parties.{IsPartyOf, number_of, steps_of}
+use Rattle.uni_any.proofs.Vocabulary.{zero, Letter, List, None, Sequential, Some, View, [], ap, arith, first_alone, first_told, first_version, inl, inr, length, length-append, map, pending_of, refl, replicate, slice_get, slice_index_or, subst, suc, sym, told_by, ℕ, ◌%◌, ◌++◌, ◌+◌, ◌<◌, ◌∙◌, ◌∷◌, ◌≡◌}
+use Rattle.uni_any.specs.News.{inv_as, version_as}
+use Rattle.uni_any.specs.Seats.{AreFirstSeats, IsFirstSeat, IsSeatOf, StandsAt, object_of, processes_of, rest_of, view_in}
 use Rattle.uni_any.specs.declared.seat.AnySeat.{AnySeat}
-use Rattle.uni_any.specs.declared.shared.AnyShared.{AnyShared}
+use Rattle.uni_any.specs.declared.seat.AnyShared.{AnyShared}
 
 pub get_index : {A : Type 0} (xs : List A) (k : ℕ) (d : A) → k < length xs → slice_get xs k ≡ Some (slice_index_or xs k d)
 get_index [] k d h = absurd (omega arith)
 get_index (y ∷ ys) zero d h = refl
 get_index (y ∷ ys) (suc k) d h = get_index ys k d (omega arith)
 
--- the view of the seat of process p alone, at rest
-abbrev pub view_of : {O I S R : Type 0} → (meaning : O → Sequential S I R) → O → Sizes → (p count : ℕ) → View O I S R
-view_of meaning o sizes p count = record { object = o; known = record { sizes = sizes; first = p; count = count; local = at_rest (meaning o) sizes } }
+-- owners of one value tell the same
+pub told_alike : {I S R : Type 0} (a b : Letter I S R) → arc_value a ≡ arc_value b → told_by a ≡ told_by b
+told_alike a b same = (λ k. record {
+  call = (same k).call;
+  inv = inv_as (same k).inv;
+  last = version_as (arc_value (same k).last);
+  next = version_as (arc_value (same k).next);
+})
 
-module _ {O I S R : Type 0} (meaning : O → Sequential S I R) (shared : AnyShared O S I R) (k : ℕ) where
-  pub fresh : (seat : AnySeat O S I R) → seat.seat.table_id ≡ shared.table.shared.table_id → seat.seat.me.0 ≡ view_of meaning shared.setup.object shared.setup.sizes k 1 → seat.p ≡ k → k < shared.setup.sizes.processes
-      → seat.made ≡ 0 → seat.pending ≡ false → seat.held.word ≡ 0 → image_of (arc_value seat.held.block) ≡ first_image (meaning shared.setup.object) shared.setup.sizes → map taken_as seat.seen.items ≡ replicate shared.setup.sizes.processes nothing_taken
-      → IsFreshSeat shared k seat
-  fresh seat table me p inside made pending word base seen = record {
+pub all_alike : {A B : Type 0} (f : A → B) (b : B) (xs : List A) → All (λ x. f x ≡ b) xs → map f xs ≡ replicate (length xs) b
+all_alike f b [] each = refl
+all_alike f b (x ∷ xs) each = (λ k. (each 0 x (omega arith)) k ∷ all_alike f b xs (λ j d inside. each (suc j) d (omega (arith, inside))) k)
+
+module _ {O I S R : Type 0} (meaning : O → Sequential S I R) (shared : AnyShared O S I R) (p : ℕ) where
+  pub first_seat : (seat : AnySeat O S I R) → IsPartyOf shared.buffers seat.party → number_of seat.party ≡ p → view_in seat ≡ first_alone (rest_of meaning (object_of shared) (processes_of shared) p) → steps_of seat.party ≡ 0
+      → seat.p ≡ p → seat.made ≡ 0 → seat.asked ≡ None → seat.named ≡ 0 → p < processes_of shared → version_as (arc_value seat.last) ≡ first_version (meaning (object_of shared)) (processes_of shared)
+      → length seat.seen.items ≡ processes_of shared → All (λ c. told_by c ≡ first_told (meaning (object_of shared)) (processes_of shared)) seat.seen.items → IsFirstSeat shared p seat
+  first_seat seat own number view steps p_is made asked named inside last long each = record {
     own = record {
-      table = table;
-      own = record {
-        object = ap (λ (v : View O I S R). v.object) me;
-        sizes_are = ap (λ (v : View O I S R). v.known.sizes) me;
-        first = ap (λ (v : View O I S R). v.known.first) me ∙ sym p;
-        alone = ap (λ (v : View O I S R). v.known.count) me;
+      kept = record {
+        place = record {
+          own = own;
+          layout = shared.laid;
+          object = ap (λ (z : View O I S R). z.object) view;
+          processes = ap (λ (z : View O I S R). z.known.processes) view;
+          first = ap (λ (z : View O I S R). z.known.first) view ∙ sym number;
+          alone = ap (λ (z : View O I S R). z.known.count) view;
+        };
+        number = number ∙ sym p_is;
+        inside = subst (λ k. k < processes_of shared) (sym p_is) inside;
+        last = ap (λ (z : View O I S R). z.known.local.last) view ∙ sym last;
+        seen = ap (λ (z : View O I S R). z.known.local.seen) view ∙ sym (all_alike told_by (first_told (meaning (object_of shared)) (processes_of shared)) seat.seen.items each ∙ ap (λ k. replicate k (first_told (meaning (object_of shared)) (processes_of shared))) long);
+        long = long;
+        named = (let z = ap (λ k. k % 64) named in let a = inside in omega arith);
       };
-      inside = subst (λ j. j < shared.setup.sizes.processes) (sym p) inside;
-      has = record {
-        word = ap (λ (v : View O I S R). v.known.local.word) me ∙ sym word;
-        base = ap (λ (v : View O I S R). v.known.local.base) me ∙ sym base;
-        taken = ap (λ (v : View O I S R). v.known.local.taken) me ∙ sym seen;
-      };
-      seen = sym (length-map seat.seen.items taken_as) ∙ ap (λ xs. length xs) seen ∙ length-replicate shared.setup.sizes.processes nothing_taken;
-      made = ap (λ (v : View O I S R). length v.known.local.own) me ∙ sym made;
-      stands = subst (λ b. StandsAt b seat.made shared.setup.sizes.calls seat.seat.me.0.known.local.stage) (sym pending) (ap (λ (v : View O I S R). v.known.local.stage) me);
+      made = ap (λ (z : View O I S R). length z.known.local.own) view ∙ sym made;
+      few = (let m = made in omega arith);
+      pending_few = λ some. absurd (false≢true (subst (λ o. is_some o ≡ true) asked some));
+      stands = subst (λ o. StandsAt (processes_of shared) o (view_in seat).known.local.stage) (sym asked) (ap (λ (z : View O I S R). z.known.local.stage) view);
     };
-    process = p;
-    calls = ap (λ (v : View O I S R). v.known.local.own) me;
-    pending = ap (λ (v : View O I S R). pending_of v.known.local.stage) me;
-    version = ap (λ (v : View O I S R). v.known.local.after) me;
+    process = p_is;
+    none = ap (λ (z : View O I S R). z.known.local.own) view;
+    idle = ap (λ (z : View O I S R). pending_of z.known.local.stage) view;
+    start = ap (λ (z : View O I S R). z.known.local.after) view;
+    no_steps = steps;
   }
 
-  pub one_more : (seats later : List (AnySeat O S I R)) (seat : AnySeat O S I R) → AreFirstSeats shared k seats → later ≡ seats ++ seat ∷ [] → IsFreshSeat shared k seat → AreFirstSeats shared (k + 1) later
-  one_more seats later seat are is its = subst (λ all. AreFirstSeats shared (k + 1) all) (sym is) (record {
+  pub one_more : (seats later : List (AnySeat O S I R)) (seat : AnySeat O S I R) → AreFirstSeats shared p seats → later ≡ seats ++ seat ∷ [] → IsFirstSeat shared p seat → AreFirstSeats shared (p + 1) later
+  one_more seats later seat are is its = subst (λ all. AreFirstSeats shared (p + 1) all) (sym is) (record {
     many = length-append seats (seat ∷ []) ∙ (let m = are.many in omega arith);
-    each = λ p u e. elim (get_snoc seats seat p u e) [
-      | inl old ↦ are.each p u old
-      | inr new ↦ (let at : p ≡ k = new.0 ∙ are.many in subst (λ j. IsFreshSeat shared j u) (sym at) (subst (λ (s : AnySeat O S I R). IsFreshSeat shared k s) new.1 its))
+    each = λ q u e. elim (get_snoc seats seat q u e) [
+      | inl old ↦ are.each q u old
+      | inr new ↦ (let at : q ≡ p = new.0 ∙ are.many in subst (λ j. IsFirstSeat shared j u) (sym at) (subst (λ (s : AnySeat O S I R). IsFirstSeat shared p s) new.1 its))
     ];
   })
 
--- at the start there is none
 pub no_seat : {O I S R : Type 0} (shared : AnyShared O S I R) → AreFirstSeats shared 0 []
 no_seat shared = record { many = refl; each = λ p u e. absurd (let f : slice_get [] p ≡ Some u = e in cc) }
 

@@ -1,268 +1,242 @@
--- The load of S with which an attempt begins, or a call ends.
-use Rattle.uni_any.proofs.Vocabulary.{append-nil, AcceptsAll-append, Act, AreHome, AreOrdered, AreSlots, Atomic, Block, Board, GoesOn, HasStarted, HasStartedAs, Invoke, IsBoard, IsHistory, IsHome, IsOf, IsOpen, IsOrdered, IsPending, IsReader, IsStageAt, IsTold, List, Local, Mail, Mine, None, Option, Reading, Ready, Respond, Returned, Sequential, Sizes, Some, Step, [], ap, applied_in, arith, at_start, block_frame, call_frame, carried_after, ending, goes, has_block, homes_after, in_of, inl, inr, length, length-append, local_of, made_of, map, append_assoc, response_at, number_cases, pending_of, plain, refl, returns, row_in, sequential_acts, set_at, set_at-cases, set_at_elsewhere, set_at_same, slice_index, subst, sym, version_in, with_local, word_of, ℕ, ◌*◌, ◌++◌, ◌+◌, ◌<◌, ◌∙◌, ◌∷◌, ◌≡◌, ◌≢◌, ◌≤◌}
-use Rattle.uni_any.proofs.Acts.{none_returned, one_returned, responded_other, responded_own, sequential_acts-snoc}
-use Rattle.uni_any.specs.Execution.Next.{Return, Start}
-use Rattle.uni_any.specs.Laws.{Moves, Responds}
-use Rattle.uni_any.proofs.Frame.{Found, Given, sound_with, step_law}
-use Rattle.uni_any.proofs.Ordering.{order_kept, order_with, ordered_returned, version_rises}
-use Rattle.uni_any.proofs.Posting.{words_same}
-use Rattle.uni_any.proofs.Present as Present
-use Rattle.uni_any.proofs.Takings.{board_taken, others_taken, stage_taken}
-use mathlib.Core.Option.{Option as Maybe}
+-- The load of S with which an attempt begins.
+use Rattle.uni_any.proofs.Vocabulary.{AllowsChange, AreOrdered, Board, Contents, HasCome, HasLast, HasStarted, Idle, Image, IsAt, IsHistory, IsOpen, IsPending, IsShown, IsSound, IsStageAt, IsWriter, Letter, Local, Posting, Reading, Ready, Sequential, ShowsBoard, Some, Stage, Told, Version, View, Writing, announced_at, announced_by, ap, applied_in, arith, begun, call_news, called_by, first_image, get_elem?, image_from, in_of, inl, inr, length, local_of, lt_cases, made_by, most_calls, number_cases, number_in, pending_of, posted, posted_at, process_in, refl, set_at, set_at-cases, set_at_same, slice_set, some, started, subst, sym, take, with_local, word_of, written_then, ℕ, ◌*◌, ◌+◌, ◌<◌, ◌∙◌, ◌≡◌, ◌≢◌, ◌≤◌, Moves, ShowsNext, append-nil, with_word, []}
+use Rattle.std.proofs.lemmas.List.{take_all}
+use Rattle.uni_any.proofs.Framing.{keeps_rule, buffers_same, mine, own, shown_with, sound_with}
+use Rattle.uni_any.specs.Execution.Next.{Start}
+use Rattle.uni_any.specs.Plays.{IsPendingAt}
+use Rattle.uni_any.proofs.Histories.{history_kept}
+use Rattle.uni_any.proofs.Orders.{order_kept}
+use Rattle.uni_any.proofs.Posting.{keeps_same}
+use Rattle.uni_any.proofs.Staying.{board_stays, later, locals, others_stay, reader_stays}
+use Rattle.uni_any.proofs.Sums.{rows_most}
 
-module _ {O I S R : Type 0} (meaning : O → Sequential S I R) (o : O) (sizes : Sizes) (id : ℕ) (me : Mine O I S R) (p : ℕ) (of : IsOf o sizes p me)
-    (inv : I) (tries : ℕ) (pending : IsPending inv tries me) (st : Step (Mail I (Block S R))) where
+-- a version that has come, of the present number, is the present one
+pub present_image : {S I R : Type 0} (object : Sequential S I R) (n : ℕ) (g : Board I S R) (local : ℕ → Local I S R) → IsHistory object n g local → AreOrdered object n g local → (x : Version S R) → HasCome object n g x → g.number ≤ x.number → x.image ≡ g.image
+present_image object n g local history order x come late =
+    let all : g.calls_in x.number ≡ length g.atomic.agreed = order.counted x.number late in
+    come.1 ∙ ap (λ k. image_from object (first_image object n) (take k g.atomic.agreed)) all ∙ ap (image_from object (first_image object n)) (take_all (length g.atomic.agreed) g.atomic.agreed (omega arith)) ∙ history.image
+
+-- a process calls no more than it may
+pub called_few : {S I R : Type 0} (object : Sequential S I R) (n : ℕ) (g : Board I S R) (local : ℕ → Local I S R) (p : ℕ) (l : Local I S R) (stage : Stage I S R) → IsStageAt object n g local p l stage → begun (made_by l) (pending_of stage) ≤ most_calls
+called_few object n g local p l Idle h = h.1
+called_few object n g local p l (Posting inv count) h = (let f = h.0.few in omega arith)
+called_few object n g local p l (Ready inv tries) h = (let f = h.0.0.few in omega arith)
+called_few object n g local p l (Reading inv tries count) h = (let f = h.0.0.few in omega arith)
+called_few object n g local p l (Writing inv tries image count) h = (let f = h.0.0.few in omega arith)
+
+-- so versions have a bound
+pub versions_few : {S I R : Type 0} (object : Sequential S I R) (n : ℕ) (g : Board I S R) (local : ℕ → Local I S R) → n ≤ 64 → IsSound object n g local → (come : (x : Version S R) × HasCome object n g x × (x.image ≡ g.image)) → g.number ≤ 64 * most_calls
+versions_few object n g local few sound come =
+    let long : length g.image.rows ≡ n = ap (λ (z : Image _ _). length z.rows) (sym come.2) ∙ (sound.board.whole come.0 come.1).long in
+    let all = rows_most most_calls g.image.rows (λ i below.
+    let i_in : i < n = omega (arith, below, long) in
+    let a = sound.board.in_most i i_in in
+    let b = called_few object n g local i (local i) (local i).stage (sound.each i i_in).stage in
+    omega arith) in
+    (let v = sound.board.versions in omega (arith, all, long, few))
+
+-- what a load of S finds
+module _ {O I S R : Type 0} (meaning : O → Sequential S I R) (o : O) (n : ℕ) (g : Board I S R) (local : ℕ → Local I S R) (seat_of : ℕ → ℕ) (c : Contents (Letter I S R) (View O I S R)) (is : IsShown n meaning o g local seat_of c) where
+  pub loaded_number : number_in (c.words 0) ≡ g.number
+  loaded_number = (let a = is.word in let b = is.sound.board.process in let d = is.few.1 in let e : number_in (c.words 0) ≡ number_in (word_of g.number g.process) = ap number_in a in omega (arith, b, d, e))
+
+  pub loaded_process : process_in (c.words 0) ≡ g.process
+  loaded_process = (let a = is.word in let b = is.sound.board.process in let d = is.few.1 in let e : process_in (c.words 0) ≡ process_in (word_of g.number g.process) = ap process_in a in omega (arith, b, d, e))
+
+  -- its process has brought that version in, whatever one process has learned
+  pub loaded_known : (p : ℕ) (l' : Local I S R) → l'.last ≡ (local p).last → number_in (c.words 0) ≤ (set_at local p l' (process_in (c.words 0))).last.number
+  loaded_known p l' same =
+      let q_in : process_in (c.words 0) < n = (let a = loaded_process in let b = is.sound.board.process in omega arith) in
+      let brought_in = (is.sound.each (process_in (c.words 0)) q_in).writer.present (sym loaded_process) in
+      let number = loaded_number in
+      elim (set_at-cases local p l' (process_in (c.words 0))) [
+        | inl here ↦ (let e = ap (λ (z : Local I S R). z.last.number) here.1 in let d = ap (λ (z : Version S R). z.number) same in let f = ap (λ k. (local k).last.number) here.0 in omega (arith, brought_in))
+        | inr other ↦ (let e = ap (λ (z : Local I S R). z.last.number) other.1 in omega (arith, brought_in))
+      ]
+
+module _ {O I S R : Type 0} (meaning : O → Sequential S I R) (o : O) (n id : ℕ) (v : View O I S R) (alone : v.known.count ≡ 1) (inv : I) (tries : ℕ) (pending : IsPending inv tries v) (processes : v.known.processes ≡ n) where
   abbrev l : Local I S R
-  l = local_of me
+  l = local_of v
 
-  abbrev m : ℕ
-  m = made_of me
+  abbrev p : ℕ
+  p = v.known.first
 
-  abbrev q0 : ℕ
-  q0 = me.0.known.first
+  same_pending : (inv' : I) (tries' : ℕ) → IsPending inv' tries' v → (inv ≡ inv') × (tries ≡ tries')
+  same_pending inv' tries' = by pending where
+    by : IsPending inv tries v → IsPending inv' tries' v → (inv ≡ inv') × (tries ≡ tries')
+    by (inl x) (inl y) = let e : Ready inv tries ≡ Ready inv' tries' = sym x ∙ y in let a : inv ≡ inv' = cc in let b : tries ≡ tries' = cc in (a, b)
+    by (inl x) (inr (z, inl y)) = absurd (let e : Ready inv tries ≡ Posting inv' v.known.processes = sym x ∙ y in cc)
+    by (inl x) (inr (z, inr y)) = absurd (let e : Ready inv tries ≡ Reading inv' y.0 y.1 = sym x ∙ y.2 in cc)
+    by (inr (z, inl x)) (inl y) = absurd (let e : Posting inv v.known.processes ≡ Ready inv' tries' = sym x ∙ y in cc)
+    by (inr (z, inl x)) (inr (w, inl y)) = let e : Posting inv v.known.processes ≡ Posting inv' v.known.processes = sym x ∙ y in let a : inv ≡ inv' = cc in (a, z ∙ sym w)
+    by (inr (z, inl x)) (inr (w, inr y)) = absurd (let e : Posting inv v.known.processes ≡ Reading inv' y.0 y.1 = sym x ∙ y.2 in cc)
+    by (inr (z, inr x)) (inl y) = absurd (let e : Reading inv x.0 x.1 ≡ Ready inv' tries' = sym x.2 ∙ y in cc)
+    by (inr (z, inr x)) (inr (w, inl y)) = absurd (let e : Reading inv x.0 x.1 ≡ Posting inv' v.known.processes = sym x.2 ∙ y in cc)
+    by (inr (z, inr x)) (inr (w, inr y)) = let e : Reading inv x.0 x.1 ≡ Reading inv' y.0 y.1 = sym x.2 ∙ y.2 in let a : inv ≡ inv' = cc in (a, z ∙ sym w)
 
-  abbrev object : Sequential S I R
-  object = meaning o
+  pending_is : pending_of l.stage ≡ Some inv
+  pending_is = by pending where
+    by : IsPending inv tries v → pending_of l.stage ≡ Some inv
+    by (inl x) = ap pending_of x
+    by (inr (z, inl x)) = ap pending_of x
+    by (inr (z, inr x)) = ap pending_of x.2
 
-  same_pending : (inv' : I) (tries' : ℕ) → IsPending inv tries me → IsPending inv' tries' me → (inv ≡ inv') × (tries ≡ tries')
-  same_pending inv' tries' (inl x) (inl y) = let e : Ready inv tries ≡ Ready inv' tries' = sym x ∙ y in let a : inv ≡ inv' = cc in let b : tries ≡ tries' = cc in (a, b)
-  same_pending inv' tries' (inl x) (inr y) = absurd (let e : Ready inv tries ≡ Reading inv' y.1.0 y.1.1 y.1.2 = sym x ∙ y.1.3 in cc)
-  same_pending inv' tries' (inr x) (inl y) = absurd (let e : Reading inv x.1.0 x.1.1 x.1.2 ≡ Ready inv' tries' = sym x.1.3 ∙ y in cc)
-  same_pending inv' tries' (inr x) (inr y) =
-      let e : Reading inv x.1.0 x.1.1 x.1.2 ≡ Reading inv' y.1.0 y.1.1 y.1.2 = sym x.1.3 ∙ y.1.3 in let a : inv ≡ inv' = cc in (a, x.0 ∙ sym y.0)
+  announced_was : announced_by n l ≡ made_by l + 1
+  announced_was = by pending where
+    by : IsPending inv tries v → announced_by n l ≡ made_by l + 1
+    by (inl x) = ap (announced_at n (made_by l)) x
+    by (inr (z, inl x)) = ap (announced_at n (made_by l)) (x ∙ ap (Posting inv) processes) ∙ elim (number_cases n n) [ inl e ↦ rw e.1 refl | inr e ↦ absurd (e.0 refl) ]
+    by (inr (z, inr x)) = ap (announced_at n (made_by l)) x.2
 
-  module _ (g : Board I S R) (local : ℕ → Local I S R) (words : List ℕ) (homes : List (Maybe (Mail I (Block S R)))) (f : Found meaning o sizes me g local words homes) where
-    abbrev s : ℕ
-    s = slice_index words 0
+  module _ (c : Contents (Letter I S R) (View O I S R)) (g : Board I S R) (local : ℕ → Local I S R) (seat_of : ℕ → ℕ) (is : IsShown n meaning o g local seat_of c) (at : get_elem? c.views id ≡ some v) where
+    abbrev object : Sequential S I R
+    object = meaning o
 
-    abbrev l1 : Local I S R
-    l1 = has_block l s g.image
+    abbrev word : ℕ
+    word = c.words 0
 
-    is : s ≡ word_of g.version g.current
-    is = Present.is meaning o sizes me g local words homes f
+    abbrev l' : Local I S R
+    l' = started l inv tries word
 
-    board : IsBoard sizes g
-    board = f.sound.board
+    p_in : p < n
+    p_in = (own meaning o n id v alone c g local seat_of is at).0
 
-    facts : IsOpen sizes g q0 m inv × AreHome sizes g q0 (m + 1) × IsHome sizes g (block_frame sizes (q0 * sizes.calls + m)) × (g.since q0 + tries ≤ g.version) × (pending_of l.stage ≡ Some inv)
-    facts = elim pending [
-      | inl x ↦ (let at : IsStageAt object sizes g q0 l (Ready inv tries) = subst (IsStageAt object sizes g q0 l) x f.mine.stage in (at.0, at.1, at.2, at.3, ap pending_of x))
-      | inr x ↦
-          let at : IsStageAt object sizes g q0 l (Reading inv x.1.0 x.1.1 x.1.2) = subst (IsStageAt object sizes g q0 l) x.1.3 f.mine.stage in
-          (at.0, at.1, at.2, (let a = x.0 in let b = board.past q0 f.inside in omega arith), ap pending_of x.1.3)
-    ]
+    local_is : local p ≡ l
+    local_is = (own meaning o n id v alone c g local seat_of is at).2
 
-    was_told : IsTold object g q0 l.own (Some inv)
-    was_told = subst (λ z. IsTold object g q0 l.own z) facts.4 (subst (λ (z : Local I S R). IsTold object g q0 z.own (pending_of z.stage)) f.local_is (f.sound.history.told q0 f.inside))
+    its : IsAt object n g local p l
+    its = mine meaning o n id v alone c g local seat_of is at
 
-    present : version_in s ≡ g.version
-    present = Present.present meaning o sizes me g local words homes f
+    number_is : number_in word ≡ g.number
+    number_is = loaded_number meaning o n g local seat_of c is
 
-    soon : 2 ≤ tries → applied_in g.image q0 ≡ m + 1
-    soon enough = (let a = facts.3 in let b = board.soon q0 f.inside (omega arith) in let c = board.in_most q0 f.inside in let d = facts.0.1 in omega arith)
+    process_is : process_in word ≡ g.process
+    process_is = loaded_process meaning o n g local seat_of c is
 
-    -- what the seat is told, with what it has then
-    module _ (t : Present.Took meaning o sizes me g local words homes f) where
-      abbrev Wanted : Type 0
-      Wanted = Given object sizes me g local words 0 (slice_index words 0) homes (Responds q0) (HasStarted st me s)
+    -- what it has written for all, and at which version it announced it
+    facts : IsOpen object n g local p l inv × ((written_then l l.stage).call ≡ made_by l + 1) × ((written_then l l.stage).inv ≡ Some inv) × HasLast object n g local l (written_then l l.stage)
+        × (g.since p + tries ≤ g.number) × ((r : ℕ) → r < n → posted l' r ≡ posted l r)
+    facts = by pending where
+      w : IsWriter object n g local p l
+      w = its.writer
 
-      said : (l' : Local I S R) → GoesOn l1 q0 inv tries g.image l' → HasStartedAs sizes inv tries me s (with_local me.0 l', carried_after me.1 t.act)
-      said l' on = (
-        g.image,
-        l',
-        board.image,
-        soon,
-        on,
-        (λ e. let x = t.same e in (x.0, ap (λ xs. (with_local me.0 l', xs)) x.1)),
-        (λ n. let x = t.other n in (x.0, x.1, x.2, x.3, x.4, ap (λ xs. (with_local me.0 l', xs)) x.5)),
-        Present.fits meaning o sizes me g local words homes f,
-      )
+      by : IsPending inv tries v → IsOpen object n g local p l inv × ((written_then l l.stage).call ≡ made_by l + 1) × ((written_then l l.stage).inv ≡ Some inv) × HasLast object n g local l (written_then l l.stage)
+          × (g.since p + tries ≤ g.number) × ((r : ℕ) → r < n → posted l' r ≡ posted l r)
+      by (inl x) =
+          let at_stage : IsStageAt object n g local p l (Ready inv tries) = subst (IsStageAt object n g local p l) x its.stage in
+          let same : written_then l l.stage ≡ l.written = ap (written_then l) x in (
+            at_stage.0.0,
+            ap (λ (t : Told I S R). t.call) same ∙ at_stage.0.1,
+            ap (λ (t : Told I S R). t.inv) same ∙ w.inv at_stage.0.1 ∙ pending_is,
+            subst (HasLast object n g local l) (sym same) w.written,
+            at_stage.1,
+            (λ r r_in. same ∙ sym (ap (λ s. posted_at l s r) x)),
+          )
+      by (inr (z, inl x)) =
+          let at_stage : IsStageAt object n g local p l (Posting inv v.known.processes) = subst (IsStageAt object n g local p l) x its.stage in
+          let same : written_then l l.stage ≡ call_news l inv = ap (written_then l) x in (
+            at_stage.0,
+            ap (λ (t : Told I S R). t.call) same,
+            ap (λ (t : Told I S R). t.inv) same,
+            inl (ap (λ (t : Told I S R). t.last) same),
+            (let b = is.sound.board.past p p_in in omega (arith, z)),
+            (λ r r_in. same ∙ sym (ap (λ s. posted_at l s r) (x ∙ ap (Posting inv) processes) ∙ elim (lt_cases r n) [ inl e ↦ rw e.1 refl | inr e ↦ absurd (let a = e.0 in omega (arith, r_in)) ])),
+          )
+      by (inr (z, inr x)) =
+          let at_stage : IsStageAt object n g local p l (Reading inv x.0 x.1) = subst (IsStageAt object n g local p l) x.2 its.stage in
+          let same : written_then l l.stage ≡ l.written = ap (written_then l) x.2 in (
+            at_stage.0.0,
+            ap (λ (t : Told I S R). t.call) same ∙ at_stage.0.1,
+            ap (λ (t : Told I S R). t.inv) same ∙ w.inv at_stage.0.1 ∙ pending_is,
+            subst (HasLast object n g local l) (sym same) w.written,
+            (let b = is.sound.board.past p p_in in omega (arith, z)),
+            (λ r r_in. same ∙ sym (ap (λ s. posted_at l s r) x.2)),
+          )
 
-      said_all : (l' : Local I S R) → GoesOn l1 q0 inv tries g.image l' → HasStarted st me s (with_local me.0 l', carried_after me.1 t.act)
-      said_all l' on inv' tries' pending' =
-          let e = same_pending inv' tries' pending pending' in
-          let me' : Mine O I S R = (with_local me.0 l', carried_after me.1 t.act) in
-          subst (λ z. HasStartedAs z inv' tries' me s me') (sym f.sizes_are) (subst (λ t. HasStartedAs sizes inv' t me s me') e.1 (subst (λ i. HasStartedAs sizes i tries me s me') e.0 (said l' on)))
+    shows : ShowsNext meaning o n g local seat_of (record { words = set_at c.words 0 word; buffers = c.buffers; views = slice_set c.views id (with_local v l') }) p l' []
+    shows =
+        let pend : pending_of l'.stage ≡ pending_of l.stage = sym pending_is in
+        let keeps = keeps_same l l' refl pend in
+        let called : called_by l' ≡ called_by l = (λ k. begun (made_by l) (pend k)) in
+        let told_on : called_by l ≡ in_of g p + 1 → called_by l' ≡ in_of g p + 1 = (λ e. called ∙ e) in
+        let asked_on : (i : I) → in_of g p ≡ made_by l → pending_of l.stage ≡ Some i → (made_by l' ≡ made_by l) × (pending_of l'.stage ≡ Some i) = (λ i e some_was. (refl, pend ∙ some_was)) in
+        let since_else : (q : ℕ) → q ≢ p → g.since q ≡ g.since q = (λ q apart. refl) in
+        let announced_on : g.since p < g.number → (g.since p ≡ g.since p) × (announced_by n l' ≡ announced_by n l) = (λ before. (refl, sym announced_was)) in
+        let open' = g.atomic.open_call in
+        let next' = g.atomic.next_nth in
+        let g' = later object n g local p l l' local_is g.since open' next' g.acts in
+        let local' = locals object n g local p l l' local_is g.since open' next' g.acts in
+        let w = its.writer in
+        let f = facts in
+        let rd = reader_stays object n g local p l l' local_is g.since open' next' g.acts since_else announced_on (omega arith) keeps told_on asked_on l its.reader in
+        let present : (x : Version S R) → HasCome object n g x → number_in word ≤ x.number → x.image ≡ g.image =
+        (λ x come late. present_image object n g local is.sound.history is.sound.order x come (let a = number_is in omega (arith, late))) in
+        shown_with meaning o n id v alone c g local seat_of is at l' g' [] (sym (append-nil g.acts)) (set_at c.words 0 word) c.buffers (set_at_same c.words 0 word ∙ is.word) (buffers_same meaning o n id v alone c g local seat_of is at l' refl f.5)
+        (sound_with object n g g' local p l' is.sound
+        (board_stays object n g local p l l' local_is g.since open' next' g.acts since_else announced_on (omega arith) keeps told_on asked_on (omega (arith, called)) (is.sound.board.past p p_in) is.sound.board)
+        (λ q q_in apart h. others_stay object n g local p l l' local_is g.since open' next' g.acts since_else announced_on (omega arith) keeps told_on asked_on q apart h)
+        (record {
+          stage = (
+            (record { few = f.0.few; least = f.0.least; most = f.0.most }, f.1),
+            record {
+              later = (let a = f.4 in let b = number_is in omega arith);
+              least = λ x come late. (let a = f.0.least in let e = ap (λ z. applied_in z p) (present x come late) in omega arith);
+              soon = λ enough x come late.
+                  let a = f.4 in
+                  let b = is.sound.board.soon p p_in (omega (arith, enough, a)) in
+                  let d = f.0.most in
+                  let e = ap (λ z. applied_in z p) (present x come late) in
+                  let h = ap (λ (z : Local I S R). announced_by n z) local_is in
+                  let k = announced_was in
+                  omega arith;
+            },
+            record {
+              most = omega arith;
+              base = λ below. absurd (omega (arith, below));
+              caught = λ same q below which. absurd (omega (arith, below));
+              lacks = λ e. absurd (let a = is.few.0 in omega (arith, e));
+              own = λ below. absurd (omega (arith, below));
+            },
+          );
+          writer = record {
+            last = w.last;
+            present = w.present;
+            written = f.3;
+            called = (let a = f.1 in omega arith);
+            inv = λ e. f.2;
+            made = (let a = f.1 in omega arith);
+          };
+          reader = record {
+            long = rd.long;
+            process = (let a = process_is in let b = is.sound.board.process in omega arith);
+            known = loaded_known meaning o n g local seat_of c is p l' (ap (λ (z : Local I S R). z.last) (sym local_is));
+            old = inl is.word;
+            called = rd.called;
+            inv = rd.inv;
+          };
+        })
+        (history_kept object n g local p l l' local_is g.since is.sound.history p_in refl pend)
+        (order_kept object n g local p l l' local_is g.since open' next' g.acts is.sound.order p_in refl refl))
 
-      calls : (q k r : ℕ) → q < sizes.processes → k < sizes.calls → g.announced q ≤ k → t.slot' (call_frame sizes q k) r ≡ g.slot (call_frame sizes q k) r
-      calls q k r q_in k_in from = t.frames q k r q_in k_in
+    told : HasStarted v word (with_local v l')
+    told inv' tries' pending' =
+        let e = same_pending inv' tries' pending' in
+        let come = (is.sound.each g.process is.sound.board.process).writer in
+        let few = versions_few object n g local is.few.1 is.sound ((local g.process).last, come.last, present_image object n g local is.sound.history is.sound.order (local g.process).last come.last (let a = come.present refl in omega arith)) in (
+          (let a = process_is in let b = is.sound.board.process in let d = processes in omega arith),
+          (let a = is.word in let b = is.sound.board.process in let d = is.few.1 in omega (arith, few)),
+          (λ k. with_local v (started l (e.0 k) (e.1 k) word)),
+        )
 
-      abbrev g1 : Atomic S I → List (Act I R) → Board I S R
-      g1 a b = Present.after_it meaning o sizes me g local words homes f t a b
+  pub starts_move : Moves meaning o n id v (with_word (λ x. x) id) (λ g local c w acts. acts ≡ []) (λ c w. HasStarted v (c.words 0) w)
+  starts_move c g local seat_of is at = (
+    with_local v (started l inv tries (c.words 0)),
+    [],
+    shows c g local seat_of is at,
+    refl,
+    told c g local seat_of is at,
+    (Start inv tries (subst (λ k. IsPendingAt k inv tries l.stage) processes pending), refl),
+  )
 
-      own_stage : (a : Atomic S I) (b : List (Act I R)) → IsStageAt object sizes (g1 a b) q0 (local q0) (Ready inv tries) → IsStageAt object sizes (g1 a b) q0 l (Ready inv tries)
-      own_stage a b h = subst (λ z. IsStageAt object sizes (g1 a b) q0 z (Ready inv tries)) f.local_is h
-
-      -- as after so many failed attempts
-      pub readied : (a : Atomic S I) (b : List (Act I R)) → IsStageAt object sizes (g1 a b) q0 l (Ready inv tries)
-      readied a b = own_stage a b (stage_taken object sizes g local q0 t.slot' a b t.else t.blocks calls q0 f.inside (Ready inv tries)
-          (subst (λ z. IsStageAt object sizes g q0 z (Ready inv tries)) (sym f.local_is) (facts.0, facts.1, facts.2, facts.3)))
-
-      reader' : (a : Atomic S I) (b : List (Act I R)) (l' : Local I S R) → l'.word ≡ s → l'.base ≡ g.image → l'.taken ≡ l.taken → IsReader sizes (g1 a b) q0 l'
-      reader' = Present.reader_after meaning o sizes me g local words homes f t
-
-      are' : (a : Atomic S I) (b : List (Act I R)) → AreSlots sizes (g1 a b) (homes_after homes me.1 t.act)
-      are' = Present.slots_after meaning o sizes me g local words homes f t
-
-      -- the call isn't in: the attempt begins
-      pub goes_on : applied_in g.image q0 ≢ m + 1 → Wanted
-      goes_on not_in =
-          let l' = goes l1 (Reading inv tries 0 g.image) in
-          let at = readied g.atomic g.acts in
-          let lacks : applied_in g.image q0 ≡ m = (let a = facts.0.1 in let b = facts.0.2 in let c = board.in_most q0 f.inside in omega (arith, not_in)) in
-          record {
-            board = g1 g.atomic g.acts;
-            local' = l';
-            acts = [];
-            appended = sym (append-nil g.acts);
-            made = sym (none_returned q0 l l' refl);
-            act = t.act;
-            single = t.single;
-            valid = t.valid;
-            sound = sound_with object sizes g (g1 g.atomic g.acts) local q0 l' f.sound (board_taken object sizes g local q0 t.slot' g.atomic g.acts t.else t.blocks calls board)
-                (others_taken object sizes g local q0 t.slot' g.atomic g.acts t.else t.blocks calls)
-                (record {
-                  stage = (
-                    at.0,
-                    at.1,
-                    at.2,
-                    record {
-                      later = (let a = is in let b = facts.3 in omega arith);
-                      whole = board.image;
-                      lacks = lacks;
-                      own = λ e. lacks;
-                      looked = omega arith;
-                      fresh = λ e. record {
-                        told = λ q q_in. inl refl;
-                        caught = λ q below. absurd (omega arith);
-                        batch = record {
-                          calls = [];
-                          image_is = refl;
-                          rising = tt;
-                          below = λ c has. absurd (let x = has.1 in omega arith);
-                          asked = λ c has. absurd (let x = has.1 in omega arith);
-                        };
-                      };
-                    },
-                  );
-                  apart = f.mine.apart;
-                  reader = reader' g.atomic g.acts l' refl refl refl;
-                })
-                (history_on l' (sym facts.4))
-                (order_kept object sizes.processes g.atomic.agreed g.calls_in_version g.version local f.sound.order q0 l l' f.inside f.local_is refl refl);
-            words_are = words_same sizes g (g1 g.atomic g.acts) words 0 refl refl refl f.words_are;
-            slots_are = are' g.atomic g.acts;
-            said = said_all l' ((λ e. absurd (not_in e)), (λ e. (lacks, refl)));
-            can = (Start inv tries g.image (homes_after homes me.1 t.act) pending t.reads not_in, refl);
-          } where
-            history_on : (l' : Local I S R) → Some inv ≡ pending_of l.stage → IsHistory object sizes (g1 g.atomic g.acts) (set_at local q0 (goes l1 (Reading inv tries 0 g.image)))
-            history_on l' e =
-                let was = f.sound.history in
-                record {
-                  image = was.image;
-                  agreed = was.agreed;
-                  start = was.start;
-                  accepted = was.accepted;
-                  told = λ q q_in. elim (set_at-cases local q0 (goes l1 (Reading inv tries 0 g.image)) q) [
-                    | inl here ↦ subst (λ (z : Local I S R). IsTold object (g1 g.atomic g.acts) q z.own (pending_of z.stage)) (sym here.1)
-                        (subst (λ k. IsTold object (g1 g.atomic g.acts) k l.own (Some inv)) (sym here.0) (told_same q0 l.own (Some inv) was_told))
-                    | inr other ↦ subst (λ (z : Local I S R). IsTold object (g1 g.atomic g.acts) q z.own (pending_of z.stage)) (sym other.1) (told_same q (local q).own (pending_of (local q).stage) (was.told q q_in))
-                  ];
-                } where
-                  told_same : (q : ℕ) (own : List (Returned I R)) (pend : Option I) → IsTold object g q own pend → IsTold object (g1 g.atomic g.acts) q own pend
-                  told_same q own None h = h
-                  told_same q own (Some i) h = (h.0, h.1, h.2, (λ x in_is reply. let t = h.3 x in_is reply in record { place = t.place; there = t.there; reply_is = t.reply_is }))
-
-      -- the call is in: it returns
-      pub ends : applied_in g.image q0 ≡ m + 1 → Wanted
-      ends in_is =
-          let reply = board.image.replies q0 f.inside (omega arith) in
-          let x = reply.0 in
-          let l' = returns l1 inv x in
-          let atomic' : Atomic S I = record g.atomic { open_call = set_at g.atomic.open_call q0 None } in
-          let acts' : List (Act I R) = g.acts ++ Respond q0 m x ∷ [] in
-          let at = readied atomic' acts' in
-          let longer : length l'.own ≡ m + 1 = length-append l.own _ in
-          record {
-            board = g1 atomic' acts';
-            local' = l';
-            acts = Respond q0 m x ∷ [];
-            appended = refl;
-            made = sym (one_returned q0 l l' _ refl);
-            act = t.act;
-            single = t.single;
-            valid = t.valid;
-            sound = sound_with object sizes g (g1 atomic' acts') local q0 l' f.sound (board_taken object sizes g local q0 t.slot' atomic' acts' t.else t.blocks calls board)
-                (others_taken object sizes g local q0 t.slot' atomic' acts' t.else t.blocks calls)
-                (record {
-                  stage = ((at.0.1 ∙ sym longer, in_is ∙ sym longer), (λ j from below. at.1 j (let e = longer in omega arith) below));
-                  apart = λ k from below. f.mine.apart k (let e = longer in omega arith) below;
-                  reader = reader' atomic' acts' l' refl refl refl;
-                })
-                (history_ends x reply.1 in_is)
-                (order_ends x reply.1 in_is);
-            words_are = words_same sizes g (g1 atomic' acts') words 0 refl refl refl f.words_are;
-            slots_are = are' atomic' acts';
-            said = said_all l' ((λ e. (x, reply.1, follows_less x reply.1 in_is, refl)), (λ n. absurd (n in_is)));
-            can = (Return inv tries g.image (homes_after homes me.1 t.act) x pending t.reads in_is reply.1, refl);
-          } where
-            mine_ordered : IsOrdered object g.atomic.agreed g.calls_in_version g.version q0 l.after l.own
-            mine_ordered = subst (λ (z : Local I S R). IsOrdered object g.atomic.agreed g.calls_in_version g.version q0 z.after z.own) f.local_is (f.sound.order.each q0 f.inside)
-
-            follows_less : (x : R) → (row_in g.image q0).reply ≡ Some x → applied_in g.image q0 ≡ m + 1 → l.after < version_in s
-            follows_less x reply in_is =
-                let taken = was_told.3 x in_is reply in
-                let less = version_rises object sizes.processes g.atomic.agreed g.calls_in_version g.version local f.sound.order q0 l.after l.own mine_ordered inv x taken.place taken.there in
-                (let e = present in omega (arith, less))
-
-            order_ends : (x : R) → (row_in g.image q0).reply ≡ Some x → applied_in g.image q0 ≡ m + 1
-                → AreOrdered object g.atomic.agreed g.calls_in_version sizes.processes g.version (set_at local q0 (returns l1 inv x))
-            order_ends x reply in_is =
-                let taken = was_told.3 x in_is reply in
-                let returned = ordered_returned object sizes.processes g.atomic.agreed g.calls_in_version g.version local f.sound.order q0 l.after l.own mine_ordered inv x taken.place taken.there taken.reply_is
-                (λ c has mine. let b = (f.sound.history.agreed c has).1 in let e : in_of g c.process ≡ in_of g q0 = ap (in_of g) mine in omega (arith, in_is)) in
-                order_with object sizes.processes g.atomic.agreed g.calls_in_version g.version local f.sound.order q0 (returns l1 inv x)
-                (subst (λ v. IsOrdered object g.atomic.agreed g.calls_in_version g.version q0 v (l.own ++ record { inv = inv; reply = x; after = l.after; version = v } ∷ [])) (sym present) returned)
-
-            history_ends : (x : R) → (row_in g.image q0).reply ≡ Some x → applied_in g.image q0 ≡ m + 1
-                → IsHistory object sizes (g1 (record g.atomic { open_call = set_at g.atomic.open_call q0 None }) (g.acts ++ Respond q0 m x ∷ [])) (set_at local q0 (returns l1 inv x))
-            history_ends x reply in_is =
-                let was = f.sound.history in
-                let taken = was_told.3 x in_is reply in
-                let atomic' : Atomic S I = record g.atomic { open_call = set_at g.atomic.open_call q0 None } in
-                record {
-                  image = was.image;
-                  agreed = was.agreed;
-                  start = was.start;
-                  accepted = AcceptsAll-append object (at_start object.initial) g.atomic atomic' g.acts (Respond q0 m x ∷ []) was.accepted
-                      (atomic', ((inv, taken.place, was_told.0, taken.there, subst (λ z. response_at object z (map (λ c. c.inv) g.atomic.agreed) taken.place ≡ Some x) (sym was.start) taken.reply_is), refl), refl);
-                  told = λ q q_in. elim (set_at-cases local q0 (returns l1 inv x) q) [
-                    | inl here ↦ subst (λ (z : Local I S R). IsTold object (g1 atomic' (g.acts ++ Respond q0 m x ∷ [])) q z.own (pending_of z.stage)) (sym here.1)
-                        (subst (λ k. IsTold object (g1 atomic' (g.acts ++ Respond q0 m x ∷ [])) k (returns l1 inv x).own None) (sym here.0) told_own)
-                    | inr other ↦ subst (λ (z : Local I S R). IsTold object (g1 atomic' (g.acts ++ Respond q0 m x ∷ [])) q z.own (pending_of z.stage)) (sym other.1)
-                        (told_other q (local q).own (pending_of (local q).stage) other.0 (was.told q q_in))
-                  ];
-                } where
-                  told_own : IsTold object (g1 (record g.atomic { open_call = set_at g.atomic.open_call q0 None }) (g.acts ++ Respond q0 m x ∷ [])) q0 (returns l1 inv x).own None
-                  told_own = (
-                    set_at_same g.atomic.open_call q0 None,
-                    was_told.1 ∙ sym (length-append l.own _),
-                    responded_own q0 m x g.acts ∙ ap (λ xs. xs ++ Respond q0 m x ∷ []) was_told.2 ∙ append_assoc (sequential_acts q0 0 (map plain l.own)) (Invoke q0 m inv ∷ []) (Respond q0 m x ∷ [])
-                        ∙ sym (sequential_acts-snoc q0 0 l.own (ending l1 inv x) ∙ (λ k. sequential_acts q0 0 (map plain l.own) ++ Invoke q0 ((let z : m + 0 ≡ m = omega arith in z) k) inv ∷ Respond q0 ((let z : m + 0 ≡ m = omega arith in z) k) x ∷ [])),
-                  )
-
-                  told_other : (q : ℕ) (own : List (Returned I R)) (pend : Option I) → q ≢ q0 → IsTold object g q own pend → IsTold object (g1 (record g.atomic { open_call = set_at g.atomic.open_call q0 None }) (g.acts ++ Respond q0 m x ∷ [])) q own pend
-                  told_other q own None apart h = (set_at_elsewhere g.atomic.open_call q0 None q apart ∙ h.0, h.1, responded_other q q0 m x g.acts apart ∙ h.2)
-                  told_other q own (Some i) apart h = (
-                    set_at_elsewhere g.atomic.open_call q0 None q apart ∙ h.0,
-                    h.1,
-                    responded_other q q0 m x g.acts apart ∙ h.2,
-                    (λ y in' reply'. let t = h.3 y in' reply' in record { place = t.place; there = t.there; reply_is = t.reply_is }),
-                  )
-
-      pub either_way : Wanted
-      either_way = elim (number_cases (applied_in g.image q0) (m + 1)) [ inl e ↦ ends e.0 | inr n ↦ goes_on n.0 ]
-
-  pub starts : Moves meaning o sizes id me 0 (λ n. n) (λ g found. Responds p) (λ found me'. HasStarted st me found me')
-  starts = subst (λ k. Moves meaning o sizes id me 0 (λ n. n) (λ g found. Responds k) (λ found me'. HasStarted st me found me')) of.first
-      (step_law meaning o sizes id me 0 (λ n. n) (λ g found. Responds q0) (λ found me'. HasStarted st me found me') of.alone (λ g local words homes f. either_way g local words homes f (Present.took meaning o sizes me g local words homes f)))
+  pub starts : AllowsChange (ShowsBoard meaning o n) id v 0 (λ x. x) (HasStarted v)
+  starts c shown at = keeps_rule meaning o n id v alone (with_word (λ x. x) id) _ _ starts_move c shown at

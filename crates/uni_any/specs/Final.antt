@@ -1,4 +1,4 @@
--- What the rule tells of a process.
+-- What the rule tells of processes.
 use Rattle.std.specs.Prelude.{◌≡◌, ℕ, ◌<◌, ◌≤◌, ◌==◌, List, [], ◌∷◌, ◌++◌, Option, None, Some}
 use Rattle.std.specs.Prelude.{Contains, count_by, length, map, refl, slice_get}
 use Rattle.seq_object.specs.Sequential.{Sequential}
@@ -8,14 +8,11 @@ use Rattle.uni_model.specs.AtomicObject.Act.{Invoke}
 use Rattle.uni_model.specs.HerlihyWing.{IsLinearizedByCompletion}
 use Rattle.uni_model.specs.Linearizable.{observed}
 use Rattle.uni_model.specs.ProcessCalls.{acts_by, sequential_acts}
-use lib.ListN.{get_elem?}
-use mathlib.Core.Option.{some}
-use Rattle.uni_any.specs.Batch.{inv_of, pending_of, plain}
+use Rattle.uni_any.specs.Batch.{inv_of, plain}
 use Rattle.uni_any.specs.Content.{applied_in}
 use Rattle.uni_any.specs.Order.{StandsIn}
 use Rattle.uni_any.specs.declared.view.Image.{Image}
 use Rattle.uni_any.specs.declared.view.Returned.{Returned}
-use Rattle.uni_any.specs.declared.view.View.{View}
 
 -- the acts of a process with these calls, each with its reply before the next one begins, and with this pending one
 abbrev pub acts_told : {I R : Type 0} → (p : ℕ) → List (Returned I R) → Option I → List (Act I R)
@@ -27,16 +24,6 @@ pub record ProcessCalls (I R : Type 0) : Type 0 where
   pub process : ℕ
   pub own : List (Returned I R)
   pub pending : Option I
-
--- one of the seats, which is that of one process, tells of these calls
-pub record IsToldBy {O I S R : Type 0} (views : List (View O I S R)) (its : ProcessCalls I R) : Type 0 where
-  pub id : ℕ
-  pub view : View O I S R
-  pub there : get_elem? views id ≡ some view
-  pub alone : view.known.count ≡ 1
-  pub process : view.known.first ≡ its.process
-  pub own : view.known.local.own ≡ its.own
-  pub pending : pending_of view.known.local.stage ≡ its.pending
 
 -- There is a history that the atomic object accepts, from its start on. What is observed of it is linearizable, in the words
 -- of Herlihy and Wing, in the order in which the calls took effect; the state is that after them. Each is a call of one of n processes. In the

@@ -1,86 +1,83 @@
--- What the steps on words append to the history of the board.
-use Rattle.std.specs.Prelude.{◌≡◌, ◌≢◌, ℕ, ◌+◌, List, [], ◌∷◌, ◌++◌, refl, drop, length, map, slice_index}
-use mathlib.Core.Option.{some}
-use lib.ListN.{get_elem?}
-use Rattle.atomic_table.specs.Table.{State, Valid, carried_after, chain, homes_after, stepped}
-use Rattle.atomic_table.specs.Table.{Act as Handling}
+-- What the views of seats tell, and what a step makes of a history.
+use Rattle.std.specs.Prelude.{◌≡◌, ℕ, ◌+◌, List, [], ◌∷◌, Option, ◌++◌, drop, length, refl, slice_set}
 use Rattle.seq_object.specs.Sequential.{Sequential}
+use Rattle.triple_buffers.specs.Contents.{Contents, with_value}
 use Rattle.uni_model.specs.AtomicObject.{Act, set_at}
-use Rattle.uni_model.specs.AtomicObject.Act.{Invoke, Linearize, Respond}
-use Rattle.uni_any.specs.Batch.{HasBatch}
-use Rattle.uni_any.specs.Board.{Board}
-use Rattle.uni_any.specs.Execution.{moment_of}
-use Rattle.uni_any.specs.Plays.{Mine}
-use Rattle.uni_any.specs.Ran.{CanTake}
-use Rattle.uni_any.specs.Shown.{IsShown}
-use Rattle.uni_any.specs.declared.block.Block.{Block}
-use Rattle.uni_any.specs.declared.mail.Mail.{Mail}
-use Rattle.uni_any.specs.declared.sizes.Sizes.{Sizes}
-use Rattle.uni_any.specs.declared.view.Image.{Image}
+use Rattle.uni_model.specs.AtomicObject.Act.{Respond}
+use Rattle.uni_any.specs.Final.{ProcessCalls}
+use Rattle.uni_any.specs.Board.{Board, pending_of}
+use Rattle.uni_any.specs.Ran.{IsStep, moment_of}
+use Rattle.uni_any.specs.Shown.{IsShown, Letter}
 use Rattle.uni_any.specs.declared.view.Local.{Local}
 use Rattle.uni_any.specs.declared.view.Returned.{Returned}
 use Rattle.uni_any.specs.declared.view.View.{View}
-
--- a seat takes one slot, gives one back, or does neither
-abbrev pub IsSingle : {X : Type 0} → Handling X → Type 0
-IsSingle (chain first second) = ⊥
-IsSingle handled = Unit {0}
+use lib.ListN.{get_elem?}
+use mathlib.Core.Option.{some}
 
 -- the responses of the calls from call k on
 abbrev pub responses : {I R : Type 0} → (p k : ℕ) → List (Returned I R) → List (Act I R)
 responses p k [] = []
 responses p k (call ∷ calls) = Respond p k call.reply ∷ responses p (k + 1) calls
 
-module _ {S I R : Type 0} where
-  -- the responses of the calls of process p that have returned by a step
-  abbrev pub returned_by : (p : ℕ) (before after : Local I S R) → List (Act I R)
-  returned_by p before after = responses p (length before.own) (drop (length before.own) after.own)
+-- one of the seats, which is that of one process, tells of these calls
+pub record IsToldBy {O I S R : Type 0} (views : List (View O I S R)) (its : ProcessCalls I R) : Type 0 where
+  pub id : ℕ
+  pub view : View O I S R
+  pub there : get_elem? views id ≡ some view
+  pub alone : view.known.count ≡ 1
+  pub process : view.known.first ≡ its.process
+  pub own : view.known.local.own ≡ its.own
+  pub pending : pending_of view.known.local.stage ≡ its.pending
 
-  -- no act
-  abbrev pub MakesNoAct : (before after : Local I S R) → List (Act I R) → Type 0
-  MakesNoAct before after acts = acts ≡ []
+module _ {O S I R : Type 0} (meaning : O → Sequential S I R) (o : O) (n : ℕ) where
+  -- what there is then shows a board whose history has these acts more; process p alone stands elsewhere
+  abbrev pub ShowsNext : Board I S R → (local : ℕ → Local I S R) → (seat_of : ℕ → ℕ) → Contents (Letter I S R) (View O I S R)
+      → (p : ℕ) → Local I S R → (acts : List (Act I R)) → Type 0
+  ShowsNext g local seat_of then p l acts =
+      (g' : Board I S R) × IsShown n meaning o g' (set_at local p l) seat_of then × (g'.acts ≡ g.acts ++ acts)
 
-  -- the next call of process p begins
-  abbrev pub Invokes : (p : ℕ) → I → (before after : Local I S R) → List (Act I R) → Type 0
-  Invokes p inv before after acts = acts ≡ Invoke p (length before.own) inv ∷ []
-
-  -- the pending call of process p returns, if it is no longer pending
-  abbrev pub Responds : (p : ℕ) → (before after : Local I S R) → List (Act I R) → Type 0
-  Responds p before after acts = acts ≡ returned_by p before after
-
-  -- Where the exchange finds what the attempt began with, the calls that make its image of the board's take effect:
-  -- pending ones, at most one of each process, in the order of processes. The own call returns. Else there is no act.
-  abbrev pub TakesEffect : Sequential S I R → Sizes → Board I S R → (p found : ℕ) → Image S R
-      → (before after : Local I S R) → List (Act I R) → Type 0
-  TakesEffect object sizes g p found image before after acts =
-      (found ≡ before.word → (batch : HasBatch object sizes g sizes.processes image)
-      × (acts ≡ map (λ c. Linearize c) batch.calls ++ returned_by p before after))
-      × (found ≢ before.word → acts ≡ [])
-
-module _ {O S I R : Type 0} (meaning : O → Sequential S I R) (o : O) (sizes : Sizes) (id : ℕ) (me : Mine O I S R) where
-  -- Where the table shows a board, and the word i becomes f of what it was by a step of the seat id, the seat can
-  -- handle its slots so that the table shows a board whose history has these acts more. The seat is told this, and its
-  -- process alone stands elsewhere. It is a step that this process can take in an execution.
-  abbrev pub Moves : (i : ℕ) → (f : ℕ → ℕ)
-      → (makes : Board I S R → (found : ℕ) → (before after : Local I S R) → List (Act I R) → Type 0)
-      → (says : ℕ → Mine O I S R → Type 0) → Type 0
-  Moves i f makes says =
-      (s : State (Mail I (Block S R)) (View O I S R)) (g : Board I S R) (local : ℕ → Local I S R) (seat_of : ℕ → ℕ)
-      → IsShown sizes meaning o g local seat_of s → get_elem? s.views id ≡ some me.0
-      → (v : View O I S R) × (handled : Handling (Mail I (Block S R))) × (g' : Board I S R) × (acts : List (Act I R))
-      × IsSingle handled × Valid s.homes me.1 handled
-      × IsShown sizes meaning o g' (set_at local me.0.known.first v.known.local) seat_of
-      (stepped s i (f (slice_index s.words i)) id me.1 v handled)
-      × says (slice_index s.words i) (v, carried_after me.1 handled)
-      × (g'.acts ≡ g.acts ++ acts)
-      × makes g (slice_index s.words i) me.0.known.local v.known.local acts
-      × CanTake (meaning o) sizes (moment_of s.words s.homes local) me.0.known.first me.0.known.local (record {
-        word = i;
-        becomes = f (slice_index s.words i);
-        homes = homes_after s.homes me.1 handled;
-        leaves = v.known.local;
+  -- Where a board is shown, a step of the seat id can leave what is next, with a new view of the seat, so that a board is shown
+  -- whose history has more acts: `makes` says which, and `says` what the seat is told. It is a step that its process can take
+  -- in an execution.
+  abbrev pub Moves : (id : ℕ) → View O I S R
+      → (next : Contents (Letter I S R) (View O I S R) → View O I S R → Contents (Letter I S R) (View O I S R))
+      → (makes : Board I S R → (local : ℕ → Local I S R) → Contents (Letter I S R) (View O I S R) → View O I S R
+      → List (Act I R) → Type 0)
+      → (says : Contents (Letter I S R) (View O I S R) → View O I S R → Type 0) → Type 0
+  Moves id v next makes says =
+      (c : Contents (Letter I S R) (View O I S R)) (g : Board I S R) (local : ℕ → Local I S R) (seat_of : ℕ → ℕ)
+      → IsShown n meaning o g local seat_of c → get_elem? c.views id ≡ some v
+      → (w : View O I S R) × (acts : List (Act I R)) × ShowsNext g local seat_of (next c w) v.known.first w.known.local acts
+      × makes g local c w acts × says c w
+      × IsStep (meaning o) n (moment_of c local) v.known.first v.known.local (record {
+        word = (next c w).words 0;
+        buffers = (next c w).buffers;
+        leaves = w.known.local;
         acts = acts;
       })
+
+module _ {O I S R : Type 0} where
+  -- there is next: the word S of this, a value written, or none where one was taken
+  abbrev pub with_word : (f : ℕ → ℕ) → (id : ℕ) → Contents (Letter I S R) (View O I S R) → View O I S R
+      → Contents (Letter I S R) (View O I S R)
+  with_word f id c w = record {
+    words = set_at c.words 0 (f (c.words 0));
+    buffers = c.buffers;
+    views = slice_set c.views id w;
+  }
+
+  abbrev pub with_letter : (from to : ℕ) → Option (Letter I S R) → (id : ℕ) → Contents (Letter I S R) (View O I S R)
+      → View O I S R → Contents (Letter I S R) (View O I S R)
+  with_letter from to letter id c w = record {
+    words = c.words;
+    buffers = with_value c.buffers from to letter;
+    views = slice_set c.views id w;
+  }
+
+  -- the responses of the calls of the seat's process that have returned by a step
+  abbrev pub returned_by : (before after : View O I S R) → List (Act I R)
+  returned_by before after =
+      responses before.known.first (length before.known.local.own) (drop (length before.known.local.own) after.known.local.own)
 
 -- two calls more, of which the first was call 3 of process 1
 sample_responses : responses {I = ℕ} {R = ℕ} 1 3 (record { inv = 5; reply = 7; after = 0; version = 1 }

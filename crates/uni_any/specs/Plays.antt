@@ -1,233 +1,194 @@
 -- What a step tells the seat that takes it, and how a seat is split.
-use Rattle.std.specs.Prelude.{◌≡◌, ◌≢◌, ◌⊎◌, ℕ, ◌+◌, ◌-◌, ◌*◌, ◌/◌, ◌%◌}
-use Rattle.std.specs.Prelude.{◌<◌, ◌≤◌, [], ◌∷◌, ◌++◌, Some, true, false, length, replicate}
+use Rattle.std.specs.Prelude.{◌≡◌, ◌≢◌, ◌⊎◌, ℕ, ◌+◌, ◌-◌, ◌*◌, ◌<◌, ◌≤◌, [], ◌∷◌, ◌++◌, Option, None, Some, replicate}
 use Rattle.std.specs.Prelude.{slice_set}
-use mathlib.Core.Option.{some}
-use Rattle.atomic_table.specs.Table.{Me, Step, rest}
 use Rattle.seq_object.specs.Sequential.{Sequential}
-use Rattle.uni_any.specs.Content.{Content.Asked, Content.Made, applied_in, nothing_taken, row_in, taken_in, told}
-use Rattle.uni_any.specs.Board.{block_frame, call_frame, first_image, slot_of}
-use Rattle.uni_any.specs.Batch.{pending_of}
-use Rattle.uni_any.specs.Final.{IsVersion, ProcessCalls}
-use Rattle.uni_any.specs.Invariant.{IsWhole, taken_of}
-use Rattle.uni_any.specs.declared.block.Block.{Block}
-use Rattle.uni_any.specs.declared.mail.Mail.{Mail}
-use Rattle.uni_any.specs.declared.sizes.Sizes.{Sizes}
+use Rattle.uni_any.specs.Content.{applied_in, row_in}
+use Rattle.uni_any.specs.Final.{ProcessCalls}
 use Rattle.uni_any.specs.declared.view.Image.{Image}
-use Rattle.uni_any.specs.declared.view.Local.{Local}
 use Rattle.uni_any.specs.declared.view.Returned.{Returned}
+use Rattle.uni_any.specs.Board.{block_news, call_news, made_by, number_in, pending_of, process_in}
+use Rattle.uni_any.specs.Invariant.{IsWhole, base_of, most_calls, seen_of}
+use Rattle.uni_any.specs.News.{drafted, first_told, first_version, told_by}
+use Rattle.uni_any.specs.Shown.{Letter}
+use Rattle.uni_any.specs.Versions.{IsVersionOf}
+use Rattle.uni_any.specs.declared.view.Local.{Local}
 use Rattle.uni_any.specs.declared.view.Stage.{Stage}
 use Rattle.uni_any.specs.declared.view.Stage.TheVariants.{Idle, Posting, Ready, Reading, Writing}
+use Rattle.uni_any.specs.declared.view.Told.{Told}
 use Rattle.uni_any.specs.declared.view.View.{View}
 
-abbrev pub at_rest : {S I R : Type 0} → Sequential S I R → Sizes → Local I S R
-at_rest object sizes =
-    record {
-      stage = Idle;
-      after = 0;
-      own = [];
-      word = 0;
-      base = first_image object sizes;
-      taken = replicate sizes.processes nothing_taken;
-      steps = 0;
-    }
+abbrev pub at_rest : {S I R : Type 0} → Sequential S I R → (n : ℕ) → Local I S R
+at_rest object n = record {
+  stage = Idle;
+  after = 0;
+  own = [];
+  word = 0;
+  last = first_version object n;
+  written = first_told object n;
+  seen = replicate n (first_told object n);
+}
 
-abbrev pub first_view : {O S I R : Type 0} → (meaning : O → Sequential S I R) → O → Sizes → View O I S R
-first_view meaning o sizes =
-    record {
-      object = o;
-      known = record { sizes = sizes; first = 0; count = sizes.processes; local = at_rest (meaning o) sizes };
-    }
+abbrev pub first_view : {O S I R : Type 0} → (O → Sequential S I R) → O → (n : ℕ) → View O I S R
+first_view meaning o n = record {
+  object = o;
+  known = record { processes = n; first = 0; count = n; local = at_rest (meaning o) n };
+}
 
--- the first process of a seat, and the others
-abbrev pub first_alone : {O I S R : Type 0} → View O I S R → View O I S R
-first_alone v = record v { known = record v.known { count = 1 } }
+module _ {I S R : Type 0} where
+  -- the invocation is written next for process r
+  abbrev pub IsPostingAt : I → (r : ℕ) → Stage I S R → Type 0
+  IsPostingAt inv r stage = ((r ≡ 0) × (stage ≡ Idle)) ⊎ (stage ≡ Posting inv r)
 
-abbrev pub others : {O I S R : Type 0} → View O I S R → View O I S R
-others v = record v { known = record v.known { first = v.known.first + 1; count = v.known.count - 1 } }
+  -- a call is pending: it is announced to all of n, or so many attempts have failed, or one was left
+  abbrev pub IsPendingAt : (n : ℕ) → I → (tries : ℕ) → Stage I S R → Type 0
+  IsPendingAt n inv tries stage =
+      (stage ≡ Ready inv tries)
+      ⊎ ((tries ≡ 0) × ((stage ≡ Posting inv n) ⊎ ((t : ℕ) × (r : ℕ) × (stage ≡ Reading inv t r))))
 
--- a seat is left with this local, and has changed in nothing else
-abbrev pub with_local : {O I S R : Type 0} → View O I S R → Local I S R → View O I S R
-with_local v l = record v { known = record v.known { local = l } }
-
--- the process after a step, at its next stage
-abbrev pub goes : {I S R : Type 0} → Local I S R → Stage I S R → Local I S R
-goes l stage = record l { stage = stage; steps = l.steps + 1 }
-
--- it has another block then
-abbrev pub has_block : {I S R : Type 0} → Local I S R → (word : ℕ) → Image S R → Local I S R
-has_block l word base = record l { word = word; base = base }
-
--- the version that a word S names
-abbrev pub version_in : ℕ → ℕ
-version_in s = s / 4294967296
-
--- its call that returns with this reply: it is in the version that the process has
-abbrev pub ending : {I S R : Type 0} → Local I S R → I → R → Returned I R
-ending l inv reply = record { inv = inv; reply = reply; after = l.after; version = version_in l.word }
-
--- after that call has returned
-abbrev pub returns : {I S R : Type 0} → Local I S R → I → R → Local I S R
-returns l inv reply =
-    record l { stage = Idle; after = version_in l.word; own = l.own ++ ending l inv reply ∷ []; steps = l.steps + 1 }
-
--- after it has looked which version has come, and found this one
-abbrev pub views : {I S R : Type 0} → Local I S R → (word : ℕ) → Image S R → Local I S R
-views l word base = record l { word = word; base = base; after = version_in word; steps = l.steps + 1 }
-
-abbrev pub Mine : (O I S R : Type 0) → Type 0
-Mine O I S R = Me (Mail I (Block S R)) (View O I S R)
-
--- with this block the call goes on, or returns
-abbrev pub GoesOn : {I S R : Type 0} → Local I S R → (p : ℕ) → I → (tries : ℕ) → Image S R → Local I S R
-    → Type 0
-GoesOn {R = R} l p inv tries base l' =
-    (applied_in base p ≡ length l.own + 1 → (x : R) × ((row_in base p).reply ≡ Some x)
-    × (l.after < version_in l.word) × (l' ≡ returns l inv x))
-    × (applied_in base p ≢ length l.own + 1 → (applied_in base p ≡ length l.own)
-    × (l' ≡ goes l (Reading inv tries 0 base)))
-
-abbrev pub took : {I S R : Type 0} → Local I S R → (r number : ℕ) → I → Local I S R
-took l r number inv = record l { taken = slice_set l.taken r (record { number = number; inv = Some inv }) }
+  -- the block is written next for process r: the version that was found with the calls that come next
+  abbrev pub IsLayingAt : Sequential S I R → (n : ℕ) → I → (tries : ℕ) → Image S R → (r : ℕ) → Local I S R → Type 0
+  IsLayingAt object n inv tries image r l =
+      ((r ≡ 0) × (l.stage ≡ Reading inv tries n) × (image ≡ drafted object (base_of object n l).image l.seen))
+      ⊎ (l.stage ≡ Writing inv tries image r)
 
 module _ {O I S R : Type 0} where
-  abbrev pub local_of : Mine O I S R → Local I S R
-  local_of me = me.0.known.local
+  abbrev pub local_of : View O I S R → Local I S R
+  local_of v = v.known.local
 
-  abbrev pub stage_of : Mine O I S R → Stage I S R
-  stage_of me = me.0.known.local.stage
+  abbrev pub stage_of : View O I S R → Stage I S R
+  stage_of v = v.known.local.stage
 
-  -- how many calls its process has made
-  abbrev pub made_of : Mine O I S R → ℕ
-  made_of me = length me.0.known.local.own
+  -- a seat is left with this local
+  abbrev pub with_local : View O I S R → Local I S R → View O I S R
+  with_local v l = record v { known = record v.known { local = l } }
 
-  -- the frame of the process's next or pending call, and of its block
-  abbrev pub own_call : Mine O I S R → ℕ
-  own_call me = call_frame me.0.known.sizes me.0.known.first (made_of me)
+  abbrev pub goes : View O I S R → Stage I S R → View O I S R
+  goes v stage = with_local v (record v.known.local { stage = stage })
 
-  abbrev pub own_block : Mine O I S R → ℕ
-  own_block me = block_frame me.0.known.sizes (me.0.known.first * me.0.known.sizes.calls + made_of me)
+  abbrev pub IsPosting : I → (r : ℕ) → View O I S R → Type 0
+  IsPosting inv r v = IsPostingAt inv r (stage_of v)
 
-  -- it goes to this local, with the slots that it has
-  abbrev pub IsLeft : Mine O I S R → Local I S R → Mine O I S R → Type 0
-  IsLeft me l me' = me' ≡ (with_local me.0 l, me.1)
+  abbrev pub HasPosted : View O I S R → (to : ℕ) → Letter I S R → View O I S R → Type 0
+  HasPosted v to letter w =
+      (inv : I) → IsPosting inv to v → told_by letter ≡ call_news (local_of v) inv → w ≡ goes v (Posting inv (to + 1))
 
-  -- it takes a slot more, with what is in it
-  abbrev pub Takes : Mine O I S R → Local I S R → (slot : ℕ) → Mail I (Block S R) → Mine O I S R → Type 0
-  Takes me l slot y me' = me' ≡ (with_local me.0 l, (slot, y) ∷ me.1)
+  abbrev pub IsPending : I → (tries : ℕ) → View O I S R → Type 0
+  IsPending inv tries v = IsPendingAt v.known.processes inv tries (stage_of v)
 
-  -- it gives back the slot that it took last
-  abbrev pub Gives : Mine O I S R → Local I S R → Mine O I S R → Type 0
-  Gives me l me' = me' ≡ (with_local me.0 l, rest me.1)
+-- what is written for all as an attempt begins
+abbrev pub written_then : {I S R : Type 0} → Local I S R → Stage I S R → Told I S R
+written_then l Idle = l.written
+written_then l (Posting inv count) = call_news l inv
+written_then l (Ready inv tries) = l.written
+written_then l (Reading inv tries count) = l.written
+written_then l (Writing inv tries image count) = l.written
 
-  -- the slot for reader r of the next invocation comes next
-  abbrev pub IsOpening : I → (r : ℕ) → Mine O I S R → Type 0
-  IsOpening inv r me = ((r ≡ 0) × (stage_of me ≡ Idle)) ⊎ (stage_of me ≡ Posting inv r false)
+-- an attempt begins with the word that was loaded
+abbrev pub started : {I S R : Type 0} → Local I S R → I → (tries word : ℕ) → Local I S R
+started l inv tries word = record l { stage = Reading inv tries 0; word = word; written = written_then l l.stage }
 
-  abbrev pub HasOpened : Step (Mail I (Block S R)) → Mine O I S R → ℕ → Mine O I S R → Type 0
-  HasOpened step me found me' =
-      (mail : Mail I (Block S R)) (inv : I) (r : ℕ) → step.said ≡ some mail → told mail ≡ Asked inv
-      → IsOpening inv r me
-      → (y : Mail I (Block S R))
-      × Takes me (goes (local_of me) (Posting inv r true)) (slot_of me.0.known.sizes (own_call me) r) y me'
+-- the process has taken this, or found nothing
+abbrev pub with_seen : {I S R : Type 0} → Local I S R → (from : ℕ) → Option (Letter I S R) → Local I S R
+with_seen l from None = l
+with_seen l from (Some letter) = record l { seen = slice_set l.seen from (told_by letter) }
 
-  abbrev pub HasClosed : Step (Mail I (Block S R)) → Mine O I S R → ℕ → Mine O I S R → Type 0
-  HasClosed step me found me' =
-      (inv : I) (r : ℕ) → stage_of me ≡ Posting inv r true
-      → Gives me (goes (local_of me) (Posting inv (r + 1) false)) me'
+-- its call that returns with this reply: it is in the version of this number
+abbrev pub ending : {I S R : Type 0} → Local I S R → I → R → (number : ℕ) → Returned I R
+ending l inv reply number = record { inv = inv; reply = reply; after = l.after; version = number }
 
-  abbrev pub HasAnnounced : Step (Mail I (Block S R)) → Mine O I S R → ℕ → Mine O I S R → Type 0
-  HasAnnounced step me found me' =
-      (inv : I) (r : ℕ) → stage_of me ≡ Posting inv r false → IsLeft me (goes (local_of me) (Ready inv 0)) me'
+abbrev pub returns : {I S R : Type 0} → Local I S R → I → R → (number : ℕ) → Local I S R
+returns l inv reply number =
+    record l { stage = Idle; after = number; own = l.own ++ ending l inv reply number ∷ [] }
 
-  -- a call is pending: so many attempts have failed, or one was left
-  abbrev pub IsPending : I → (tries : ℕ) → Mine O I S R → Type 0
-  IsPending inv tries me =
-      (stage_of me ≡ Ready inv tries)
-      ⊎ ((tries ≡ 0) × ((t : ℕ) × (r : ℕ) × (image : Image S R) × (stage_of me ≡ Reading inv t r image)))
+abbrev pub viewing : {I S R : Type 0} → Local I S R → (word : ℕ) → Local I S R
+viewing l word = record l { word = word; after = number_in word }
 
-  -- it takes the block that the word names out of its slot
-  abbrev pub TakesVersion : Sizes → Mine O I S R → Local I S R → (s : ℕ) → Image S R → Mine O I S R → Type 0
-  TakesVersion sizes me l s base me' =
-      (c : ℕ) × (y : Mail I (Block S R)) × (s % 4294967296 ≡ c + 1) × (c < sizes.processes * sizes.calls)
-      × (told y ≡ Made base) × Takes me l (slot_of sizes (block_frame sizes c) me.0.known.first) y me'
+-- the calls of the one process of a seat
+abbrev pub calls_of : {O I S R : Type 0} → View O I S R → ProcessCalls I R
+calls_of v = record { process = v.known.first; own = v.known.local.own; pending = pending_of v.known.local.stage }
 
-  -- the word names the block that the process has, or another one, which it takes out of its slot
-  abbrev pub HasStartedAs : Sizes → I → (tries : ℕ) → Mine O I S R → ℕ → Mine O I S R → Type 0
-  HasStartedAs sizes inv tries me s me' =
-      let l = local_of me in
-      (base : Image S R) × (l' : Local I S R) × IsWhole sizes base
-      × (2 ≤ tries → applied_in base me.0.known.first ≡ length l.own + 1)
-      × GoesOn (has_block l s base) me.0.known.first inv tries base l'
-      × (s ≡ l.word → (base ≡ l.base) × IsLeft me l' me')
-      × (s ≢ l.word → TakesVersion sizes me l' s base me')
-      × (s < 4294967296 * 4294967295)
+module _ {O I S R : Type 0} where
+  abbrev pub HasStarted : View O I S R → ℕ → View O I S R → Type 0
+  HasStarted v word w =
+      (inv : I) (tries : ℕ) → IsPending inv tries v
+      → (process_in word < v.known.processes) × (word < 64 * (64 * most_calls + 1))
+      × (w ≡ with_local v (started (local_of v) inv tries word))
 
-  abbrev pub HasStarted : Step (Mail I (Block S R)) → Mine O I S R → ℕ → Mine O I S R → Type 0
-  HasStarted step me s me' =
-      (inv : I) (tries : ℕ) → IsPending inv tries me → HasStartedAs me.0.known.sizes inv tries me s me'
+  -- With all buffers looked into there is a version. Where it has the call, the call returns; where not, at most one
+  -- attempt has failed.
+  pub record HasFound (meaning : O → Sequential S I R) (v : View O I S R) (inv : I) (tries : ℕ) (l : Local I S R)
+      (w : View O I S R) : Type 0 where
+    pub whole : IsWhole v.known.processes (base_of (meaning v.object) v.known.processes l).image
+    pub least : number_in l.word ≤ (base_of (meaning v.object) v.known.processes l).number
+    pub ends : applied_in (base_of (meaning v.object) v.known.processes l).image v.known.first ≡ made_by l + 1
+        → (x : R) × ((row_in (base_of (meaning v.object) v.known.processes l).image v.known.first).reply ≡ Some x)
+        × (l.after < (base_of (meaning v.object) v.known.processes l).number)
+        × (w ≡ with_local v (returns l inv x (base_of (meaning v.object) v.known.processes l).number))
+    pub goes_on : applied_in (base_of (meaning v.object) v.known.processes l).image v.known.first ≢ made_by l + 1
+        → (applied_in (base_of (meaning v.object) v.known.processes l).image v.known.first ≡ made_by l) × (tries < 2)
+        × ((seen_of (meaning v.object) v.known.processes l v.known.first).call ≡ made_by l + 1)
+        × ((seen_of (meaning v.object) v.known.processes l v.known.first).inv ≡ Some inv)
+        × (w ≡ with_local v (record l { stage = Reading inv tries v.known.processes }))
 
-  -- Process r has announced this many calls. Where that is more than are in the image, the call is applied; its
-  -- invocation was taken already, or is taken out of its slot.
-  abbrev pub HasLooked : (O → Sequential S I R) → Step (Mail I (Block S R)) → Mine O I S R → ℕ
-      → Mine O I S R → Type 0
-  HasLooked meaning step me found me' =
-      (inv : I) (tries r : ℕ) (image : Image S R) → stage_of me ≡ Reading inv tries r image
-      → r < me.0.known.sizes.processes
-      → let l = local_of me in
-      (r ≡ me.0.known.first → applied_in image r < found)
-      × (found ≤ applied_in image r → IsLeft me (goes l (Reading inv tries (r + 1) image)) me')
-      × (applied_in image r < found → (asked : I)
-      × let stage = Reading inv tries (r + 1) (taken_in (meaning me.0.object) image r asked) in
-      ((taken_of l r).number ≡ found → ((taken_of l r).inv ≡ Some asked) × IsLeft me (goes l stage) me')
-      × ((taken_of l r).number ≢ found → (y : Mail I (Block S R)) × (told y ≡ Asked asked)
-      × (found ≤ me.0.known.sizes.calls)
-      × Takes me (goes (took l r found asked) stage)
-      (slot_of me.0.known.sizes (call_frame me.0.known.sizes r (found - 1)) me.0.known.first) y me'))
+  -- it looks into the next buffer
+  abbrev pub HasLearned : (O → Sequential S I R) → View O I S R → (from : ℕ) → Option (Letter I S R) → View O I S R → Type 0
+  HasLearned meaning v from found w =
+      (inv : I) (tries : ℕ) → stage_of v ≡ Reading inv tries from → from < v.known.processes
+      → let l = with_seen (local_of v) from found in
+      (from + 1 < v.known.processes → w ≡ with_local v (record l { stage = Reading inv tries (from + 1) }))
+      × (from + 1 ≡ v.known.processes → HasFound meaning v inv tries l w)
 
-  -- the slot for reader r of the block comes next
-  abbrev pub IsLaying : I → (tries : ℕ) → Image S R → (r : ℕ) → Mine O I S R → Type 0
-  IsLaying inv tries image r me =
-      ((r ≡ 0) × (stage_of me ≡ Reading inv tries me.0.known.sizes.processes image))
-      ⊎ (stage_of me ≡ Writing inv tries image r false)
+  abbrev pub IsLaying : (O → Sequential S I R) → I → (tries : ℕ) → Image S R → (r : ℕ) → View O I S R → Type 0
+  IsLaying meaning inv tries image r v =
+      IsLayingAt (meaning v.object) v.known.processes inv tries image r (local_of v)
 
-  abbrev pub HasLaidOpen : Step (Mail I (Block S R)) → Mine O I S R → ℕ → Mine O I S R → Type 0
-  HasLaidOpen step me found me' =
-      (inv : I) (tries r : ℕ) (image : Image S R) → IsLaying inv tries image r me
-      → (y : Mail I (Block S R))
-      × Takes me (goes (local_of me) (Writing inv tries image r true))
-      (slot_of me.0.known.sizes (own_block me) r) y me'
+  abbrev pub HasLaid : (O → Sequential S I R) → View O I S R → (to : ℕ) → Letter I S R → View O I S R → Type 0
+  HasLaid meaning v to letter w =
+      (inv : I) (tries : ℕ) (image : Image S R) → IsLaying meaning inv tries image to v
+      → told_by letter ≡ block_news (local_of v) inv image → w ≡ goes v (Writing inv tries image (to + 1))
 
-  abbrev pub HasLaid : Step (Mail I (Block S R)) → Mine O I S R → ℕ → Mine O I S R → Type 0
-  HasLaid step me found me' =
-      (inv : I) (tries r : ℕ) (image : Image S R) → stage_of me ≡ Writing inv tries image r true
-      → Gives me (goes (local_of me) (Writing inv tries image (r + 1) false)) me'
+-- what a process is after its exchange: with the block brought in, or not
+abbrev pub brought : {I S R : Type 0} → Local I S R → I → R → Image S R → Local I S R
+brought l inv x image =
+    record (returns l inv x (number_in l.word + 1)) {
+      last = record { number = number_in l.word + 1; image = image };
+      written = block_news l inv image;
+    }
 
+abbrev pub missed : {I S R : Type 0} → Local I S R → I → (tries : ℕ) → Image S R → Local I S R
+missed l inv tries image = record l { stage = Ready inv (tries + 1); written = block_news l inv image }
+
+module _ {O I S R : Type 0} where
   -- where the exchange finds what the attempt began with, the block is in, and the call returns
-  abbrev pub HasBrought : Step (Mail I (Block S R)) → Mine O I S R → ℕ → Mine O I S R → Type 0
-  HasBrought step me found me' =
-      (inv : I) (tries r : ℕ) (image : Image S R) → stage_of me ≡ Writing inv tries image r false
-      → let l = local_of me in
-      (found ≡ l.word → (x : R) × ((row_in image me.0.known.first).reply ≡ Some x)
-      × (applied_in image me.0.known.first ≡ length l.own + 1)
-      × (l.after < version_in step.second)
-      × IsLeft me (returns (has_block l step.second image) inv x) me')
-      × (found ≢ l.word → IsLeft me (goes l (Ready inv (tries + 1))) me')
+  abbrev pub HasBrought : View O I S R → ℕ → View O I S R → Type 0
+  HasBrought v found w =
+      (inv : I) (tries : ℕ) (image : Image S R) → stage_of v ≡ Writing inv tries image v.known.processes
+      → let l = local_of v in
+      (found ≡ l.word → (x : R) × ((row_in image v.known.first).reply ≡ Some x) × (l.after < number_in l.word + 1)
+      × (w ≡ with_local v (brought l inv x image)))
+      × (found ≢ l.word → w ≡ with_local v (missed l inv tries image))
 
-  -- what a process tells of its calls
-  abbrev pub calls_told : Mine O I S R → ProcessCalls I R
-  calls_told me = record {
-    process = me.0.known.first;
-    own = (local_of me).own;
-    pending = pending_of (stage_of me);
-  }
+  -- between calls S is loaded, and the seat follows the version that it names
+  abbrev pub HasViewed : View O I S R → ℕ → View O I S R → Type 0
+  HasViewed v word w =
+      stage_of v ≡ Idle
+      → (process_in word < v.known.processes) × ((local_of v).after ≤ number_in word)
+      × (w ≡ with_local v (viewing (local_of v) word))
 
-  -- A process with no call pending looks which version has come. The word names the block that it has, or another one,
-  -- which it takes out of its slot. This is a version of the object, in whose history its calls are.
-  abbrev pub HasViewed : (O → Sequential S I R) → Step (Mail I (Block S R)) → Mine O I S R → ℕ → Mine O I S R → Type 0
-  HasViewed meaning step me s me' =
-      stage_of me ≡ Idle → let l = local_of me in let sizes = me.0.known.sizes in
-      (base : Image S R) × IsVersion (meaning me.0.object) sizes.processes (calls_told me ∷ []) base
-      × (l.after ≤ version_in s)
-      × (s ≡ l.word → (base ≡ l.base) × IsLeft me (views l s base) me')
-      × (s ≢ l.word → TakesVersion sizes me (views l s base) s base me')
+  -- then what the process that S named has written is taken; in it is that version, or a later one, which the seat follows
+  -- from then on
+  abbrev pub HasSeen : (O → Sequential S I R) → View O I S R → (from : ℕ) → Option (Letter I S R) → View O I S R → Type 0
+  HasSeen meaning v from found w =
+      stage_of v ≡ Idle → from ≡ process_in (local_of v).word → (local_of v).after ≡ number_in (local_of v).word
+      → let l = with_seen (local_of v) from found in
+      let version = base_of (meaning v.object) v.known.processes l in
+      ((local_of v).after ≤ version.number)
+      × IsVersionOf (meaning v.object) v.known.processes (calls_of v ∷ []) version.number version.image
+      × (w ≡ with_local v (record l { after = version.number }))
+
+  -- the first process of a seat, and the others
+  abbrev pub first_alone : View O I S R → View O I S R
+  first_alone v = record v { known = record v.known { count = 1 } }
+
+  abbrev pub others : View O I S R → View O I S R
+  others v = record v { known = record v.known { first = v.known.first + 1; count = v.known.count - 1 } }

@@ -1,59 +1,68 @@
 -- What is said of the steps that a call takes in an execution.
-use Rattle.std.specs.Prelude.{◌≡◌, ◌≢◌, ℕ, ◌+◌, ◌*◌, ◌≤◌, ◌<◌}
+use Rattle.std.specs.Prelude.{◌≡◌, ◌≢◌, ℕ, ◌+◌, ◌≤◌, ◌<◌}
 use Rattle.seq_object.specs.Sequential.{Sequential}
-use Rattle.uni_any.specs.Content.{Content.Asked, Content.Made, told}
+use Rattle.uni_any.specs.Board.{block_news, call_news}
+use Rattle.uni_any.specs.Execution.{CanTake, Execution, Moment, after, last_moment, opened_moment}
+use Rattle.uni_any.specs.Execution.Next.{Bring, Fail, Post, See, Start, View}
 use Rattle.uni_model.specs.Executions as Executions
-use Rattle.uni_any.specs.Execution.{Execution, Moment, Next, StepOf, after, last_moment, opened_moment}
-use Rattle.uni_any.specs.Execution.Next.{OpenCall, Start, Return, View}
-use Rattle.uni_any.specs.declared.block.Block.{Block}
-use Rattle.uni_any.specs.declared.mail.Mail.{Mail}
-use Rattle.uni_any.specs.declared.sizes.Sizes.{Sizes}
+use Rattle.uni_any.specs.Invariant.{base_of}
+use Rattle.uni_any.specs.News.{drafted, told_by}
+use Rattle.uni_any.specs.Seats.{call_steps}
+use Rattle.uni_any.specs.Shown.{Letter}
+use Rattle.uni_any.specs.declared.view.Local.{Local}
 use Rattle.uni_any.specs.declared.view.Stage.{Stage}
 use Rattle.uni_any.specs.declared.view.Stage.TheVariants.{Idle, Posting, Reading, Writing}
 
--- One step more, or the first one: of a call that begins; or of one that was left in an attempt, for want of memory,
--- and goes on by a load of S, from which it is counted.
-abbrev pub one_more : {I S R : Type 0} → Stage I S R → (taken : ℕ) → ℕ
-one_more Idle taken = 1
-one_more (Reading inv tries r image) taken = 1
-one_more stage taken = taken + 1
+-- How many steps are counted of a call that goes on: none where it begins, or where it was left in an attempt, for want of
+-- memory, and goes on by a load of S.
+abbrev pub so_far : {I S R : Type 0} → Stage I S R → (taken : ℕ) → ℕ
+so_far Idle taken = 0
+so_far (Reading inv tries count) taken = 0
+so_far stage taken = taken
 
-module _ {S I R : Type 0} (object : Sequential S I R) (sizes : Sizes) where
-  -- Where a process has taken so many word steps for its latest call, so many with one more. To look which version has
-  -- come is no step of a call.
-  abbrev pub counted : (m : Moment I S R) (p : ℕ) → Next object sizes m p (m.local p) → (taken : ℕ) → ℕ
-  counted m p (OpenCall inv own r mail asks opens inside few lies) taken = one_more (m.local p).stage taken
-  counted m p (Start inv tries base homes waits reads out) taken = one_more (m.local p).stage taken
-  counted m p (Return inv tries base homes reply waits reads is_in has) taken = one_more (m.local p).stage taken
-  counted m p (View base homes at reads) taken = taken
-  counted m p next taken = taken + 1
+module _ {S I R : Type 0} (object : Sequential S I R) (n : ℕ) where
+  -- how many steps on words such a step takes, at most: a write takes two, and so does a look that takes what is there
+  abbrev pub words_of : (m : Moment I S R) (p : ℕ) → CanTake object n m p → ℕ
+  words_of m p (Start inv tries pending) = 1
+  words_of m p (Bring inv tries image reply lays same has) = 1
+  words_of m p (Fail inv tries image lays other) = 1
+  words_of m p (View idle) = 1
+  words_of m p step = 2
 
-  -- how many word steps process p has taken for its latest call at the end, where it had taken so many before
-  abbrev pub steps_of_call : (p taken : ℕ) {m : Moment I S R} → Execution object sizes m → ℕ
-  steps_of_call p taken e =
-      Executions.steps_of_call sizes.processes (StepOf object sizes) (after object sizes) counted p taken e
+  -- Where a process has taken so many steps on words for its latest call, so many with those of one more. To look which
+  -- version has come is no step of a call.
+  abbrev pub counted : (m : Moment I S R) (p : ℕ) → CanTake object n m p → (taken : ℕ) → ℕ
+  counted m p (Post inv r letter posts inside few tells) taken = so_far (m.local p).stage taken + 2
+  counted m p (Start inv tries pending) taken = so_far (m.local p).stage taken + 1
+  counted m p (View idle) taken = taken
+  counted m p (See r idle inside named follows) taken = taken
+  counted m p step taken = taken + words_of m p step
 
-  -- no call of an execution from the opening takes more steps than this, whatever the other processes do
-  abbrev pub KeepsBound : Execution object sizes (opened_moment object sizes) → Type 0
-  KeepsBound e = (p : ℕ) → p < sizes.processes → steps_of_call p 0 e ≤ 8 * sizes.processes + 6
+  -- how many process p has taken for its latest call at the end, where it had taken so many before
+  abbrev pub steps_of_call : (p taken : ℕ) {m : Moment I S R} → Execution object n m → ℕ
+  steps_of_call p taken e = Executions.steps_of_call n (CanTake object n) (after object n) counted p taken e
 
--- What a process lays out at this stage, it has an owner of: an invocation, or a block. At other stages it lays nothing
--- out.
-abbrev pub HasOwner : {I S R : Type 0} → Stage I S R → Type 0
-HasOwner {I = I} {S = S} {R = R} (Posting inv r out) = (mail : Mail I (Block S R)) × (told mail ≡ Asked inv)
-HasOwner {I = I} {S = S} {R = R} (Writing inv tries image r out) =
-    (mail : Mail I (Block S R)) × (told mail ≡ Made image)
-HasOwner stage = Unit {0}
+  -- no call of an execution from the opening takes more steps on words than this, whatever the other processes do
+  abbrev pub KeepsBound : Execution object n (opened_moment object n) → Type 0
+  KeepsBound e = (p : ℕ) → p < n → steps_of_call p 0 e ≤ call_steps n
 
-module _ {S I R : Type 0} (object : Sequential S I R) (sizes : Sizes) where
-  -- a step of its call which process p can take: it counts as one more
+  -- What a process writes next, it has an owner of: its invocation, or its block. At other stages it writes nothing.
+  abbrev pub HasOwner : Local I S R → Stage I S R → Type 0
+  HasOwner l (Posting inv count) = count < n → (letter : Letter I S R) × (told_by letter ≡ call_news l inv)
+  HasOwner l (Reading inv tries count) = count ≡ n
+      → (letter : Letter I S R) × (told_by letter ≡ block_news l inv (drafted object (base_of object n l).image l.seen))
+  HasOwner l (Writing inv tries image count) =
+      count < n → (letter : Letter I S R) × (told_by letter ≡ block_news l inv image)
+  HasOwner l stage = Unit {0}
+
+  -- a step of its call which process p can take: it is counted with those before it
   abbrev pub StepOfCall : (m : Moment I S R) (p : ℕ) → Type 0
   StepOfCall m p =
-      (next : Next object sizes m p (m.local p)) × ((taken : ℕ) → counted object sizes m p next taken ≡ taken + 1)
+      (step : CanTake object n m p) × ((taken : ℕ) → counted m p step taken ≡ taken + words_of m p step)
 
   -- Wherever an execution from the opening has come to, a process in the midst of a call can take a step of that call,
-  -- where it has an owner of what it lays out: where its memory isn't refused.
-  abbrev pub NeverBlocks : Execution {R = R} object sizes (opened_moment object sizes) → Type 0
-  NeverBlocks e = (p : ℕ) → p < sizes.processes
-      → let m = last_moment object sizes e in
-      (m.local p).stage ≢ Idle → HasOwner (m.local p).stage → StepOfCall m p
+  -- where it has an owner of what it writes: where its memory isn't refused.
+  abbrev pub NeverBlocks : Execution object n (opened_moment object n) → Type 0
+  NeverBlocks e = (p : ℕ) → p < n
+      → let m = last_moment object n e in
+      (m.local p).stage ≢ Idle → HasOwner (m.local p) (m.local p).stage → StepOfCall m p

@@ -1,35 +1,16 @@
--- Where a seat stands, as its functions say it.
-use Rattle.std.specs.Prelude.{◌≡◌, ℕ, ◌+◌, ◌*◌, ◌%◌, ◌<◌, ◌∷◌}
-use Rattle.atomic_table.specs.Table.{rest}
-use Rattle.uni_any.specs.Content.{Content.Asked, Content.Made, told}
-use Rattle.uni_any.specs.Board.{block_frame, call_frame, slot_of}
-use Rattle.uni_any.specs.declared.block.Block.{Block}
-use Rattle.uni_any.specs.declared.mail.Mail.{Mail}
-use Rattle.uni_any.specs.declared.view.Image.{Image}
-use Rattle.uni_any.specs.Plays.{Mine, made_of}
-use Rattle.uni_any.specs.declared.sizes.Sizes.{Sizes}
+-- A process's place at an object.
+use Rattle.std.specs.Prelude.{◌≡◌}
+use Rattle.triple_buffers.specs.Parties.{IsPartyOf, key_of, layout_of, number_of, view_of}
+use Rattle.triple_buffers.specs.declared.party.Party.{Party}
+use Rattle.triple_buffers.specs.declared.rule.Buffers.{Buffers}
+use Rattle.uni_any.specs.Shown.{Letter}
+use Rattle.uni_any.specs.declared.rule.Setup.{Setup}
+use Rattle.uni_any.specs.declared.view.View.{View}
 
--- the seat is that of process p alone, of this object with these sizes
-pub record IsOf {O I S R : Type 0} (o : O) (sizes : Sizes) (p : ℕ) (me : Mine O I S R) : Type 0 where
-  pub object : me.0.object ≡ o
-  pub sizes_are : me.0.known.sizes ≡ sizes
-  pub first : me.0.known.first ≡ p
-  pub alone : me.0.known.count ≡ 1
-
--- it took the slot of its next invocation for reader r last, which holds this invocation
-abbrev pub HoldsCall : {O I S R : Type 0} → Sizes → (p r : ℕ) → I → Mine O I S R → Type 0
-HoldsCall {O} {I} {S} {R} sizes p r inv me =
-    (y : Mail I (Block S R)) × (told y ≡ Asked inv)
-    × (me.1 ≡ (slot_of sizes (call_frame sizes p (made_of me)) r, y) ∷ rest me.1)
-
--- the same of its block
-abbrev pub HoldsBlock : {O I S R : Type 0} → Sizes → (p r : ℕ) → Image S R → Mine O I S R → Type 0
-HoldsBlock {O} {I} {S} {R} sizes p r image me =
-    (y : Mail I (Block S R)) × (told y ≡ Made image)
-    × (me.1 ≡ (slot_of sizes (block_frame sizes (p * sizes.calls + made_of me)) r, y) ∷ rest me.1)
-
--- it took the slot of the block that s names last, which holds this version
-abbrev pub HoldsVersion : {O I S R : Type 0} → Sizes → (p s : ℕ) → Image S R → Mine O I S R → Type 0
-HoldsVersion {O} {I} {S} {R} sizes p s base me =
-    (c : ℕ) × (y : Mail I (Block S R)) × (s % 4294967296 ≡ c + 1) × (c < sizes.processes * sizes.calls)
-    × (told y ≡ Made base) × (me.1 ≡ (slot_of sizes (block_frame sizes c) p, y) ∷ rest me.1)
+pub record IsPlaceOf {O I S R P : Type 0} (buffers : Buffers (Letter I S R) (View O I S R) (Setup O S I R) P) (party : Party (Letter I S R) (View O I S R)) : Type 0 where
+  pub own : IsPartyOf buffers party
+  pub layout : layout_of buffers ≡ record { words = 1; parties = (key_of buffers).processes }
+  pub object : (view_of party).object ≡ (key_of buffers).object
+  pub processes : (view_of party).known.processes ≡ (key_of buffers).processes
+  pub first : (view_of party).known.first ≡ number_of party
+  pub alone : (view_of party).known.count ≡ 1

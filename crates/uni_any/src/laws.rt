@@ -1,154 +1,143 @@
 //! What the rule means, each law the contract of a function with an empty body.
-ghost use Rattle.std.specs.Prelude.{◌≡◌, Contains, List, Some, ℕ, ◌*◌, ◌<◌, ◌+◌, ◌/◌, ◌==◌, ◌≤◌, false, true};
-ghost use Rattle.std.specs.Prelude.{slice_get, slice_index};
-ghost use mathlib.Core.Option.{some};
+ghost use Rattle.std.specs.Prelude.{◌≡◌, ◌≢◌, Contains, List, None, Some, ℕ, ◌+◌, ◌<◌, ◌≤◌, ◌==◌, [], ◌∷◌, ◌++◌};
+ghost use Rattle.std.specs.Prelude.{map, slice_get};
 ghost use prog.Atomic.{either};
-ghost use Rattle.atomic_table.specs.Table.{State, Step};
-ghost use Rattle.uni_any.specs.Content.{Content.Asked, told};
-ghost use Rattle.uni_any.specs.Board.{AreFew, Board, in_of, span, word_of};
-ghost use Rattle.uni_any.specs.Final.{IsLinearized, IsToldBy, ProcessCalls};
+ghost use Rattle.uni_model.specs.AtomicObject.Act.{Invoke, Linearize};
+ghost use Rattle.triple_buffers.specs.Contents.{Contents};
+ghost use Rattle.uni_any.specs.Final.{IsLinearized, ProcessCalls};
+ghost use Rattle.uni_any.specs.declared.view.Returned.{Returned};
+ghost use Rattle.uni_any.specs.Board.{Board, announced_by, block_news, call_news, in_of, made_by, number_in};
+ghost use Rattle.uni_any.specs.Board.{process_in, word_of};
+ghost use Rattle.uni_any.specs.Invariant.{HasBatch, most_calls};
+ghost use Rattle.uni_any.specs.News.{told_by};
+ghost use Rattle.uni_any.specs.Plays.{HasBrought, HasLaid, HasLearned, HasPosted, HasSeen, HasStarted, HasViewed};
+ghost use Rattle.uni_any.specs.Plays.{IsLaying, IsPending, IsPosting, local_of, stage_of};
 ghost use Rattle.uni_any.specs.Execution.{Execution, KeepsOrder, history, last_moment, opened_moment};
 ghost use Rattle.uni_model.specs.Executions.{IsLinearizedInTime};
 ghost use Rattle.uni_any.specs.Progress.{KeepsBound, NeverBlocks};
-ghost use Rattle.uni_any.specs.Laws.{Invokes, MakesNoAct, Moves, Responds, TakesEffect};
-ghost use Rattle.uni_any.specs.Plays.{HasAnnounced, HasBrought, HasClosed, HasLaid, HasLaidOpen, HasLooked};
-ghost use Rattle.uni_any.specs.Plays.{HasOpened, HasStarted, HasViewed, IsLaying, IsOpening, IsPending, Mine};
-ghost use Rattle.uni_any.specs.Plays.{local_of, made_of, stage_of, version_in};
-ghost use Rattle.uni_any.specs.Shown.{IsShown, ShowsBoard};
-ghost use Rattle.uni_any.specs.Standing.{HoldsBlock, HoldsCall, IsOf};
-ghost use Rattle.uni_any.specs.declared.block.Block.{Block};
-ghost use Rattle.uni_any.specs.declared.mail.Mail.{Mail};
-ghost use Rattle.uni_any.specs.declared.sizes.Sizes.{Sizes};
+ghost use Rattle.uni_any.specs.Laws.{IsToldBy, Moves, returned_by, with_letter, with_word};
+ghost use Rattle.uni_any.specs.Shown.{IsShown, Letter};
 ghost use Rattle.uni_any.specs.declared.view.Image.{Image};
 ghost use Rattle.uni_any.specs.declared.view.Local.{Local};
-ghost use Rattle.uni_any.specs.declared.view.Returned.{Returned};
-ghost use Rattle.uni_any.specs.declared.view.Stage.TheVariants.{Idle, Posting, Reading, Writing};
+ghost use Rattle.uni_any.specs.declared.view.Stage.TheVariants.{Idle, Reading, Writing};
 ghost use Rattle.uni_any.specs.declared.view.View.{View};
 
 use seq_object::SeqObject;
 
-/// Wherever the table keeps its rule, the calls that seats tell of, of all processes, of some, or of none, with the
-/// replies that they were given, and the pending ones are those of one history that the atomic object accepts; so
-/// what is observed of them is linearizable. The current block has the state after the calls of that history.
+/// Wherever words and buffers keep their rule, the calls that seats tell of, of all processes, of some, or of none,
+/// with the replies that they were given, and the pending ones are those of one history that the atomic object accepts;
+/// so what is observed of them is linearizable. The present version has the state after the calls of that history.
 pub fn shown_is_linearizable<O: SeqObject>()
-    ensures { (o : O) (sizes : Sizes) (g : Board O.Inv O.State O.Resp)
+    ensures { (o : O) (n : ℕ) (g : Board O.Inv O.State O.Resp)
         (local : ℕ → Local O.Inv O.State O.Resp) (seat_of : ℕ → ℕ)
-        (s : State (Mail O.Inv (Block O.State O.Resp)) (View O O.Inv O.State O.Resp)) →
-        IsShown sizes O.sequential o g local seat_of s
+        (c : Contents (Letter O.Inv O.State O.Resp) (View O O.Inv O.State O.Resp)) →
+        IsShown n O.sequential o g local seat_of c
         → (known : List (ProcessCalls O.Inv O.Resp))
-        → ((its : ProcessCalls O.Inv O.Resp) → Contains known its → IsToldBy s.views its)
-        → IsLinearized (O.sequential o) sizes.processes known g.image.state }
+        → ((its : ProcessCalls O.Inv O.Resp) → Contains known its → IsToldBy c.views its)
+        → IsLinearized (O.sequential o) n known g.image.state }
 {}
 
-/// The version of a call that has returned has come. That who follows it is answered `true` is in no clause of a call.
+/// The version of a call that has returned has come: the word S names it, or a later one.
 pub fn returned_has_come<O: SeqObject>()
-    ensures { (o : O) (sizes : Sizes) (g : Board O.Inv O.State O.Resp)
+    ensures { (o : O) (n : ℕ) (g : Board O.Inv O.State O.Resp)
         (local : ℕ → Local O.Inv O.State O.Resp) (seat_of : ℕ → ℕ)
-        (s : State (Mail O.Inv (Block O.State O.Resp)) (View O O.Inv O.State O.Resp)) (p k : ℕ)
+        (c : Contents (Letter O.Inv O.State O.Resp) (View O O.Inv O.State O.Resp)) (p k : ℕ)
         (call : Returned O.Inv O.Resp) →
-        IsShown sizes O.sequential o g local seat_of s → p < sizes.processes
-        → slice_get (local p).own k ≡ Some call → call.version ≤ version_in (slice_index s.words 0) }
+        IsShown n O.sequential o g local seat_of c → p < n
+        → slice_get (local p).own k ≡ Some call → call.version ≤ number_in (c.words 0) }
 {}
 
-/// Wherever the table keeps its rule, a call that was announced two versions ago is in.
+/// Wherever words and buffers keep their rule, a call that was announced two versions ago is in.
 pub fn announced_is_in_soon<O: SeqObject>()
-    ensures { (o : O) (sizes : Sizes) (g : Board O.Inv O.State O.Resp)
+    ensures { (o : O) (n : ℕ) (g : Board O.Inv O.State O.Resp)
         (local : ℕ → Local O.Inv O.State O.Resp) (seat_of : ℕ → ℕ)
-        (s : State (Mail O.Inv (Block O.State O.Resp)) (View O O.Inv O.State O.Resp)) (p : ℕ) →
-        IsShown sizes O.sequential o g local seat_of s → p < sizes.processes → g.since p + 2 ≤ g.version
-        → in_of g p ≡ g.announced p }
+        (c : Contents (Letter O.Inv O.State O.Resp) (View O O.Inv O.State O.Resp)) (p : ℕ) →
+        IsShown n O.sequential o g local seat_of c → p < n → g.since p + 2 ≤ g.number
+        → announced_by n (local p) ≤ in_of g p }
 {}
 
-/// The store of an announcement begins a call: the history has its invocation more.
+/// The first write of an announcement begins a call: the history has its invocation more. Further ones append nothing.
 pub fn announcement_invokes<O: SeqObject>()
-    ensures { (o : O) (sizes : Sizes) (id p number : ℕ) (inv : O.Inv)
-        (st : Step (Mail O.Inv (Block O.State O.Resp))) (me : Mine O O.Inv O.State O.Resp) →
-        IsOf o sizes p me → stage_of me ≡ Posting inv sizes.processes false
-        → number ≡ made_of me + 1 → number ≤ sizes.calls
-        → Moves O.sequential o sizes id me (1 + p) (λ x. number) (λ g found. Invokes p inv)
-        (λ found me'. HasAnnounced st me number me') }
+    ensures { (o : O) (n id r : ℕ) (inv : O.Inv) (letter : Letter O.Inv O.State O.Resp)
+        (v : View O O.Inv O.State O.Resp) →
+        v.known.count ≡ 1 → r < n → IsPosting inv r v → made_by (local_of v) < most_calls
+        → told_by letter ≡ call_news (local_of v) inv
+        → Moves O.sequential o n id v (with_letter v.known.first r (Some letter) id)
+        (λ g local c w acts. (r ≡ 0 → acts ≡ Invoke v.known.first (made_by (local_of v)) inv ∷ [])
+        × (r ≢ 0 → acts ≡ []))
+        (λ c w. HasPosted v r letter w) }
 {}
 
 /// The exchange of S that finds what the attempt began with linearizes pending calls, at most one of each process, in
 /// the order of their processes: those that make its block of the version before. And the own call, which is one of
 /// them, returns. Another exchange appends nothing.
 pub fn exchange_linearizes<O: SeqObject>()
-    ensures { (o : O) (sizes : Sizes) (id p tries s : ℕ) (inv : O.Inv) (image : Image O.State O.Resp)
-        (st : Step (Mail O.Inv (Block O.State O.Resp))) (me : Mine O O.Inv O.State O.Resp) →
-        IsOf o sizes p me → stage_of me ≡ Writing inv tries image sizes.processes false → (local_of me).word ≡ s
-        → st.second ≡ word_of (s / span + 1) (p * sizes.calls + made_of me + 1)
-        → Moves O.sequential o sizes id me 0 (λ found. either (found == s) st.second found)
-        (λ g found. TakesEffect (O.sequential o) sizes g p found image) (λ found me'. HasBrought st me found me') }
+    ensures { (o : O) (n id tries : ℕ) (inv : O.Inv) (image : Image O.State O.Resp)
+        (v : View O O.Inv O.State O.Resp) →
+        v.known.count ≡ 1 → v.known.processes ≡ n → stage_of v ≡ Writing inv tries image n
+        → Moves O.sequential o n id v (with_word (λ found. either (found == (local_of v).word)
+        (word_of (number_in (local_of v).word + 1) v.known.first) found) id)
+        (λ g local c w acts. (c.words 0 ≡ (local_of v).word → (batch : HasBatch (O.sequential o) n g local image)
+        × (acts ≡ map (λ d. Linearize d) batch.calls ++ returned_by v w))
+        × (c.words 0 ≢ (local_of v).word → acts ≡ [])) (λ c w. HasBrought v (c.words 0) w) }
 {}
 
-/// The load of S with which an attempt begins ends the call where it is in: the history has its response more. Else it
-/// appends nothing.
-pub fn load_responds<O: SeqObject>()
-    ensures { (o : O) (sizes : Sizes) (id p tries : ℕ) (inv : O.Inv)
-        (st : Step (Mail O.Inv (Block O.State O.Resp))) (me : Mine O O.Inv O.State O.Resp) →
-        IsOf o sizes p me → IsPending inv tries me
-        → Moves O.sequential o sizes id me 0 (λ x. x) (λ g found. Responds p)
-        (λ found me'. HasStarted st me found me') }
+/// The last look of an attempt ends the call where it is in the version that was found: the history has its response
+/// more. Another look appends nothing.
+pub fn look_responds<O: SeqObject>()
+    ensures { (o : O) (n id tries r : ℕ) (inv : O.Inv) (v : View O O.Inv O.State O.Resp) →
+        v.known.count ≡ 1 → v.known.processes ≡ n → r < n → stage_of v ≡ Reading inv tries r
+        → Moves O.sequential o n id v (with_letter r v.known.first None id)
+        (λ g local c w acts. acts ≡ returned_by v w)
+        (λ c w. HasLearned O.sequential v r (c.buffers r v.known.first) w) }
 {}
 
-/// The other steps append nothing: a slot of an invocation or of a block is taken, and given back; an announcement is
-/// loaded; and S is, between calls.
+/// The other steps append nothing: the load of S with which an attempt begins, and the write of a block; and between
+/// calls the load of S, and the look into what the process that it names has written.
 pub fn other_steps_append_nothing<O: SeqObject>()
-    ensures open_call { (o : O) (sizes : Sizes) (id p r : ℕ) (inv : O.Inv) (mail : Mail O.Inv (Block O.State O.Resp))
-        (st : Step (Mail O.Inv (Block O.State O.Resp))) (me : Mine O O.Inv O.State O.Resp) →
-        IsOf o sizes p me → told mail ≡ Asked inv → r < sizes.processes → made_of me < sizes.calls
-        → st.said ≡ some mail → IsOpening inv r me
-        → Moves O.sequential o sizes id me (1 + p) (λ x. either (x == made_of me) (made_of me) x)
-        (λ g found. MakesNoAct) (λ found me'. HasOpened st me found me') }
-    ensures close_call { (o : O) (sizes : Sizes) (id p r : ℕ) (inv : O.Inv)
-        (st : Step (Mail O.Inv (Block O.State O.Resp))) (me : Mine O O.Inv O.State O.Resp) →
-        IsOf o sizes p me → stage_of me ≡ Posting inv r true → HoldsCall sizes p r inv me
-        → Moves O.sequential o sizes id me (1 + p) (λ x. x) (λ g found. MakesNoAct)
-        (λ found me'. HasClosed st me found me') }
-    ensures look { (o : O) (sizes : Sizes) (id p tries r : ℕ) (inv : O.Inv) (image : Image O.State O.Resp)
-        (st : Step (Mail O.Inv (Block O.State O.Resp))) (me : Mine O O.Inv O.State O.Resp) →
-        IsOf o sizes p me → stage_of me ≡ Reading inv tries r image → r < sizes.processes
-        → Moves O.sequential o sizes id me (1 + r) (λ x. x) (λ g found. MakesNoAct)
-        (λ found me'. HasLooked O.sequential st me found me') }
-    ensures open_block { (o : O) (sizes : Sizes) (id p tries r : ℕ) (inv : O.Inv) (image : Image O.State O.Resp)
-        (st : Step (Mail O.Inv (Block O.State O.Resp))) (me : Mine O O.Inv O.State O.Resp) →
-        IsOf o sizes p me → r < sizes.processes → IsLaying inv tries image r me
-        → Moves O.sequential o sizes id me (1 + p) (λ x. x) (λ g found. MakesNoAct)
-        (λ found me'. HasLaidOpen st me found me') }
-    ensures close_block { (o : O) (sizes : Sizes) (id p tries r : ℕ) (inv : O.Inv) (image : Image O.State O.Resp)
-        (st : Step (Mail O.Inv (Block O.State O.Resp))) (me : Mine O O.Inv O.State O.Resp) →
-        IsOf o sizes p me → stage_of me ≡ Writing inv tries image r true → HoldsBlock sizes p r image me
-        → Moves O.sequential o sizes id me (1 + p) (λ x. x) (λ g found. MakesNoAct)
-        (λ found me'. HasLaid st me found me') }
-    ensures view { (o : O) (sizes : Sizes) (id p : ℕ)
-        (st : Step (Mail O.Inv (Block O.State O.Resp))) (me : Mine O O.Inv O.State O.Resp) →
-        IsOf o sizes p me → stage_of me ≡ Idle
-        → Moves O.sequential o sizes id me 0 (λ x. x) (λ g found. MakesNoAct)
-        (λ found me'. HasViewed O.sequential st me found me') }
+    ensures load { (o : O) (n id tries : ℕ) (inv : O.Inv) (v : View O O.Inv O.State O.Resp) →
+        v.known.count ≡ 1 → IsPending inv tries v → v.known.processes ≡ n
+        → Moves O.sequential o n id v (with_word (λ x. x) id)
+        (λ g local c w acts. acts ≡ []) (λ c w. HasStarted v (c.words 0) w) }
+    ensures block { (o : O) (n id tries r : ℕ) (inv : O.Inv) (image : Image O.State O.Resp)
+        (letter : Letter O.Inv O.State O.Resp) (v : View O O.Inv O.State O.Resp) →
+        v.known.count ≡ 1 → v.known.processes ≡ n → r < n → IsLaying O.sequential inv tries image r v
+        → told_by letter ≡ block_news (local_of v) inv image
+        → Moves O.sequential o n id v (with_letter v.known.first r (Some letter) id)
+        (λ g local c w acts. acts ≡ []) (λ c w. HasLaid O.sequential v r letter w) }
+    ensures view { (o : O) (n id : ℕ) (v : View O O.Inv O.State O.Resp) →
+        v.known.count ≡ 1 → v.known.processes ≡ n → stage_of v ≡ Idle
+        → Moves O.sequential o n id v (with_word (λ x. x) id)
+        (λ g local c w acts. acts ≡ []) (λ c w. HasViewed v (c.words 0) w) }
+    ensures see { (o : O) (n id r : ℕ) (v : View O O.Inv O.State O.Resp) →
+        v.known.count ≡ 1 → v.known.processes ≡ n → stage_of v ≡ Idle → r < n
+        → process_in (local_of v).word ≡ r → (local_of v).after ≡ number_in (local_of v).word
+        → Moves O.sequential o n id v (with_letter r v.known.first None id)
+        (λ g local c w acts. acts ≡ []) (λ c w. HasSeen O.sequential v r (c.buffers r v.known.first) w) }
 {}
 
-/// Every execution from the opening, in which the processes take their word steps in any order, is linearizable in real
-/// time: each call takes effect at one of the steps between its announcement and its last one. And strongly: where an
-/// execution goes on, only further calls come behind those that took effect.
+/// Every execution from the opening, in which the processes take their steps on words and buffers in any order, is
+/// linearizable in real time: each call takes effect at one of the steps between its announcement and its last one. And
+/// strongly: where an execution goes on, only further calls come behind those that took effect.
 pub fn every_execution_is_linearizable<O: SeqObject>()
-    ensures linearized { (o : O) (sizes : Sizes) → AreFew sizes
-        → (e : Execution {R = O.Resp} (O.sequential o) sizes (opened_moment (O.sequential o) sizes))
-        → IsLinearizedInTime (O.sequential o) (history (O.sequential o) sizes e) }
-    ensures strongly { (o : O) (sizes : Sizes)
-        → (e : Execution {R = O.Resp} (O.sequential o) sizes (opened_moment (O.sequential o) sizes))
-        (more : Execution (O.sequential o) sizes (last_moment (O.sequential o) sizes e))
-        → KeepsOrder (O.sequential o) sizes e more }
+    ensures linearized { (o : O) (n : ℕ) → 1 ≤ n → n ≤ 64
+        → (e : Execution {R = O.Resp} (O.sequential o) n (opened_moment (O.sequential o) n))
+        → IsLinearizedInTime (O.sequential o) (history (O.sequential o) n e) }
+    ensures strongly { (o : O) (n : ℕ)
+        → (e : Execution {R = O.Resp} (O.sequential o) n (opened_moment (O.sequential o) n))
+        (more : Execution (O.sequential o) n (last_moment (O.sequential o) n e))
+        → KeepsOrder (O.sequential o) n e more }
 {}
 
 /// The construction is wait-free in every execution: a process in the midst of a call can always take a step that the
-/// call counts, where it has an owner of what it lays out, as it has where its memory isn't refused; and no call takes
-/// more than `8 * n + 6` steps of its own process, whatever the other processes do. A call that is left in an attempt,
-/// for want of memory, is counted from the load with which it begins anew.
+/// call counts, where it has an owner of what it writes, as it has where its memory isn't refused; and no call takes
+/// more than `12 * n + 5` steps on words, whatever the other processes do. A call that is left in an attempt, for want
+/// of memory, is counted from the load with which it begins anew.
 pub fn every_call_is_wait_free<O: SeqObject>()
-    ensures blocks { (o : O) (sizes : Sizes) → AreFew sizes
-        → (e : Execution {R = O.Resp} (O.sequential o) sizes (opened_moment (O.sequential o) sizes))
-        → NeverBlocks (O.sequential o) sizes e }
-    ensures bound { (o : O) (sizes : Sizes) → AreFew sizes
-        → (e : Execution {R = O.Resp} (O.sequential o) sizes (opened_moment (O.sequential o) sizes))
-        → KeepsBound (O.sequential o) sizes e }
+    ensures blocks { (o : O) (n : ℕ) → 1 ≤ n → n ≤ 64
+        → (e : Execution {R = O.Resp} (O.sequential o) n (opened_moment (O.sequential o) n))
+        → NeverBlocks (O.sequential o) n e }
+    ensures bound { (o : O) (n : ℕ) → 1 ≤ n → n ≤ 64
+        → (e : Execution {R = O.Resp} (O.sequential o) n (opened_moment (O.sequential o) n))
+        → KeepsBound (O.sequential o) n e }
 {}

@@ -1,23 +1,25 @@
-//! The wait-free construction for any sequential object, in threads, without a lock.
+//! Any object that threads share without a lock: its rule, its seats, and each step on words and buffers.
 #![tactic(auto)]
 
 mod apply;
 mod attempt;
-mod block;
 mod close;
+mod draft;
 pub mod laws;
-mod mail;
+mod looking;
+mod news;
 mod open;
-mod post;
+mod reading;
 mod rule;
 mod seat;
-mod shared;
-mod sizes;
 mod steps;
 mod view;
+mod writing;
 
-pub use block::{Block, Row};
-pub use open::{AnyOpenFault, MAX_CALLS, MAX_PROCESSES, blank_rows};
-pub use seat::{AnyAnswer, AnyFault, AnyResumeFault, AnySeat, CallPending};
-pub use shared::AnyShared;
-pub use view::{Image, Returned};
+pub use apply::MAX_CALLS;
+pub use close::{LastVersion, LastVersionOf};
+pub use news::{Block, News, Row};
+pub use open::AnyOpenFault;
+pub use rule::{ObjectBuffers, ObjectParty, Setup};
+pub use seat::{AnyAnswer, AnyFault, AnyResumeFault, AnySeat, AnyShared, CallPending};
+pub use view::{Image, Known, Local, Returned, Stage, Told, Version, View};

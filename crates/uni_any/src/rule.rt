@@ -1,24 +1,23 @@
-//! The rule of the table, and what its steps tell.
-use crate::block::Block;
-use crate::mail::Mail;
-use crate::sizes::Sizes;
+//! The rule of words and buffers, and what steps tell.
+use crate::news::{Block, News};
 use crate::view::View;
-use atomic_table::{Play, Seat, Split, Table, TableRule};
 use seq_object::SeqObject;
 use std::alloc::Global;
 use std::marker::PhantomData;
+use std::sync::Arc;
+use triple_buffers::{BufferRule, Buffers, Party, TakePlay, WordPlay, WritePlay};
 
-/// What the table is told once: the object, and its sizes.
+/// What the rule is told once: the object, and for how many processes.
 #[derive(Drop)]
 pub struct Setup<O: SeqObject> {
     pub object: O,
-    pub sizes: Sizes,
+    pub processes: u64,
 }
 
-/// What lies in a slot of an object.
-pub type MailOf<O> = Mail<
-    <O as SeqObject>::Inv,
-    Block<<O as SeqObject>::State, <O as SeqObject>::Resp>,
+/// What lies in a buffer of an object.
+pub type NewsOf<O> = Arc<
+    News<<O as SeqObject>::Inv, Block<<O as SeqObject>::State, <O as SeqObject>::Resp>>,
+    Global,
 >;
 
 /// What a seat of an object knows.
@@ -29,114 +28,85 @@ pub type ViewOf<O> = View<
     <O as SeqObject>::Resp,
 >;
 
-/// The rule of the table: its words, its slots and the views of its seats show a board.
+/// The rule: words, buffers and views show a board.
 pub struct Boards<O> {
     object: PhantomData<O>,
 }
 
-impl<O: SeqObject> TableRule<MailOf<O>, ViewOf<O>, Setup<O>> for Boards<O> {
-    ghost use Rattle.uni_any.specs.Shown.{ShowsBoard};
+impl<O: SeqObject> BufferRule<NewsOf<O>, ViewOf<O>, Setup<O>> for Boards<O> {
+    ghost use Rattle.uni_any.specs.Ran.{ShowsBoard};
     ghost use Rattle.uni_any.specs.Plays.{first_view};
 
-    ghost holds = { λ key. ShowsBoard O.sequential key.object key.sizes };
+    ghost holds = { λ key. ShowsBoard O.sequential key.object key.processes };
 
-    ghost first = { λ key. first_view O.sequential key.object key.sizes };
+    ghost first = { λ key. first_view O.sequential key.object key.processes };
 }
 
-/// The taking of the slot for the next reader of an invocation.
-pub struct Opens;
+/// The write of an invocation.
+pub struct Posts;
 
-impl<O: SeqObject> Play<MailOf<O>, ViewOf<O>> for Opens {
-    ghost use Rattle.uni_any.specs.Plays.{HasOpened};
+impl<O: SeqObject> WritePlay<NewsOf<O>, ViewOf<O>> for Posts {
+    ghost use Rattle.uni_any.specs.Plays.{HasPosted};
 
-    ghost then = { HasOpened };
-}
-
-/// The giving back of that slot.
-pub struct Closes;
-
-impl<O: SeqObject> Play<MailOf<O>, ViewOf<O>> for Closes {
-    ghost use Rattle.uni_any.specs.Plays.{HasClosed};
-
-    ghost then = { HasClosed };
-}
-
-/// The store of an announcement.
-pub struct Announces;
-
-impl<O: SeqObject> Play<MailOf<O>, ViewOf<O>> for Announces {
-    ghost use Rattle.uni_any.specs.Plays.{HasAnnounced};
-
-    ghost then = { HasAnnounced };
+    ghost then = { HasPosted };
 }
 
 /// The load of S with which an attempt begins.
 pub struct Starts;
 
-impl<O: SeqObject> Play<MailOf<O>, ViewOf<O>> for Starts {
+impl<O: SeqObject> WordPlay<ViewOf<O>> for Starts {
     ghost use Rattle.uni_any.specs.Plays.{HasStarted};
 
-    ghost then = { HasStarted };
+    ghost then = { λ first second. HasStarted };
 }
 
-/// The taking of the slot for the next reader of a block.
-pub struct LaysOpen;
+/// The take of what a process has told.
+pub struct Learns;
 
-impl<O: SeqObject> Play<MailOf<O>, ViewOf<O>> for LaysOpen {
-    ghost use Rattle.uni_any.specs.Plays.{HasLaidOpen};
+impl<O: SeqObject> TakePlay<NewsOf<O>, ViewOf<O>> for Learns {
+    ghost use Rattle.uni_any.specs.Plays.{HasLearned};
 
-    ghost then = { HasLaidOpen };
+    ghost then = { HasLearned O.sequential };
 }
 
-/// The giving back of that slot.
+/// The write of a block.
 pub struct Lays;
 
-impl<O: SeqObject> Play<MailOf<O>, ViewOf<O>> for Lays {
+impl<O: SeqObject> WritePlay<NewsOf<O>, ViewOf<O>> for Lays {
     ghost use Rattle.uni_any.specs.Plays.{HasLaid};
 
-    ghost then = { HasLaid };
+    ghost then = { HasLaid O.sequential };
 }
 
 /// The exchange of S.
 pub struct Brings;
 
-impl<O: SeqObject> Play<MailOf<O>, ViewOf<O>> for Brings {
+impl<O: SeqObject> WordPlay<ViewOf<O>> for Brings {
     ghost use Rattle.uni_any.specs.Plays.{HasBrought};
 
-    ghost then = { HasBrought };
-}
-
-/// The load of an announcement.
-pub struct Looks;
-
-impl<O: SeqObject> Play<MailOf<O>, ViewOf<O>> for Looks {
-    ghost use Rattle.uni_any.specs.Plays.{HasLooked};
-
-    ghost then = { HasLooked O.sequential };
+    ghost then = { λ first second. HasBrought };
 }
 
 /// The load of S between calls.
 pub struct Views;
 
-impl<O: SeqObject> Play<MailOf<O>, ViewOf<O>> for Views {
+impl<O: SeqObject> WordPlay<ViewOf<O>> for Views {
     ghost use Rattle.uni_any.specs.Plays.{HasViewed};
 
-    ghost then = { HasViewed O.sequential };
+    ghost then = { λ first second. HasViewed };
 }
 
-/// The first process apart from the others.
-pub struct First;
+/// The take, between calls, of what the process that S named has told.
+pub struct Sees;
 
-impl<O: SeqObject> Split<ViewOf<O>> for First {
-    ghost use Rattle.uni_any.specs.Plays.{others, first_alone};
+impl<O: SeqObject> TakePlay<NewsOf<O>, ViewOf<O>> for Sees {
+    ghost use Rattle.uni_any.specs.Plays.{HasSeen};
 
-    ghost left = { others };
-
-    ghost right = { first_alone };
+    ghost then = { HasSeen O.sequential };
 }
 
-/// The table of an object.
-pub type AnyTable<O> = Table<MailOf<O>, ViewOf<O>, Setup<O>, Boards<O>, Global>;
+/// The words and buffers of an object.
+pub type ObjectBuffers<O> = Buffers<NewsOf<O>, ViewOf<O>, Setup<O>, Boards<O>>;
 
-/// A seat of the table of an object.
-pub type SeatOf<O> = Seat<MailOf<O>, ViewOf<O>>;
+/// A process's place at them.
+pub type ObjectParty<O> = Party<NewsOf<O>, ViewOf<O>>;

@@ -1,10 +1,36 @@
 //! A process's place at an object.
-use crate::block::Block;
-use crate::rule::SeatOf;
+ghost use Rattle.std.specs.Prelude.{◌≡◌, ◌≤◌};
+ghost use Rattle.triple_buffers.specs.Parties.{key_of, layout_of};
+
+use crate::news::Block;
+use crate::rule::{NewsOf, ObjectBuffers, ObjectParty};
 use seq_object::SeqObject;
 use std::alloc::Global;
 use std::sync::Arc;
 use thiserror::Error;
+
+/// An object that threads share, each by a seat of its own.
+#[derive(Drop)]
+pub struct AnyShared<O: SeqObject> {
+    pub(crate) buffers: ObjectBuffers<O>,
+    pub ghost laid: { layout_of buffers ≡ record { words = 1; parties = (key_of buffers).processes } },
+    pub ghost few: { (1 ≤ (key_of buffers).processes) × ((key_of buffers).processes ≤ 64) },
+}
+
+/// A version of an object.
+pub type BlockOf<O> = Block<<O as SeqObject>::State, <O as SeqObject>::Resp>;
+
+/// A process's place at the object.
+#[derive(Drop)]
+pub struct AnySeat<O: SeqObject> {
+    pub(crate) party: ObjectParty<O>,
+    pub(crate) p: u64,
+    pub(crate) made: u64,
+    pub(crate) asked: Option<Arc<O::Inv, Global>>,
+    pub(crate) last: Arc<BlockOf<O>, Global>,
+    pub(crate) seen: Vec<NewsOf<O>>,
+    pub(crate) named: u64,
+}
 
 /// The reply to a call, and a version of the object in which the call is. Versions count from 0, the start.
 #[derive(Clone, Copy, Debug, PartialEq, Eq)]
@@ -21,13 +47,18 @@ pub enum AnyFault {
     /// The seat has a call pending: `resume` goes on with it.
     #[error("a call is pending")]
     Pending,
-    /// The seat has made all its calls.
+    /// The seat has made 2^50 calls.
     #[error("all calls are made")]
     Spent,
     /// Memory was refused.
     #[error("out of memory")]
     Memory,
 }
+
+/// A call is pending: `resume` goes on with it.
+#[derive(Debug, Clone, Copy, PartialEq, Eq, Drop, Error)]
+#[error("a call is pending")]
+pub struct CallPending;
 
 /// Why a pending call has no reply.
 #[derive(Debug, Clone, Copy, PartialEq, Eq, Drop, Error)]
@@ -38,34 +69,4 @@ pub enum AnyResumeFault {
     /// Memory was refused: the call is pending still.
     #[error("out of memory")]
     Memory,
-}
-
-/// A call is pending: `resume` goes on with it.
-#[derive(Debug, Clone, Copy, PartialEq, Eq, Drop, Error)]
-#[error("a call is pending")]
-pub struct CallPending;
-
-/// The version of the object that a process read last, and the word that names it.
-#[derive(Drop)]
-pub(crate) struct Held<S, R> {
-    pub word: u64,
-    pub block: Arc<Block<S, R>, Global>,
-}
-
-/// The invocation of a process that was taken last: the call's number, from 1 on.
-#[derive(Drop)]
-pub(crate) struct Seen<I> {
-    pub number: u64,
-    pub call: Option<Arc<I, Global>>,
-}
-
-/// A process's place at the object.
-#[derive(Drop)]
-pub struct AnySeat<O: SeqObject> {
-    pub(crate) seat: SeatOf<O>,
-    pub(crate) p: u64,
-    pub(crate) made: u64,
-    pub(crate) pending: bool,
-    pub(crate) held: Held<O::State, O::Resp>,
-    pub(crate) seen: Vec<Seen<O::Inv>>,
 }

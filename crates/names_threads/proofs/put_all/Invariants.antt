@@ -1,4 +1,4 @@
-use Rattle.uni_any.specs.Belongs.{IsSeatOf}
+use Rattle.uni_any.specs.Seats.{IsSeatOf}
 use Rattle.names_threads.proofs.put_all.Given as goal
 
 abbrev pub invariant-loop-number : goal.invariant-loop-number

@@ -1,4 +1,4 @@
-use Rattle.uni_any.specs.Belongs.{IsSeatOf}
+use Rattle.uni_any.specs.Seats.{IsSeatOf}
 use Rattle.any_tests.proofs.threads.pushes_and_pops.Given as goal
 
 abbrev pub invariant-loop-i : goal.invariant-loop-i

@@ -2,4 +2,4 @@ use Rattle.uni_any.proofs.Meaning.{linearized_at}
 use Rattle.uni_any.proofs.laws.shown_is_linearizable.Goals as goal
 
 pub returns : goal.returns
-returns g c o sizes b local seat_of s is known by = linearized_at g.O.SeqObject.sequential o sizes b local seat_of s is known by
+returns g c o n b local seat_of s is known by = linearized_at g.O.SeqObject.sequential o n b local seat_of s is known by

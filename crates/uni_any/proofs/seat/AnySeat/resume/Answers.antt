@@ -1,36 +1,32 @@
-use Rattle.uni_any.proofs.Vocabulary.{ap, refl, sym, ◌∙◌, ◌≡◌}
-use Rattle.std.specs.Prelude.{Err, is_some}
-use Rattle.std.proofs.lemmas.Bool.{false≢true}
-use Rattle.uni_any.specs.declared.seat.AnyResumeFault.TheVariants.{NothingPending, Memory}
-use Rattle.uni_any.proofs.Seats.{else_err, flag_false, flag_true}
+use Rattle.uni_any.proofs.Vocabulary.{ap, pending_of}
+use Rattle.std.specs.Arc.{arc_value}
+use Rattle.uni_any.specs.Seats.{processes_of, view_in}
+use Rattle.uni_any.proofs.Attempts.{finished_ok, left_pending}
 use Rattle.uni_any.proofs.seat.AnySeat.resume.Goals as goal
 
-pub returns-then-not-self-clause-nothing : goal.returns-then-not-self-clause-nothing
-returns-then-not-self-clause-nothing g c =
-    let shared = c.args.shared.now in
-    let self = c.args.self.now in
-    let is = c.requires.seat in
-    let none = flag_false self.made shared.setup.sizes.calls self.seat.me self.pending is.stands c.if-not-self.true in
-    ((λ e. ap (λ o. is_some o) none), (λ s. refl))
+pub conclude-requires-clause-made : goal.conclude-requires-clause-made
+conclude-requires-clause-made g c = (c.requires.seat.made, c.requires.seat.pending_few c.if-is_none.ensures)
 
-pub returns-in_default-clause-nothing : goal.returns-in_default-clause-nothing
-returns-in_default-clause-nothing g c =
-    let shared = c.args.shared.now in
-    let self = c.args.self.now in
-    let is = c.requires.seat in
-    let some = flag_true self.made shared.setup.sizes.calls self.seat.me self.pending is.stands c.if-not-self.false in
-    ((λ e. absurd (let f : Err Memory ≡ Err NothingPending = e in cc)), (λ s. absurd (false≢true (sym s ∙ some))))
+pub conclude-requires-clause-pending : goal.conclude-requires-clause-pending
+conclude-requires-clause-pending g c =
+    let seat = c.requires.seat in
+    let p = left_pending (processes_of c.args.shared.now) c.args.self.now.asked (view_in c.args.self.now) c.if-is_none.ensures seat.stands in
+    p
 
-pub returns-clause-nothing : goal.returns-clause-nothing
-returns-clause-nothing g c =
-    let shared = c.args.shared.now in
-    let self = c.args.self.now in
-    let is = c.requires.seat in
-    let some = flag_true self.made shared.setup.sizes.calls self.seat.me self.pending is.stands c.if-not-self.false in
-    ((λ e. absurd cc), (λ s. absurd (false≢true (sym s ∙ some))))
+pub returns-clause-later : goal.returns-clause-later
+returns-clause-later g c =
+    let seat = c.requires.seat in
+    let p = left_pending (processes_of c.args.shared.now) c.args.self.now.asked (view_in c.args.self.now) c.if-is_none.ensures seat.stands in
+    (finished_ok (view_in c.args.self.now) (view_in c.conclude.new.self) (arc_value p.0) (processes_of c.args.shared.now) c.conclude.result c.in-Ok.answer c.in-Ok.is (c.conclude.ensures.finished p.0 p.1 p.2)).later
 
-pub returns-in_default-clause-memory : goal.returns-in_default-clause-memory
-returns-in_default-clause-memory g c e = else_err c.end.result c.in_default.not-Ok c.end.ensures.memory
+pub returns-clause-version : goal.returns-clause-version
+returns-clause-version g c =
+    let seat = c.requires.seat in
+    let p = left_pending (processes_of c.args.shared.now) c.args.self.now.asked (view_in c.args.self.now) c.if-is_none.ensures seat.stands in
+    (finished_ok (view_in c.args.self.now) (view_in c.conclude.new.self) (arc_value p.0) (processes_of c.args.shared.now) c.conclude.result c.in-Ok.answer c.in-Ok.is (c.conclude.ensures.finished p.0 p.1 p.2)).after
 
-pub returns-in_default-clause-same_version : goal.returns-in_default-clause-same_version
-returns-in_default-clause-same_version g c = else_err c.end.result c.in_default.not-Ok c.end.ensures.same_version
+pub returns-clause-idle : goal.returns-clause-idle
+returns-clause-idle g c =
+    let seat = c.requires.seat in
+    let p = left_pending (processes_of c.args.shared.now) c.args.self.now.asked (view_in c.args.self.now) c.if-is_none.ensures seat.stands in
+    ap pending_of (finished_ok (view_in c.args.self.now) (view_in c.conclude.new.self) (arc_value p.0) (processes_of c.args.shared.now) c.conclude.result c.in-Ok.answer c.in-Ok.is (c.conclude.ensures.finished p.0 p.1 p.2)).idle

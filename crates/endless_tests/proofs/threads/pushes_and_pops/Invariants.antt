@@ -1,5 +1,0 @@
-use Rattle.uni_endless.specs.Seats.{IsSeatOf}
-use Rattle.endless_tests.proofs.threads.pushes_and_pops.Given as goal
-
-abbrev pub invariant-loop-i : goal.invariant-loop-i
-invariant-loop-i l = IsSeatOf l.shared l.seat

@@ -1,5 +1,0 @@
-use Rattle.uni_endless.proofs.Posting.{posts_move}
-use Rattle.uni_endless.proofs.laws.announcement_invokes.Goals as goal
-
-pub returns : goal.returns
-returns g c o n id r inv letter v alone inside posting few news = posts_move g.O.SeqObject.sequential o n id v alone inv r inside posting few letter news

@@ -1,5 +1,0 @@
-use Rattle.uni_endless.proofs.Meaning.{come_at}
-use Rattle.uni_endless.proofs.laws.returned_has_come.Goals as goal
-
-pub returns : goal.returns
-returns g c o n b local seat_of s p k call is inside at = come_at g.O.SeqObject.sequential o n b local seat_of s is p k call inside at
