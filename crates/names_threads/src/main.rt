@@ -76,7 +76,8 @@ fn put_in_threads<R: Threads + Sync>(
 
 /// How many names there are after all threads have ended; `None` where memory was refused.
 fn run<R: Threads + Sync>(rt: &R, alloc: Global) -> Option<u64> {
-    let (map, seats) = AnyShared::open(alloc, DirectoryObject, THREADS + 1).ok()?;
+    let opened = AnyShared::open(alloc, DirectoryObject, THREADS + 1);
+    let (map, seats) = opened.ok()?;
     let (mut last, others) = last_and_others(&map, seats)?;
     put_in_threads(rt, alloc, &map, others)?;
     let answer = last.apply(alloc, &map, DirectoryInv::Size).ok()?;
