@@ -16,6 +16,10 @@ use Rattle.uni_any.specs.declared.view.Version.{Version}
 abbrev pub version_as : {S R : Type 0} → Block S R → Version S R
 version_as block = record { number = block.number; image = record { state = block.state; rows = block.rows.items } }
 
+-- the image of a block that is owned
+abbrev pub image_in : {S R : Type 0} → Arc (Block S R) Global → Image S R
+image_in block = (version_as (arc_value block)).image
+
 abbrev pub inv_as : {I : Type 0} → Option (Arc I Global) → Option I
 inv_as None = None
 inv_as (Some arc) = Some (arc_value arc)

@@ -65,7 +65,11 @@ module _ {O S I R : Type 0} where
   abbrev pub known_calls : AnySeat O S I R → ProcessCalls I R
   known_calls seat = record { process = process_of seat; own = own_calls seat; pending = pending_call seat }
 
-  -- the version that it has found
+  -- the version from which its attempt starts: the one that it has found once it has looked
+  abbrev pub base_in : (O → Sequential S I R) → AnyShared O S I R → AnySeat O S I R → Version S R
+  base_in meaning shared seat = base_of (meaning (object_of shared)) (processes_of shared) (local_in seat)
+
+  -- the version that it has found between calls
   abbrev pub version_seen : (O → Sequential S I R) → AnyShared O S I R → AnySeat O S I R → Version S R
   version_seen meaning shared seat =
       base_of (meaning (object_of shared)) (processes_of shared) (record (local_in seat) { word = seat.named })

@@ -1,6 +1,7 @@
 //! The calls of a seat.
 ghost use Rattle.std.specs.Prelude.{IfOk, IsErrOf, IsNone, IsSome, None, OnErr, OnOk, Some, length};
-ghost use Rattle.std.specs.Prelude.{◌≡◌, ◌+◌, ◌*◌, ◌<◌, ◌≤◌, ◌++◌, ◌∷◌, [], ◌⊎◌, ◌↔◌};
+ghost use Rattle.std.specs.Prelude.{◌≡◌, ◌+◌, ◌*◌, ◌<◌, ◌≤◌, ◌++◌, ◌∷◌, []};
+ghost use Rattle.std.specs.Prelude.{◌⊎◌, ◌↔◌};
 ghost use Rattle.std.specs.Arc.{arc_value};
 ghost use Rattle.uni_any.specs.Board.{made_by};
 ghost use Rattle.uni_any.specs.Invariant.{most_calls};
@@ -62,7 +63,8 @@ impl<O: SeqObject> AnySeat<O> {
         requires pending { (asked : _) × (self.old.asked ≡ Some asked)
             × IsPending (arc_value asked) 0 (view_in self.old) }
         ensures seat { IsSeatOf shared.now self.new × (self.new.p ≡ self.old.p) }
-        ensures finished { (asked : _) → self.old.asked ≡ Some asked → IsPending (arc_value asked) 0 (view_in self.old)
+        ensures finished { (asked : _) → self.old.asked ≡ Some asked
+            → IsPending (arc_value asked) 0 (view_in self.old)
             → HasFinished (view_in self.old) (arc_value asked) (processes_of shared.now) result (view_in self.new) }
         ensures few_steps { word_steps_of self.new ≤ word_steps_of self.old + resume_steps (processes_of shared.now) }
     {
@@ -116,12 +118,8 @@ impl<O: SeqObject> AnySeat<O> {
         if self.made >= MAX_CALLS {
             return Err(AnyFault::Spent);
         }
-        let Ok(()) = self.announce(alloc, shared, inv) else {
-            return Err(AnyFault::Memory);
-        };
-        let Ok(answer) = self.conclude(alloc, shared) else {
-            return Err(AnyFault::Memory);
-        };
+        self.announce(alloc, shared, inv)?;
+        let answer = self.conclude(alloc, shared)?;
         Ok(answer)
     }
 
@@ -158,9 +156,7 @@ impl<O: SeqObject> AnySeat<O> {
         if self.asked.is_none() {
             return Err(AnyResumeFault::NothingPending);
         }
-        let Ok(answer) = self.conclude(alloc, shared) else {
-            return Err(AnyResumeFault::Memory);
-        };
+        let answer = self.conclude(alloc, shared)?;
         Ok(answer)
     }
 }

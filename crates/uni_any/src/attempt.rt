@@ -4,11 +4,11 @@ ghost use Rattle.std.specs.Prelude.{◌≡◌, ◌≢◌, ◌+◌, ◌*◌, ◌<
 ghost use Rattle.std.specs.Arc.{arc_value};
 ghost use Rattle.uni_any.specs.Content.{applied_in, row_in};
 ghost use Rattle.uni_any.specs.Board.{block_news, made_by, number_in, process_in};
-ghost use Rattle.uni_any.specs.Invariant.{IsWhole, base_of, most_calls};
-ghost use Rattle.uni_any.specs.News.{told_by, version_as};
+ghost use Rattle.uni_any.specs.Invariant.{IsWhole, most_calls};
+ghost use Rattle.uni_any.specs.News.{image_in, told_by, version_as};
 ghost use Rattle.uni_any.specs.Plays.{IsLaying, IsPending, local_of};
 ghost use Rattle.uni_any.specs.Seats.{GoesOnTo, HasEnded, HasFinished, HasTried, IsKept};
-ghost use Rattle.uni_any.specs.Seats.{attempt_steps, local_in, object_of, processes_of, resume_steps, view_in};
+ghost use Rattle.uni_any.specs.Seats.{attempt_steps, base_in, local_in, processes_of, resume_steps, view_in};
 ghost use Rattle.uni_any.specs.Seats.{word_steps_of};
 ghost use Rattle.uni_any.specs.declared.view.Stage.TheVariants.{Ready};
 
@@ -27,17 +27,13 @@ impl<O: SeqObject> AnySeat<O> {
         requires kept { IsKept shared.now self.now }
         requires word { ((local_in self.now).word ≡ word) × (process_in word < processes_of shared.now) }
         requires few { self.now.made < most_calls }
-        requires whole { IsWhole (processes_of shared.now)
-            (base_of (O.sequential (object_of shared.now)) (processes_of shared.now) (local_in self.now)).image }
-        ensures some { IfSome result (λ answer. (applied_in
-            (base_of (O.sequential (object_of shared.now)) (processes_of shared.now) (local_in self.now)).image
-            self.now.p ≡ self.now.made + 1) × ((row_in
-            (base_of (O.sequential (object_of shared.now)) (processes_of shared.now) (local_in self.now)).image
-            self.now.p).reply ≡ Some answer.reply) × (answer.version ≡
-            (base_of (O.sequential (object_of shared.now)) (processes_of shared.now) (local_in self.now)).number)) }
-        ensures none { IfNone result (applied_in
-            (base_of (O.sequential (object_of shared.now)) (processes_of shared.now) (local_in self.now)).image
-            self.now.p ≢ self.now.made + 1) }
+        requires whole { IsWhole (processes_of shared.now) (base_in O.sequential shared.now self.now).image }
+        ensures some { IfSome result (λ answer.
+            (applied_in (base_in O.sequential shared.now self.now).image self.now.p ≡ self.now.made + 1)
+            × ((row_in (base_in O.sequential shared.now self.now).image self.now.p).reply ≡ Some answer.reply)
+            × (answer.version ≡ (base_in O.sequential shared.now self.now).number)) }
+        ensures none { IfNone result
+            (applied_in (base_in O.sequential shared.now self.now).image self.now.p ≢ self.now.made + 1) }
     {
         let base = self.found(word);
         let row = base.rows[self.p as usize];
@@ -63,20 +59,18 @@ impl<O: SeqObject> AnySeat<O> {
     ) -> Option<AnyAnswer<O::Resp>>
         requires kept { IsKept shared.now self.old }
         requires word { ((local_in self.old).word ≡ word) × (word < 9223372036854775808) }
-        requires wide { length (version_as (arc_value block)).image.rows ≡ processes_of shared.now }
+        requires wide { length (image_in block).rows ≡ processes_of shared.now }
         requires number { (version_as (arc_value block)).number ≡ number_in word + 1 }
-        requires owners { (length owners.items ≡ processes_of shared.now)
-            × ((inv : O.Inv) × ((tries : ℕ) × IsLaying O.sequential inv tries (version_as (arc_value block)).image 0
-            (view_in self.old) × All (λ c. told_by c ≡ block_news (local_in self.old) inv
-            (version_as (arc_value block)).image) owners.items)) }
+        requires owners { (length owners.items ≡ processes_of shared.now) × ((inv : O.Inv) × ((tries : ℕ)
+            × IsLaying O.sequential inv tries (image_in block) 0 (view_in self.old)
+            × All (λ c. told_by c ≡ block_news (local_in self.old) inv (image_in block)) owners.items)) }
         ensures kept { IsKept shared.now self.new }
         ensures same { (self.new.p ≡ self.old.p) × (self.new.made ≡ self.old.made)
             × (self.new.asked ≡ self.old.asked) }
         ensures brought { (inv : O.Inv) (tries : ℕ)
-            → IsLaying O.sequential inv tries (version_as (arc_value block)).image 0 (view_in self.old)
-            → All (λ c. told_by c ≡
-            block_news (local_in self.old) inv (version_as (arc_value block)).image) owners.items
-            → IfSome result (λ answer. HasEnded (view_in self.old) inv answer.reply answer.version (view_in self.new))
+            → IsLaying O.sequential inv tries (image_in block) 0 (view_in self.old)
+            → All (λ c. told_by c ≡ block_news (local_in self.old) inv (image_in block)) owners.items
+            → IfSome result (λ a. HasEnded (view_in self.old) inv a.reply a.version (view_in self.new))
             × IfNone result (GoesOnTo (view_in self.old) (Ready inv (tries + 1)) (view_in self.new)) }
         ensures few_steps { word_steps_of self.new ≤ word_steps_of self.old + (2 * processes_of shared.now + 1) }
     {
@@ -109,8 +103,10 @@ impl<O: SeqObject> AnySeat<O> {
             × (self.new.asked ≡ self.old.asked) }
         ensures tried { (asked : _) (tries : ℕ) → self.old.asked ≡ Some asked
             → IsPending (arc_value asked) tries (view_in self.old)
-            → HasTried (view_in self.old) (arc_value asked) tries (processes_of shared.now) result (view_in self.new) }
-        ensures few_steps { word_steps_of self.new ≤ word_steps_of self.old + attempt_steps (processes_of shared.now) }
+            → HasTried (view_in self.old) (arc_value asked) tries (processes_of shared.now) result
+            (view_in self.new) }
+        ensures few_steps { word_steps_of self.new
+            ≤ word_steps_of self.old + attempt_steps (processes_of shared.now) }
     {
         let word = self.look(shared);
         if let Some(answer) = self.answer(shared, word) {
@@ -141,7 +137,8 @@ impl<O: SeqObject> AnySeat<O> {
         ensures kept { IsKept shared.now self.new }
         ensures same { (self.new.p ≡ self.old.p) × (self.new.made ≡ self.old.made)
             × (self.new.asked ≡ self.old.asked) }
-        ensures finished { (asked : _) → self.old.asked ≡ Some asked → IsPending (arc_value asked) 0 (view_in self.old)
+        ensures finished { (asked : _) → self.old.asked ≡ Some asked
+            → IsPending (arc_value asked) 0 (view_in self.old)
             → HasFinished (view_in self.old) (arc_value asked) (processes_of shared.now) result (view_in self.new) }
         ensures few_steps { word_steps_of self.new ≤ word_steps_of self.old + resume_steps (processes_of shared.now) }
     {

@@ -4,9 +4,9 @@ ghost use Rattle.std.specs.Arc.{arc_value};
 ghost use Rattle.uni_any.specs.Content.{row_in};
 ghost use Rattle.uni_any.specs.Board.{number_in, process_in};
 ghost use Rattle.uni_any.specs.Drafts.{image_so_far, one_applied};
-ghost use Rattle.uni_any.specs.Invariant.{IsWhole, base_of, seen_of};
+ghost use Rattle.uni_any.specs.Invariant.{IsWhole, seen_of};
 ghost use Rattle.uni_any.specs.News.{drafted, due, told_by, version_as};
-ghost use Rattle.uni_any.specs.Seats.{IsKept, local_in, object_of, processes_of, view_in};
+ghost use Rattle.uni_any.specs.Seats.{IsKept, base_in, local_in, object_of, processes_of, view_in};
 
 use crate::looking::SPAN;
 use crate::news::{Block, Row};
@@ -46,7 +46,8 @@ fn apply_due<O: SeqObject>(
     ensures applied { OnOk result (image_so_far draft.new base.now ≡ one_applied (O.sequential object.now)
         (image_so_far draft.old base.now) r (due (version_as base.now).image r (told_by news.now))) }
     ensures some { OnOk result (IsSome draft.old.state → IsSome draft.new.state) }
-    ensures own { OnOk result (IsSome (due (version_as base.now).image r (told_by news.now)) → IsSome draft.new.state) }
+    ensures own { OnOk result (IsSome (due (version_as base.now).image r (told_by news.now))
+        → IsSome draft.new.state) }
     ensures long { length draft.new.rows.items ≡ length draft.old.rows.items }
 {
     let applied = base.rows[r as usize].applied;
@@ -77,16 +78,12 @@ impl<O: SeqObject> AnySeat<O> {
         requires kept { IsKept shared.now self.now }
         requires word { ((local_in self.now).word ≡ word) × (process_in word < processes_of shared.now)
             × (word < 9223372036854775808) }
-        requires whole { IsWhole (processes_of shared.now)
-            (base_of (O.sequential (object_of shared.now)) (processes_of shared.now) (local_in self.now)).image }
-        requires own { IsSome (due
-            (base_of (O.sequential (object_of shared.now)) (processes_of shared.now) (local_in self.now)).image
-            self.now.p (seen_of (O.sequential (object_of shared.now)) (processes_of shared.now) (local_in self.now)
-            self.now.p)) }
+        requires whole { IsWhole (processes_of shared.now) (base_in O.sequential shared.now self.now).image }
+        requires own { IsSome (due (base_in O.sequential shared.now self.now).image self.now.p
+            (seen_of (O.sequential (object_of shared.now)) (processes_of shared.now) (local_in self.now) self.now.p)) }
         ensures { IfOk result (λ block. version_as block ≡ record {
           number = number_in word + 1;
-          image = drafted (O.sequential (object_of shared.now))
-              (base_of (O.sequential (object_of shared.now)) (processes_of shared.now) (local_in self.now)).image
+          image = drafted (O.sequential (object_of shared.now)) (base_in O.sequential shared.now self.now).image
               (local_in self.now).seen;
         }) }
     {

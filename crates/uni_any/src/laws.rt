@@ -1,5 +1,6 @@
 //! What the rule means, each law the contract of a function with an empty body.
-ghost use Rattle.std.specs.Prelude.{◌≡◌, ◌≢◌, Contains, List, None, Some, ℕ, ◌+◌, ◌<◌, ◌≤◌, ◌==◌, [], ◌∷◌, ◌++◌};
+ghost use Rattle.std.specs.Prelude.{◌≡◌, ◌≢◌, ◌+◌, ◌<◌, ◌≤◌, ◌==◌, [], ◌∷◌};
+ghost use Rattle.std.specs.Prelude.{◌++◌, Contains, List, None, Some, ℕ};
 ghost use Rattle.std.specs.Prelude.{map, slice_get};
 ghost use prog.Atomic.{either};
 ghost use Rattle.uni_model.specs.AtomicObject.Act.{Invoke, Linearize};

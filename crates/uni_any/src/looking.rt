@@ -1,8 +1,8 @@
 //! What a seat learns, and the version that it finds.
-ghost use Rattle.std.specs.Prelude.{◌≡◌, ◌≢◌, ◌+◌, ◌*◌, ◌<◌, ◌≤◌, ℕ, IfNone, IfSome, Some, length, map};
+ghost use Rattle.std.specs.Prelude.{◌≡◌, ◌+◌, ◌<◌, ◌≤◌, ℕ, Some, length, map};
 ghost use Rattle.std.specs.Arc.{arc_value};
 ghost use Rattle.uni_any.specs.Board.{number_in, process_in};
-ghost use Rattle.uni_any.specs.Invariant.{IsWhole, base_of};
+ghost use Rattle.uni_any.specs.Invariant.{base_of};
 ghost use Rattle.uni_any.specs.News.{told_by, version_as};
 ghost use Rattle.uni_any.specs.Plays.{HasLearned, IsPending, stage_of};
 ghost use Rattle.uni_any.specs.declared.view.Stage.TheVariants.{Reading};
@@ -52,13 +52,12 @@ impl<O: SeqObject> AnySeat<O> {
         word
     }
 
-    /// The version that the process has found of which S named the process that brought it in.
+    /// The version that S named where it was this word: it is one of the two that its process told last.
     pub(crate) fn found(&self, word: u64) -> &BlockOf<O>
         requires inside { process_in word < length self.now.seen.items }
         requires seen { (local_in self.now).seen ≡ map told_by self.now.seen.items }
-        requires word { (local_in self.now).word ≡ word }
-        ensures { (n : ℕ) → version_as result.now
-            ≡ base_of (O.sequential (view_in self.now).object) n (local_in self.now) }
+        ensures { (object : _) (n : ℕ)
+            → version_as result.now ≡ base_of object n (record (local_in self.now) { word = word }) }
     {
         self.seen[(word % SPAN) as usize].found(word / SPAN)
     }

@@ -17,6 +17,7 @@ pub struct Row<R> {
 /// A version of the object, with its number. Once it is told, nobody changes it.
 #[derive(Drop)]
 pub struct Block<S, R> {
+    /// How many versions came before it.
     pub number: u64,
     /// The state of the object.
     pub state: S,
@@ -24,13 +25,16 @@ pub struct Block<S, R> {
     pub rows: Vec<Row<R>>,
 }
 
-/// What a process tells another one: the number of its last call, from 1 on, and its invocation; the block that it
-/// brought in last; and the one that it may bring in next.
+/// What a process tells another one.
 #[derive(Drop)]
 pub struct News<I, B> {
+    /// The number of its last call, from 1 on; 0 where it has made none.
     pub call: u64,
+    /// The invocation of that call.
     pub inv: Option<Arc<I, Global>>,
+    /// The version that it brought in last.
     pub last: Arc<B, Global>,
+    /// The version that it may bring in next; while a call is only announced, the last one once more.
     pub next: Arc<B, Global>,
 }
 

@@ -1,5 +1,6 @@
 //! Opening an object.
-ghost use Rattle.std.specs.Prelude.{All, IfOk, IsErrOf, ◌<◌, ◌≡◌, ◌≤◌, ◌⊎◌, ◌↔◌, ◌+◌, ◌-◌, None, replicate};
+ghost use Rattle.std.specs.Prelude.{◌<◌, ◌≡◌, ◌≤◌, ◌⊎◌, ◌↔◌, ◌+◌, ◌-◌};
+ghost use Rattle.std.specs.Prelude.{All, IfOk, IsErrOf, None, replicate};
 ghost use Rattle.std.specs.Arc.{arc_value};
 ghost use Rattle.triple_buffers.specs.Parties.{AreOf, key_of, many, next_of, view_of_all};
 ghost use Rattle.uni_any.specs.declared.open.AnyOpenFault as AnyOpenFault;
@@ -29,6 +30,17 @@ pub enum AnyOpenFault {
     /// Memory was refused.
     #[error("out of memory")]
     Memory,
+}
+
+impl From<AllocError> for AnyOpenFault {
+    ghost use Rattle.std.specs.Prelude.{◌≡◌};
+    ghost use Rattle.uni_any.specs.declared.open.AnyOpenFault.TheVariants.{Memory};
+
+    ghost from_gives = { λ _ fault. fault ≡ Memory };
+
+    fn from(_: AllocError) -> AnyOpenFault {
+        AnyOpenFault::Memory
+    }
 }
 
 /// The places that have no seat yet.
@@ -116,7 +128,8 @@ impl<O: SeqObject> AnyShared<O> {
     ) -> Result<AnySeat<O>, AllocError>
         requires parties { AreOf self.now.buffers parties.old }
         requires next { (next_of parties.old ≡ p) × (1 ≤ many parties.old) × (p < processes_of self.now) }
-        requires view { view_of_all parties.old ≡ rest_of O.sequential (object_of self.now) (processes_of self.now) p }
+        requires view { view_of_all parties.old
+            ≡ rest_of O.sequential (object_of self.now) (processes_of self.now) p }
         requires start { version_as (arc_value start.now) ≡
             first_version (O.sequential (object_of self.now)) (processes_of self.now) }
         requires news { told_by news.now ≡ first_told (O.sequential (object_of self.now)) (processes_of self.now) }
@@ -205,9 +218,7 @@ impl<O: SeqObject> AnyShared<O> {
         if n < 1 || n > MAX_PROCESSES {
             return Err(AnyOpenFault::BadCount);
         }
-        let Ok(opened) = AnyShared::with_seats(alloc, object, n) else {
-            return Err(AnyOpenFault::Memory);
-        };
+        let opened = AnyShared::with_seats(alloc, object, n)?;
         Ok(opened)
     }
 }

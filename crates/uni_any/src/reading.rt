@@ -1,6 +1,6 @@
 //! What only reads is no call: a seat finds the present version.
-ghost use Rattle.std.specs.Prelude.{◌≡◌, ◌↔◌, ◌+◌, ◌<◌, ◌≤◌, ℕ, IfOk, IsErr, IsSome, IsTrue, None, OnErr, OnOk};
-ghost use Rattle.std.specs.Prelude.{List, [], ◌∷◌};
+ghost use Rattle.std.specs.Prelude.{◌≡◌, ◌↔◌, ◌+◌, ◌<◌, ◌≤◌, [], ◌∷◌};
+ghost use Rattle.std.specs.Prelude.{IfOk, IsErr, IsSome, IsTrue, OnErr, OnOk};
 ghost use Rattle.std.specs.Arc.{arc_value};
 ghost use Rattle.uni_any.specs.Board.{number_in, process_in};
 ghost use Rattle.uni_any.specs.News.{version_as};
@@ -35,8 +35,8 @@ impl<O: SeqObject> AnySeat<O> {
         }
     }
 
-    /// Finds the present version, or one that comes while it looks: the answer is its number, and `version` shows it. It
-    /// takes no memory and copies nothing.
+    /// Finds the present version, or one that comes while it looks: the answer is its number, and `version` shows it.
+    /// It takes no memory and copies nothing.
     ///
     /// The seat follows that version: its later calls come after all calls that are in it, and their versions are
     /// greater. The version has the state after the first calls of a history that the atomic object accepts, and all
@@ -51,8 +51,9 @@ impl<O: SeqObject> AnySeat<O> {
         ensures unchanged { OnErr result (self.new ≡ self.old) }
         ensures calls { (own_calls self.new ≡ own_calls self.old)
             × (pending_call self.new ≡ pending_call self.old) }
-        ensures told { IfOk result (λ number. IsVersionOf (O.sequential (object_of shared.now)) (processes_of shared.now)
-            (known_calls self.new ∷ []) number (version_seen O.sequential shared.now self.new).image) }
+        ensures told { IfOk result (λ number.
+            IsVersionOf (O.sequential (object_of shared.now)) (processes_of shared.now) (known_calls self.new ∷ [])
+            number (version_seen O.sequential shared.now self.new).image) }
         ensures number { IfOk result (λ number. (version_seen O.sequential shared.now self.new).number ≡ number) }
         ensures version { IfOk result (λ number. version_of self.new ≡ number) }
         ensures later { version_of self.old ≤ version_of self.new }
@@ -73,7 +74,7 @@ impl<O: SeqObject> AnySeat<O> {
         requires seat { IsSeatOf shared.now self.now }
         ensures { version_as result.now ≡ version_seen O.sequential shared.now self.now }
     {
-        self.seen[(self.named % SPAN) as usize].found(self.named / SPAN)
+        self.found(self.named)
     }
 
     /// Asks whether this version has come: it finds the present version, as `refresh` does. The answer is `true`

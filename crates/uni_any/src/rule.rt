@@ -10,7 +10,9 @@ use triple_buffers::{BufferRule, Buffers, Party, TakePlay, WordPlay, WritePlay};
 /// What the rule is told once: the object, and for how many processes.
 #[derive(Drop)]
 pub struct Setup<O: SeqObject> {
+    /// The object.
     pub object: O,
+    /// How many processes share it, from 1 to 64.
     pub processes: u64,
 }
 

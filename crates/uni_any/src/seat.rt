@@ -5,7 +5,7 @@ ghost use Rattle.triple_buffers.specs.Parties.{key_of, layout_of};
 use crate::news::Block;
 use crate::rule::{NewsOf, ObjectBuffers, ObjectParty};
 use seq_object::SeqObject;
-use std::alloc::Global;
+use std::alloc::{AllocError, Global};
 use std::sync::Arc;
 use thiserror::Error;
 
@@ -55,6 +55,17 @@ pub enum AnyFault {
     Memory,
 }
 
+impl From<AllocError> for AnyFault {
+    ghost use Rattle.std.specs.Prelude.{◌≡◌};
+    ghost use Rattle.uni_any.specs.declared.seat.AnyFault.TheVariants.{Memory};
+
+    ghost from_gives = { λ _ fault. fault ≡ Memory };
+
+    fn from(_: AllocError) -> AnyFault {
+        AnyFault::Memory
+    }
+}
+
 /// A call is pending: `resume` goes on with it.
 #[derive(Debug, Clone, Copy, PartialEq, Eq, Drop, Error)]
 #[error("a call is pending")]
@@ -69,4 +80,15 @@ pub enum AnyResumeFault {
     /// Memory was refused: the call is pending still.
     #[error("out of memory")]
     Memory,
+}
+
+impl From<AllocError> for AnyResumeFault {
+    ghost use Rattle.std.specs.Prelude.{◌≡◌};
+    ghost use Rattle.uni_any.specs.declared.seat.AnyResumeFault.TheVariants.{Memory};
+
+    ghost from_gives = { λ _ fault. fault ≡ Memory };
+
+    fn from(_: AllocError) -> AnyResumeFault {
+        AnyResumeFault::Memory
+    }
 }

@@ -98,10 +98,12 @@ pub(crate) fn lay_all<O: SeqObject>(
     requires place { IsPlaceOf buffers.now party.old }
     requires some { 0 < (key_of buffers.now).processes }
     requires owners { (length owners.items ≡ (key_of buffers.now).processes)
-        × ((inv : O.Inv) × ((tries : ℕ) × ((image : _) × IsLaying O.sequential inv tries image 0 (view_of party.old)
+        × ((inv : O.Inv) × ((tries : ℕ) × ((image : _)
+        × IsLaying O.sequential inv tries image 0 (view_of party.old)
         × All (λ c. told_by c ≡ block_news (local_of (view_of party.old)) inv image) owners.items))) }
     ensures place { IsPlaceOf buffers.now party.new × (number_of party.new ≡ number_of party.old) }
-    ensures left { (inv : O.Inv) (tries : ℕ) (image : _) → IsLaying O.sequential inv tries image 0 (view_of party.old)
+    ensures left { (inv : O.Inv) (tries : ℕ) (image : _)
+        → IsLaying O.sequential inv tries image 0 (view_of party.old)
         → All (λ c. told_by c ≡ block_news (local_of (view_of party.old)) inv image) owners.items
         → view_of party.new ≡ goes (view_of party.old) (Writing inv tries image (key_of buffers.now).processes) }
     ensures steps { steps_of party.new ≡ steps_of party.old + 2 * (key_of buffers.now).processes }

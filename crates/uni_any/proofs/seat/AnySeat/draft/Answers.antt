@@ -18,7 +18,7 @@ loop-r-init g c =
     let kept = c.requires.kept in
     let base = c.found-base.result.now in
     let base_is : version_as base ≡ base_of object n c.args.self.now.party.seat.me.0.client.known.local =
-    c.found-base.ensures n ∙ (λ k. base_of (g.O.SeqObject.sequential (kept.place.object k)) n c.args.self.now.party.seat.me.0.client.known.local) in
+    c.found-base.ensures object n ∙ ap (λ w. base_of object n (record c.args.self.now.party.seat.me.0.client.known.local { word = w })) (sym c.requires.word.0) in
     let rows : c.extend_from_slice.new.self.items ≡ base.rows.items = c.in_ok-extend_from_slice.ensures.items ∙ ap (λ xs. xs ++ c.as_slice-before.result.now) c.in_ok-rows.ensures.items ∙ c.as_slice-before.ensures.value in
     let long : length base.rows.items ≡ n = ap (λ (z : Version _ _). length z.image.rows) base_is ∙ c.requires.whole.long in
     record {
@@ -37,7 +37,7 @@ apply_due-requires-clause-inside g c =
     let kept = c.requires.kept in
     let base = c.found-base.result.now in
     let base_is : version_as base ≡ base_of object n c.args.self.now.party.seat.me.0.client.known.local =
-    c.found-base.ensures n ∙ (λ k. base_of (g.O.SeqObject.sequential (kept.place.object k)) n c.args.self.now.party.seat.me.0.client.known.local) in
+    c.found-base.ensures object n ∙ ap (λ w. base_of object n (record c.args.self.now.party.seat.me.0.client.known.local { word = w })) (sym c.requires.word.0) in
     let long : length base.rows.items ≡ n = ap (λ (z : Version _ _). length z.image.rows) base_is ∙ c.requires.whole.long in
     let i = c.loop-r.invariant in
     ((let a = i.drafting.long in let b = i.end in let t = c.loop-r-test.true in omega arith), (let b = i.end in let t = c.loop-r-test.true in omega (arith, long)))
@@ -70,7 +70,7 @@ loop-r-preserved g c =
           (applied.long ∙ i.drafting.long);
       own = λ below. elim (number_cases c.args.self.now.p r) [
         | inl same ↦
-            let base_is : version_as base ≡ base_of object n local = c.found-base.ensures n ∙ (λ k. base_of (g.O.SeqObject.sequential (kept.place.object k)) n local) in
+            let base_is : version_as base ≡ base_of object n local = c.found-base.ensures object n ∙ ap (λ w. base_of object n (record local { word = w })) (sym c.requires.word.0) in
             let seen_is : seen_of object n local c.args.self.now.p ≡ told_by c.index.result.now = ap (λ xs. slice_index_or xs c.args.self.now.p d) kept.seen ∙ ap (λ k. slice_index_or (map told_by items) k d) same.0 ∙ sym news in
             applied.own (subst IsSome (λ k. due (sym base_is k).image (same.0 k) (seen_is k)) c.requires.own)
         | inr other ↦ applied.some (i.own (omega (arith, below, other.0)))
@@ -92,7 +92,7 @@ returns g c =
     let local = c.args.self.now.party.seat.me.0.client.known.local in
     let items = c.args.self.now.seen.items in
     let i = c.loop-r.invariant in
-    let base_is : version_as base ≡ base_of object n local = c.found-base.ensures n ∙ (λ k. base_of (g.O.SeqObject.sequential (kept.place.object k)) n local) in
+    let base_is : version_as base ≡ base_of object n local = c.found-base.ensures object n ∙ ap (λ w. base_of object n (record local { word = w })) (sym c.requires.word.0) in
     let whole = drafting_whole object (version_as base).image (map told_by items) (first_told object n) n c.loop-r.r (image_so_far c.loop-r.draft base) i.drafting
     (let a = length-map items told_by in let b = kept.long in let e = i.end in let t = c.loop-r-test.false in omega arith) in
     let state : image_so_far c.loop-r.draft base ≡ record { state = c.in-Some.state; rows = c.loop-r.draft.rows.items } = (λ k. record { state = unwrap_or (c.in-Some.is k) base.state; rows = c.loop-r.draft.rows.items }) in

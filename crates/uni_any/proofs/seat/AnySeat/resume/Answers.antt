@@ -17,16 +17,16 @@ pub returns-clause-later : goal.returns-clause-later
 returns-clause-later g c =
     let seat = c.requires.seat in
     let p = left_pending (processes_of c.args.shared.now) c.args.self.now.asked (view_in c.args.self.now) c.if-is_none.ensures seat.stands in
-    (finished_ok (view_in c.args.self.now) (view_in c.conclude.new.self) (arc_value p.0) (processes_of c.args.shared.now) c.conclude.result c.in-Ok.answer c.in-Ok.is (c.conclude.ensures.finished p.0 p.1 p.2)).later
+    (finished_ok (view_in c.args.self.now) (view_in c.conclude.new.self) (arc_value p.0) (processes_of c.args.shared.now) c.conclude.result c.in_ok-answer.answer c.in_ok-answer.was (c.conclude.ensures.finished p.0 p.1 p.2)).later
 
 pub returns-clause-version : goal.returns-clause-version
 returns-clause-version g c =
     let seat = c.requires.seat in
     let p = left_pending (processes_of c.args.shared.now) c.args.self.now.asked (view_in c.args.self.now) c.if-is_none.ensures seat.stands in
-    (finished_ok (view_in c.args.self.now) (view_in c.conclude.new.self) (arc_value p.0) (processes_of c.args.shared.now) c.conclude.result c.in-Ok.answer c.in-Ok.is (c.conclude.ensures.finished p.0 p.1 p.2)).after
+    (finished_ok (view_in c.args.self.now) (view_in c.conclude.new.self) (arc_value p.0) (processes_of c.args.shared.now) c.conclude.result c.in_ok-answer.answer c.in_ok-answer.was (c.conclude.ensures.finished p.0 p.1 p.2)).after
 
 pub returns-clause-idle : goal.returns-clause-idle
 returns-clause-idle g c =
     let seat = c.requires.seat in
     let p = left_pending (processes_of c.args.shared.now) c.args.self.now.asked (view_in c.args.self.now) c.if-is_none.ensures seat.stands in
-    ap pending_of (finished_ok (view_in c.args.self.now) (view_in c.conclude.new.self) (arc_value p.0) (processes_of c.args.shared.now) c.conclude.result c.in-Ok.answer c.in-Ok.is (c.conclude.ensures.finished p.0 p.1 p.2)).idle
+    ap pending_of (finished_ok (view_in c.args.self.now) (view_in c.conclude.new.self) (arc_value p.0) (processes_of c.args.shared.now) c.conclude.result c.in_ok-answer.answer c.in_ok-answer.was (c.conclude.ensures.finished p.0 p.1 p.2)).idle
