@@ -5,7 +5,8 @@
 use stack::{Stack, StackInv, StackResp};
 use std::alloc::Global;
 use std::io;
-use universal::{Entry, Log, Progress, World};
+use uni_core::{Progress, World};
+use uni_log::{Entry, Log};
 
 /// By so many steps each call of two processes has returned: 10 * 2 + 12.
 const MOST_STEPS: u64 = 32;
