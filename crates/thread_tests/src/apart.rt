@@ -1,8 +1,8 @@
 //! What the laws of every execution exclude: a stale read. Each law is the contract of a function with an empty body.
 ghost use Rattle.std.specs.Prelude.{◌≡◌, ℕ, List};
 ghost use Rattle.uni_model.specs.Linearizable.{observed, observed_in};
+ghost use Rattle.uni_small.specs.Board.{AreSizesOf};
 ghost use Rattle.uni_small.specs.Execution.{Execution, history, opened_moment};
-ghost use Rattle.uni_small.specs.Linearized.{AreSizesOf};
 ghost use Rattle.uni_small.specs.declared.sizes.Sizes.{Sizes};
 ghost use Rattle.uni_words.specs.Execution.{Execution as WordsExecution, events, opened_table};
 ghost use Rattle.uni_words.specs.Linearized.{IsNarrow};

@@ -10,7 +10,7 @@ use Rattle.uni_model.specs.Executions.Execution.{Ends, Takes}
 use Rattle.uni_model.specs.Linearizable.{observed}
 
 module _ {M : Type 0} (n : ℕ) (Step : (m : M) (p : ℕ) → Type 0) (after : (m : M) (p : ℕ) → Step m p → M) where
-  last-goes_on : {m : M} (e : Execution n Step after m) (more : Execution n Step after (last_moment n Step after e)) → last_moment n Step after (goes_on n Step after e more) ≡ last_moment n Step after more
+  pub last-goes_on : {m : M} (e : Execution n Step after m) (more : Execution n Step after (last_moment n Step after e)) → last_moment n Step after (goes_on n Step after e more) ≡ last_moment n Step after more
   last-goes_on Ends more = refl
   last-goes_on (Takes p inside step rest) more = last-goes_on rest more
 

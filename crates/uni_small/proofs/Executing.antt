@@ -1,17 +1,17 @@
 -- Each step of an execution is one of the table's steps, and so keeps a board whose history is that of the execution.
-use Rattle.uni_small.proofs.Vocabulary.{Act, AreWidths, AreWords, Board, IsShown, IsSound, Image, IsSteady, Last, Linearize, List, Local, Me, Meaning, Moves, Option, Reading, Ready, Sequential, Sizes, Some, Stage, State, Tells, View, Writing, [], ap, append-nil, append_assoc, brought, brought_own, Seen, Idle, Invoke, IsLeft, slice_set, takes_effect_own, buffer_in, calls_seen, current_word, eqb, false, get_elem?, if◌then◌else◌, length, map, nothing, refl, set_at, set_at-cases, slice_index, slice_set, some, step, subst, sym, takes_effect, true, version_in, with_local, ℕ, either, ◌*◌, ◌++◌, ◌+◌, ◌<◌, ◌==◌, ◌∙◌, ◌∷◌, ◌≡◌, ◌≤◌, written_to}
+use Rattle.uni_small.proofs.Vocabulary.{Act, AreWidths, AreWords, Board, IsShown, IsSound, Image, IsSteady, Last, Linearize, List, Local, Me, Meaning, Moves, Option, Reading, Ready, Sequential, Sizes, Some, Stage, State, Tells, View, Writing, [], ap, brought, brought_own, Seen, Idle, Invoke, IsLeft, slice_set, takes_effect_own, buffer_in, calls_seen, current_word, eqb, false, get_elem?, if◌then◌else◌, length, map, nothing, refl, set_at, slice_index, slice_set, some, step, subst, sym, takes_effect, true, version_in, with_local, ℕ, either, ◌*◌, ◌++◌, ◌+◌, ◌<◌, ◌==◌, ◌∙◌, ◌∷◌, ◌≡◌, ◌≤◌, written_to}
 use Rattle.uni_small.proofs.Vocabulary.{HasAnnounced, HasAsked, HasBegun, HasBrought, HasChecked, HasCheckedOwn, HasCopied, HasFollowed, HasLoaded, HasLooked, HasReplied, HasStarted, HasStored, HasTurned, HasWritten, arith, buffer_word, begins, ends, number_cases, IsAttemptAt, none, read_image, spell, with_seen, ⊎_elim}
 use Rattle.uni_small.proofs.Vocabulary.{Bool, HasRecounted, HasReread, HasRestarted, false, has_begun}
-use Rattle.uni_small.specs.Execution.{Access, Execution, Moment, Next, access_of, acts_at, after_access, last_moment, history}
+use Rattle.uni_model.proofs.Executions.{kept_along}
+use Rattle.uni_small.specs.Execution.{Access, CanTake, Execution, Moment, access_of, acts_at, acts_of, after, after_access, last_moment, history}
 use Rattle.uni_small.specs.Execution.Next.{Store, Announce, Follow, Begin, Start, Copy, Look, Ask, Check, CheckOwn, Write, Bring, BringOwn, Turn, Load, Reply}
 use Rattle.uni_small.specs.Execution.Next.{Recount, Reread, Restart}
-use Rattle.uni_small.specs.Execution.Execution.{Ends, Step as Steps}
 use Rattle.uni_small.proofs.Stores.{announced, stores, writes}
 use Rattle.uni_small.proofs.Exchange.{brings_in, brings_in_left}
 use Rattle.uni_small.proofs.Reply.{loads, replies}
 use Rattle.uni_small.proofs.Rejoining.{recounts, rereads, restarts}
 use Rattle.uni_small.proofs.Loads.{begins_own, checks_own, starts, copies, looks, asks, checks, turns, follows_on}
-use Rattle.uni_model.proofs.Each.{at_each, each_of, from_each}
+use Rattle.uni_model.proofs.Each.{at_each, each-set_at, each_of, from_each}
 
 -- the buffer that an attempt copies is one of the buffers
 abbrev pub IsCopyingOne : Sizes → Stage → Type 0
@@ -111,10 +111,7 @@ module _ {O : Type 0} (meaning : O → Meaning) (o : O) (sizes : Sizes) where
         board = to.1.0;
         words_are = subst (λ x. AreWords sizes to.1.0 (slice_set m.words a.word x)) same is.words;
         sound = subst (λ l. IsSound object sizes to.1.0 (set_at m.local p l)) mine is.sound;
-        copying = λ q within. ⊎_elim
-            (λ here. subst (λ (l : Local). IsCopyingOne sizes l.stage) (sym here.1) told.1)
-            (λ other. subst (λ (l : Local). IsCopyingOne sizes l.stage) (sym other.1) (h.copying q within))
-            (set_at-cases m.local p l' q);
+        copying = each-set_at (λ q l. IsCopyingOne sizes l.stage) sizes.processes m.local p l' told.1 (λ q within apart. h.copying q within);
         appended = to.1.3 ∙ (λ k. h.appended k ++ made h.board h.words_are h.sound k);
       }
 
@@ -152,8 +149,8 @@ module _ {O : Type 0} (meaning : O → Meaning) (o : O) (sizes : Sizes) where
         → (m.local p).stage ≡ Last s loaded → buffer_in s < 2 * sizes.processes
     replies_one m acts h p inside s loaded at = (subst (λ k. IsAttemptAt object sizes h.board p (2 * p + (m.local p).spare) k) at (h.sound.each p inside).attempt).0
 
-    pub step_holds : (m : Moment) (acts : List (Act (List ℕ) (List ℕ))) → Holds m acts → (p : ℕ) → p < sizes.processes → (next : Next object sizes p (m.local p))
-        → Holds (after_access object sizes m p (access_of object sizes p (m.local p) next)) (acts ++ acts_at object sizes m (access_of object sizes p (m.local p) next))
+    pub step_holds : (m : Moment) (acts : List (Act (List ℕ) (List ℕ))) → Holds m acts → (p : ℕ) → p < sizes.processes → (next : CanTake object sizes m p)
+        → Holds (after object sizes m p next) (acts ++ acts_of object sizes m p next)
     step_holds m acts h p inside (Store stored x at within room) =
         let st = step 0 0 0 0 none in let me = me_at m.local p in
         moved widths m acts h p inside (access_of object sizes p (m.local p) (Store stored x at within room)) (λ y. x) nothing (λ found me'. HasStored st me x me')
@@ -262,8 +259,4 @@ module _ {O : Type 0} (meaning : O → Meaning) (o : O) (sizes : Sizes) where
 
     -- and so does an execution
     pub history_holds : {m : Moment} (acts : List (Act (List ℕ) (List ℕ))) → Holds m acts → (e : Execution object sizes m) → Holds (last_moment object sizes e) (acts ++ history object sizes e)
-    history_holds {m = m} acts h Ends = subst (λ a. Holds m a) (sym (append-nil acts)) h
-    history_holds acts h (Steps {m = m} p inside next rest) =
-        let made = acts_at object sizes m (access_of object sizes p (m.local p) next) in
-        subst (λ a. Holds (last_moment object sizes rest) a) (append_assoc acts made (history object sizes rest))
-        (history_holds (acts ++ made) (step_holds m acts h p inside next) rest)
+    history_holds acts h e = kept_along sizes.processes (CanTake object sizes) (after object sizes) (acts_of object sizes) Holds step_holds acts h e

@@ -1,5 +1,6 @@
 -- A word step of a seat of one process keeps the rule: what has to be shown of the board.
-use Rattle.uni_small.proofs.Vocabulary.{Act, AreWidths, AreWords, Board, IsAt, IsBoard, IsShown, IsSound, List, Local, Me, Meaning, Moves, Seen, Sequential, Sizes, Some, State, Tells, View, ap, append-nil, arith, at_set, get_elem?, inl, inr, nothing, set, set-get_or, set_at, set_at-cases, set_at_elsewhere, set_at_same, slice_index, slice_set, some, subst, sym, with_local, ℕ, ⊎_elim, ◌++◌, ◌<◌, ◌∙◌, ◌≡◌, ◌≢◌}
+use Rattle.uni_small.proofs.Vocabulary.{Act, AreWidths, AreWords, Board, IsAt, IsBoard, IsShown, IsSound, List, Local, Me, Meaning, Moves, Seen, Sequential, Sizes, Some, State, Tells, View, ap, append-nil, arith, at_set, get_elem?, nothing, set, set-get_or, set_at, set_at_elsewhere, set_at_same, slice_index, slice_set, some, subst, sym, with_local, ℕ, ⊎_elim, ◌++◌, ◌<◌, ◌∙◌, ◌≡◌, ◌≢◌}
+use Rattle.uni_model.proofs.Each.{each-set_at}
 use Rattle.uni_small.proofs.Running.{IsStepTo, runs_on}
 
 -- one process gets another local, and the others stay where they are
@@ -8,10 +9,7 @@ pub sound_with : (object : Sequential (List ℕ) (List ℕ) (List ℕ)) (sizes :
     → IsSound object sizes g' (set_at local p l')
 sound_with object sizes g g' local p l' sound board others mine = record {
   board = board;
-  each = λ q inside. elim (set_at-cases local p l' q) [
-    | inl here ↦ subst (λ l. IsAt object sizes g' q l) (sym here.1) (subst (λ k. IsAt object sizes g' k l') (sym here.0) mine)
-    | inr other ↦ subst (λ l. IsAt object sizes g' q l) (sym other.1) (others q inside other.0 (sound.each q inside))
-  ];
+  each = each-set_at (λ q l. IsAt object sizes g' q l) sizes.processes local p l' mine (λ q inside apart. others q inside apart (sound.each q inside));
 }
 
 -- where the board stays as it is

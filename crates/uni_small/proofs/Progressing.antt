@@ -2,10 +2,11 @@
 use Rattle.uni_small.proofs.Vocabulary.{AreApplied, AreWhole, buffer_in, ◌/◌, ◌%◌, Bool, Idle, Image, Last, List, Local, None, Option, Reading, Ready, Sequential, Sizes, Some, Stage, Writing, [], ap, arith, announced_steps, attempt_steps, buffer_words, call_steps, checked, checked_own, drop, false, most_calls, nat_le, replicate, length-replicate, slice_set, take, goes, held_place, knows, if◌then◌else◌, inl, inr, length, length-append, length-set, looked, number_cases, read_image, refl, get_or-set_other, get_or-set_same, slice_get, slice_get-append_left, slice_get_within, slice_index, spell, subst, suc, suc-mul, sym, true, version_in, with_seen, wrote, zero, ℕ, ⊎_elim, ◌*◌, ◌++◌, ◌+◌, ◌-◌, ◌<◌, ◌==◌, ◌∙◌, ◌∷◌, ◌≡◌, ◌≤◌, ◌⊎◌, lt_cases, HasComeTo, IsWritten, IsWrittenTo, written_to, rests, restarted}
 use Rattle.std.proofs.Math.Nat.{mul_comm}
 use Rattle.uni_small.proofs.Vocabulary.{has_begun}
-use Rattle.uni_small.specs.Execution.{Execution, Moment, Next, access_of, after_access, last_moment, opened_moment}
+use Rattle.uni_model.proofs.Each.{each-set_at}
+use Rattle.uni_model.specs.Executions.Execution.{Ends, Takes}
+use Rattle.uni_small.specs.Execution.{CanTake, Execution, Moment, Next, access_of, after, last_moment, opened_moment}
 use Rattle.uni_small.specs.Execution.Next.{Store, Announce, Follow, Begin, Start, Copy, Look, Ask, Check, CheckOwn, Write, Bring, BringOwn, Turn, Load, Reply}
 use Rattle.uni_small.specs.Execution.Next.{Recount, Reread, Restart}
-use Rattle.uni_small.specs.Execution.Execution.{Ends, Step as Steps}
 use Rattle.uni_small.specs.Progress.{IsPending, KeepsBound, NeverBlocks, StepOfCall, counted, steps_of_call}
 use Rattle.uni_small.proofs.Ending.{steps_are}
 use Rattle.uni_small.proofs.Opening as Opening
@@ -290,19 +291,15 @@ module _ (object : Sequential (List ℕ) (List ℕ) (List ℕ)) (sizes : Sizes) 
   abbrev pub AllStand : Moment → Type 0
   AllStand m = (p : ℕ) → p < sizes.processes → Stands p (m.local p)
 
-  stand_after : (m : Moment) → AllStand m → (p : ℕ) → p < sizes.processes → (next : Next object sizes p (m.local p))
-      → AllStand (after_access object sizes m p (access_of object sizes p (m.local p) next))
-  stand_after m h p inside next = λ q within.
+  stand_after : (m : Moment) → AllStand m → (p : ℕ) → p < sizes.processes → (next : CanTake object sizes m p) → AllStand (after object sizes m p next)
+  stand_after m h p inside next =
       let a = access_of object sizes p (m.local p) next in
       let found = slice_index m.words a.word in
-      ⊎_elim
-      (λ same. subst (λ b. Stands q (if b then a.leaves found else m.local q)) (sym same.1) (subst (λ k. Stands k (a.leaves found)) (sym same.0) (stands_after p (m.local p) (h p inside) next found)))
-      (λ other. subst (λ b. Stands q (if b then a.leaves found else m.local q)) (sym other.1) (h q within))
-      (number_cases q p)
+      each-set_at Stands sizes.processes m.local p (a.leaves found) (stands_after p (m.local p) (h p inside) next found) (λ q within apart. h q within)
 
   pub stand_at_end : {m : Moment} → AllStand m → (e : Execution object sizes m) → AllStand (last_moment object sizes e)
   stand_at_end h Ends = h
-  stand_at_end h (Steps {m = m} p inside next rest) = stand_at_end (stand_after m h p inside next) rest
+  stand_at_end h (Takes {m = m} p inside next rest) = stand_at_end (stand_after m h p inside next) rest
 
   -- the step that stores one more word of an invocation, or announces it
   store_or_announce : (p : ℕ) (l : Local) (y : ℕ) (stored : List ℕ) → l.stage ≡ Idle (y ∷ stored) → length (y ∷ stored) ≤ sizes.invocation → length l.own < most_calls → StepOfCall object sizes p l
@@ -546,7 +543,7 @@ module _ (object : Sequential (List ℕ) (List ℕ) (List ℕ)) (sizes : Sizes) 
       → (e : Execution object sizes m)
       → IsWithin ((last_moment object sizes e).local p).direct ((last_moment object sizes e).local p).stage (steps_of_call object sizes p taken e)
   within_end p taken h inside w Ends = w
-  within_end p taken h inside w (Steps {m = m} q within next rest) =
+  within_end p taken h inside w (Takes {m = m} q within next rest) =
       let a = access_of object sizes q (m.local q) next in
       let found = slice_index m.words a.word in
       let l' = a.leaves found in

@@ -1,8 +1,8 @@
 -- An execution goes on in the same way where the place of a process that takes no step is another one.
 use Rattle.uni_small.proofs.Vocabulary.{List, Sequential, Sizes, ap, refl, set-get_or, set_at_elsewhere, slice_index, slice_set, subst, sym, ℕ, if◌then◌else◌, ◌++◌, ◌==◌, ◌∙◌, ◌≡◌, ◌≢◌}
+use Rattle.uni_model.specs.Executions.Execution.{Ends, Takes}
 use Rattle.uni_small.specs.Execution.{Access, Execution, Moment, access_of, after_access, last_moment}
 use Rattle.uni_small.specs.Execution.Next.{Reply}
-use Rattle.uni_small.specs.Execution.Execution.{Ends, Step}
 use Rattle.uni_small.specs.Resting.{AreAlikeBut, LeavesNoTrace, Rests}
 use Rattle.uni_small.proofs.Running.{IsStepTo}
 
@@ -10,7 +10,7 @@ module _ (object : Sequential (List ℕ) (List ℕ) (List ℕ)) (sizes : Sizes) 
   goes_alike : {m m' : Moment} → m'.words ≡ m.words → ((q : ℕ) → q ≢ p → m'.local q ≡ m.local q) → (e : Execution object sizes m) → Rests object sizes p e
       → (e' : Execution object sizes m') × AreAlikeBut object sizes p e e'
   goes_alike words others Ends rests = (Ends, record { acts = refl; words = words; others = others; rests = tt; own = refl })
-  goes_alike {m = m} {m' = m'} words others (Step q inside next rest) rests =
+  goes_alike {m = m} {m' = m'} words others (Takes q inside next rest) rests =
       let a : Access = access_of object sizes q (m.local q) next in
       let found : ℕ = slice_index m.words a.word in
       let here : IsStepTo object sizes q m.words a.word (a.becomes found) (a.leaves found) (a.acts found) (m'.local q)
@@ -23,7 +23,7 @@ module _ (object : Sequential (List ℕ) (List ℕ) (List ℕ)) (sizes : Sizes) 
       = (λ k. slice_set (words k) (here.1 k) (becomes k)) in
       let further = goes_alike {m = after_access object sizes m q a} {m' = after_access object sizes m' q a'} words'
       (λ r apart. (λ k. if r == q then leaves k else others r apart k)) rest rests.1 in (
-        Step q inside here.0 further.0,
+        Takes q inside here.0 further.0,
         record {
           acts = (λ k. (ap a'.acts same ∙ here.4) k ++ further.1.acts k);
           words = further.1.words;

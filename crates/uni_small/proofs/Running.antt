@@ -1,20 +1,9 @@
 -- An execution goes on by one step.
-use Rattle.uni_small.proofs.Vocabulary.{Act, Board, List, Local, Sequential, Sizes, ap, append-nil, append_assoc, if◌then◌else◌, refl, set_at, slice_index, slice_set, subst, sym, ℕ, ◌++◌, ◌<◌, ◌==◌, ◌∙◌, ◌≡◌}
-use Rattle.uni_small.specs.Execution.{Access, Execution, Moment, Next, access_of, acts_at, after_access, goes_on, history, last_moment}
-use Rattle.uni_small.specs.Execution.Execution.{Ends, Step}
+use Rattle.uni_small.proofs.Vocabulary.{Act, Board, List, Local, Sequential, Sizes, ap, append-nil, if◌then◌else◌, set_at, slice_index, slice_set, subst, sym, ℕ, ◌++◌, ◌<◌, ◌==◌, ◌∙◌, ◌≡◌}
+use Rattle.uni_model.proofs.Executions.{history-goes_on, last-goes_on}
+use Rattle.uni_model.specs.Executions.Execution.{Ends, Takes}
+use Rattle.uni_small.specs.Execution.{Access, CanTake, Execution, Moment, Next, access_of, acts_of, after, after_access, goes_on, last_moment}
 use Rattle.uni_small.specs.Ran.{GoesOn}
-
-pub history-goes_on : (object : Sequential (List ℕ) (List ℕ) (List ℕ)) (sizes : Sizes) {m : Moment} (e : Execution object sizes m) (more : Execution object sizes (last_moment object sizes e))
-    → history object sizes (goes_on object sizes e more) ≡ history object sizes e ++ history object sizes more
-history-goes_on object sizes Ends more = refl
-history-goes_on object sizes (Step {m = m} p inside next rest) more =
-    let made = acts_at object sizes m (access_of object sizes p (m.local p) next) in
-    ap (λ l. made ++ l) (history-goes_on object sizes rest more) ∙ sym (append_assoc made (history object sizes rest) (history object sizes more))
-
-last-goes_on : (object : Sequential (List ℕ) (List ℕ) (List ℕ)) (sizes : Sizes) {m : Moment} (e : Execution object sizes m) (more : Execution object sizes (last_moment object sizes e))
-    → last_moment object sizes (goes_on object sizes e more) ≡ last_moment object sizes more
-last-goes_on object sizes Ends more = refl
-last-goes_on object sizes (Step p inside next rest) more = last-goes_on object sizes rest more
 
 -- a step of process p at this place, by what it does where it finds the number there
 abbrev pub IsStepTo : (object : Sequential (List ℕ) (List ℕ) (List ℕ)) (sizes : Sizes) (p : ℕ) (words : List ℕ) (j x : ℕ) (l' : Local) (acts : List (Act (List ℕ) (List ℕ))) → Local → Type 0
@@ -29,9 +18,9 @@ runs_on object sizes g g' local words p inside l at j x l' acts steps appended =
     let m : Moment = last_moment object sizes e in
     let here : IsStepTo object sizes p words j x l' acts (m.local p) = subst (λ k. IsStepTo object sizes p words j x l' acts k) (sym (leads.locals_are p inside ∙ at)) steps in
     let a : Access = access_of object sizes p (m.local p) here.0 in
-    let one : Execution object sizes m = Step p inside here.0 Ends in
+    let one : Execution object sizes m = Takes p inside here.0 Ends in
     let found : slice_index m.words a.word ≡ slice_index words j = (λ k. slice_index (leads.words_are k) (here.1 k)) in
-    let last : last_moment object sizes (goes_on object sizes e one) ≡ after_access object sizes m p a = last-goes_on object sizes e one in
+    let last : last_moment object sizes (goes_on object sizes e one) ≡ after_access object sizes m p a = last-goes_on sizes.processes (CanTake object sizes) (after object sizes) e one in
     let leaves : a.leaves (slice_index m.words a.word) ≡ l' = ap a.leaves found ∙ here.3 in (
       inside,
       (
@@ -39,7 +28,7 @@ runs_on object sizes g g' local words p inside l at j x l' acts steps appended =
         record {
           words_are = ap (λ (z : Moment). z.words) last ∙ (λ k. slice_set (leads.words_are k) (here.1 k) (a.becomes (found k))) ∙ ap (slice_set words j) here.2;
           locals_are = λ q within. ap (λ (z : Moment). z.local q) last ∙ (λ k. if q == p then leaves k else leads.locals_are q within k);
-          acts_are = history-goes_on object sizes e one
+          acts_are = history-goes_on sizes.processes (CanTake object sizes) (after object sizes) (acts_of object sizes) e one
               ∙ (λ k. leads.acts_are k ++ append-nil (a.acts (slice_index m.words a.word)) k) ∙ ap (λ l. g.acts ++ l) (ap a.acts found ∙ here.4) ∙ sym appended;
         },
       ),

@@ -2,10 +2,10 @@
 -- processes whose calls overlap.
 use Rattle.uni_small.proofs.Vocabulary.{AreWhole, List, Option, ap, drop, take, sym, ◌∙◌, None, most_calls, inl, inr, Invoke, Linearize, Respond, Sizes, Some, [], arith, refl, suc, zero, ℕ, ◌<◌, ◌∷◌, ◌≡◌, read_image, slice_index, held_place}
 use Rattle.std.proofs.lemmas.List.{get_or-drop, get_or-take}
+use Rattle.uni_model.specs.Executions.Execution.{Ends, Takes}
 use Rattle.uni_small.specs.Image.{counter_sizes, sample_counter}
 use Rattle.uni_small.specs.Execution.{Execution, goes_on, history, last_moment, opened_moment}
 use Rattle.uni_small.specs.Execution.Next.{Store, Announce, Begin, Start, Copy, Look, Ask, Check, CheckOwn, Write, Bring, BringOwn, Recount, Reply, Restart}
-use Rattle.uni_small.specs.Execution.Execution.{Ends, Step}
 use Rattle.uni_small.specs.Progress.{steps_of_call}
 use Rattle.uni_small.proofs.Progressing.{whole_none, whole_push}
 
@@ -42,18 +42,18 @@ before_sum (suc (suc i)) below = absurd (omega arith)
 -- up to the exchange by which it takes effect, where a process may stop for good
 abbrev stopped_call : Execution sample_counter sizes (opened_moment sample_counter sizes)
 stopped_call =
-    Step 0 one (Store [] 5 refl one room) (
-    Step 0 one (Announce (5 ∷ []) refl refl (omega arith)) (
-    Step 0 one (Start 0 refl (omega arith)) (
-    Step 0 one (Look 0 0 (0 ∷ 0 ∷ 0 ∷ []) [] refl refl (whole_none sizes) one) (
-    Step 0 one (Ask 0 0 (0 ∷ 0 ∷ 0 ∷ []) [] [] refl one one) (
-    Step 0 one (Check 0 0 (0 ∷ 0 ∷ 0 ∷ []) (Some (5 ∷ []) ∷ []) refl refl whole refl refl) (
-    Step 0 one (Write 0 0 (read_image sizes (0 ∷ 0 ∷ 0 ∷ [])) (Some (5 ∷ []) ∷ []) (Some (5 ∷ []) ∷ []) 0 0 refl (inl (refl, refl), omega arith, λ i below. absurd (omega arith)) none_below) (
-    Step 0 one (Write 0 0 (read_image sizes (0 ∷ 0 ∷ 0 ∷ [])) (Some (5 ∷ []) ∷ []) (Some (5 ∷ []) ∷ []) 1 2 refl (inl (refl, refl), omega arith, before_sum) two_below) (
-    Step 0 one (Bring 0 0 (read_image sizes (0 ∷ 0 ∷ 0 ∷ [])) (Some (5 ∷ []) ∷ []) 3 refl written refl) Ends))))))))
+    Takes 0 one (Store [] 5 refl one room) (
+    Takes 0 one (Announce (5 ∷ []) refl refl (omega arith)) (
+    Takes 0 one (Start 0 refl (omega arith)) (
+    Takes 0 one (Look 0 0 (0 ∷ 0 ∷ 0 ∷ []) [] refl refl (whole_none sizes) one) (
+    Takes 0 one (Ask 0 0 (0 ∷ 0 ∷ 0 ∷ []) [] [] refl one one) (
+    Takes 0 one (Check 0 0 (0 ∷ 0 ∷ 0 ∷ []) (Some (5 ∷ []) ∷ []) refl refl whole refl refl) (
+    Takes 0 one (Write 0 0 (read_image sizes (0 ∷ 0 ∷ 0 ∷ [])) (Some (5 ∷ []) ∷ []) (Some (5 ∷ []) ∷ []) 0 0 refl (inl (refl, refl), omega arith, λ i below. absurd (omega arith)) none_below) (
+    Takes 0 one (Write 0 0 (read_image sizes (0 ∷ 0 ∷ 0 ∷ [])) (Some (5 ∷ []) ∷ []) (Some (5 ∷ []) ∷ []) 1 2 refl (inl (refl, refl), omega arith, before_sum) two_below) (
+    Takes 0 one (Bring 0 0 (read_image sizes (0 ∷ 0 ∷ 0 ∷ [])) (Some (5 ∷ []) ∷ []) 3 refl written refl) Ends))))))))
 
 one_call : Execution sample_counter sizes (opened_moment sample_counter sizes)
-one_call = goes_on sample_counter sizes stopped_call (Step 0 one (Reply 129 [] refl refl) Ends)
+one_call = goes_on sample_counter sizes stopped_call (Takes 0 one (Reply 129 [] refl refl) Ends)
 
 sample_history : history sample_counter sizes one_call
     ≡ Invoke 0 0 (5 ∷ []) ∷ Linearize (record { process = 0; nth = 0; inv = 5 ∷ [] }) ∷ Respond 0 0 (0 ∷ []) ∷ []
@@ -76,12 +76,12 @@ none_whole = whole_push sizes [] None (whole_none sizes) (λ inv e. absurd (cc))
 -- Its seat is taken over: the announcement tells one call, so it begins again, finds that it is in, and is answered the same.
 taken_over : Execution sample_counter sizes (opened_moment sample_counter sizes)
 taken_over = goes_on sample_counter sizes stopped_call (
-    Step 0 one Recount (
-    Step 0 one Restart (
-    Step 0 one (Start 0 refl (omega arith)) (
-    Step 0 one (Look 0 129 (1 ∷ 0 ∷ 5 ∷ []) [] refl refl (whole_none sizes) one) (
-    Step 0 one (Check 0 129 (1 ∷ 0 ∷ 5 ∷ []) (None ∷ []) refl refl none_whole refl refl) (
-    Step 0 one (Reply 129 [] refl refl) Ends))))))
+    Takes 0 one Recount (
+    Takes 0 one Restart (
+    Takes 0 one (Start 0 refl (omega arith)) (
+    Takes 0 one (Look 0 129 (1 ∷ 0 ∷ 5 ∷ []) [] refl refl (whole_none sizes) one) (
+    Takes 0 one (Check 0 129 (1 ∷ 0 ∷ 5 ∷ []) (None ∷ []) refl refl none_whole refl refl) (
+    Takes 0 one (Reply 129 [] refl refl) Ends))))))
 
 taken_over_history : history sample_counter sizes taken_over
     ≡ Invoke 0 0 (5 ∷ []) ∷ Linearize (record { process = 0; nth = 0; inv = 5 ∷ [] }) ∷ Respond 0 0 (0 ∷ []) ∷ []
@@ -91,13 +91,13 @@ taken_over_history = refl
 -- a call that is attempted directly
 direct_call : Execution sample_counter sizes (opened_moment sample_counter sizes)
 direct_call =
-    Step 0 one (Begin refl refl room) (
-    Step 0 one (Look 0 0 (0 ∷ 0 ∷ 0 ∷ []) [] refl refl (whole_none sizes) one) (
-    Step 0 one (CheckOwn 0 (0 ∷ 0 ∷ 0 ∷ []) (None ∷ []) refl refl none_whole refl refl) (
-    Step 0 one (Write 0 0 (read_image sizes (0 ∷ 0 ∷ 0 ∷ [])) (None ∷ []) (Some (5 ∷ []) ∷ []) 0 0 refl (inr (refl, 5 ∷ [], refl, refl), omega arith, λ i below. absurd (omega arith)) none_below) (
-    Step 0 one (Write 0 0 (read_image sizes (0 ∷ 0 ∷ 0 ∷ [])) (None ∷ []) (Some (5 ∷ []) ∷ []) 1 2 refl (inr (refl, 5 ∷ [], refl, refl), omega arith, before_sum) two_below) (
-    Step 0 one (BringOwn 0 (read_image sizes (0 ∷ 0 ∷ 0 ∷ [])) (None ∷ []) 3 (5 ∷ []) refl written refl refl room) (
-    Step 0 one (Reply 129 [] refl refl) Ends))))))
+    Takes 0 one (Begin refl refl room) (
+    Takes 0 one (Look 0 0 (0 ∷ 0 ∷ 0 ∷ []) [] refl refl (whole_none sizes) one) (
+    Takes 0 one (CheckOwn 0 (0 ∷ 0 ∷ 0 ∷ []) (None ∷ []) refl refl none_whole refl refl) (
+    Takes 0 one (Write 0 0 (read_image sizes (0 ∷ 0 ∷ 0 ∷ [])) (None ∷ []) (Some (5 ∷ []) ∷ []) 0 0 refl (inr (refl, 5 ∷ [], refl, refl), omega arith, λ i below. absurd (omega arith)) none_below) (
+    Takes 0 one (Write 0 0 (read_image sizes (0 ∷ 0 ∷ 0 ∷ [])) (None ∷ []) (Some (5 ∷ []) ∷ []) 1 2 refl (inr (refl, 5 ∷ [], refl, refl), omega arith, before_sum) two_below) (
+    Takes 0 one (BringOwn 0 (read_image sizes (0 ∷ 0 ∷ 0 ∷ [])) (None ∷ []) 3 (5 ∷ []) refl written refl refl room) (
+    Takes 0 one (Reply 129 [] refl refl) Ends))))))
 
 direct_history : history sample_counter sizes direct_call
     ≡ Invoke 0 0 (5 ∷ []) ∷ Linearize (record { process = 0; nth = 0; inv = 5 ∷ [] }) ∷ Respond 0 0 (0 ∷ []) ∷ []
@@ -143,29 +143,29 @@ agree held k same i below =
 
 two_calls : Execution sample_counter pair (opened_moment sample_counter pair)
 two_calls =
-    Step 1 (omega arith) (Store [] 3 refl (omega arith) room) (
-    Step 1 (omega arith) (Announce (3 ∷ []) refl refl room) (
-    Step 0 (omega arith) (Begin refl refl room) (
-    Step 0 (omega arith) (Look 0 0 start [] refl refl (whole_none pair) (omega arith)) (
-    Step 0 (omega arith) (Look 0 0 start (None ∷ []) refl refl none_seen_whole (omega arith)) (
-    Step 0 (omega arith) (Ask 0 0 start (None ∷ []) [] refl (omega arith) (omega arith)) (
-    Step 0 (omega arith) (CheckOwn 0 start seen_one refl refl one_seen_whole refl refl) (
-    Step 0 (omega arith) (Write 0 0 (read_image pair start) seen_one both 0 0 refl (inr (refl, 5 ∷ [], refl, refl), omega arith, agree (0 ∷ 0 ∷ 0 ∷ 0 ∷ 0 ∷ 0 ∷ 0 ∷ 0 ∷ 0 ∷ 0 ∷ []) 0 refl) (omega arith)) (
-    Step 0 (omega arith) (Write 0 0 (read_image pair start) seen_one both 1 1 refl (inr (refl, 5 ∷ [], refl, refl), omega arith, agree (0 ∷ 0 ∷ 0 ∷ 0 ∷ 0 ∷ 1 ∷ 0 ∷ 0 ∷ 0 ∷ 0 ∷ []) 1 refl) (omega arith)) (
-    Step 0 (omega arith) (Write 0 0 (read_image pair start) seen_one both 2 3 refl (inr (refl, 5 ∷ [], refl, refl), omega arith, agree (0 ∷ 0 ∷ 0 ∷ 0 ∷ 0 ∷ 1 ∷ 1 ∷ 0 ∷ 0 ∷ 0 ∷ []) 3 refl) (omega arith)) (
-    Step 0 (omega arith) (Write 0 0 (read_image pair start) seen_one both 4 4 refl (inr (refl, 5 ∷ [], refl, refl), omega arith, agree (0 ∷ 0 ∷ 0 ∷ 0 ∷ 0 ∷ 1 ∷ 1 ∷ 0 ∷ 5 ∷ 0 ∷ []) 4 refl) (omega arith)) (
-    Step 0 (omega arith) (BringOwn 0 (read_image pair start) seen_one 5 (5 ∷ []) refl (agree (0 ∷ 0 ∷ 0 ∷ 0 ∷ 0 ∷ 1 ∷ 1 ∷ 0 ∷ 5 ∷ 8 ∷ []) 5 refl) refl refl room) (
-    Step 0 (omega arith) (Reply 129 [] refl refl) (
-    Step 1 (omega arith) (Start 0 refl (omega arith)) (
-    Step 1 (omega arith) (Copy 0 129 [] refl (omega arith)) (
-    Step 1 (omega arith) (Copy 0 129 (1 ∷ []) refl (omega arith)) (
-    Step 1 (omega arith) (Copy 0 129 (1 ∷ 1 ∷ []) refl (omega arith)) (
-    Step 1 (omega arith) (Copy 0 129 (1 ∷ 1 ∷ 0 ∷ []) refl (omega arith)) (
-    Step 1 (omega arith) (Copy 0 129 (1 ∷ 1 ∷ 0 ∷ 5 ∷ []) refl (omega arith)) (
-    Step 1 (omega arith) (Look 0 129 (1 ∷ 1 ∷ 0 ∷ 5 ∷ 8 ∷ []) [] refl refl (whole_none pair) (omega arith)) (
-    Step 1 (omega arith) (Look 0 129 (1 ∷ 1 ∷ 0 ∷ 5 ∷ 8 ∷ []) (None ∷ []) refl refl none_seen_whole (omega arith)) (
-    Step 1 (omega arith) (Check 0 129 (1 ∷ 1 ∷ 0 ∷ 5 ∷ 8 ∷ []) (None ∷ None ∷ []) refl refl nobody_whole refl refl) (
-    Step 1 (omega arith) (Reply 129 [] refl refl) Ends))))))))))))))))))))))
+    Takes 1 (omega arith) (Store [] 3 refl (omega arith) room) (
+    Takes 1 (omega arith) (Announce (3 ∷ []) refl refl room) (
+    Takes 0 (omega arith) (Begin refl refl room) (
+    Takes 0 (omega arith) (Look 0 0 start [] refl refl (whole_none pair) (omega arith)) (
+    Takes 0 (omega arith) (Look 0 0 start (None ∷ []) refl refl none_seen_whole (omega arith)) (
+    Takes 0 (omega arith) (Ask 0 0 start (None ∷ []) [] refl (omega arith) (omega arith)) (
+    Takes 0 (omega arith) (CheckOwn 0 start seen_one refl refl one_seen_whole refl refl) (
+    Takes 0 (omega arith) (Write 0 0 (read_image pair start) seen_one both 0 0 refl (inr (refl, 5 ∷ [], refl, refl), omega arith, agree (0 ∷ 0 ∷ 0 ∷ 0 ∷ 0 ∷ 0 ∷ 0 ∷ 0 ∷ 0 ∷ 0 ∷ []) 0 refl) (omega arith)) (
+    Takes 0 (omega arith) (Write 0 0 (read_image pair start) seen_one both 1 1 refl (inr (refl, 5 ∷ [], refl, refl), omega arith, agree (0 ∷ 0 ∷ 0 ∷ 0 ∷ 0 ∷ 1 ∷ 0 ∷ 0 ∷ 0 ∷ 0 ∷ []) 1 refl) (omega arith)) (
+    Takes 0 (omega arith) (Write 0 0 (read_image pair start) seen_one both 2 3 refl (inr (refl, 5 ∷ [], refl, refl), omega arith, agree (0 ∷ 0 ∷ 0 ∷ 0 ∷ 0 ∷ 1 ∷ 1 ∷ 0 ∷ 0 ∷ 0 ∷ []) 3 refl) (omega arith)) (
+    Takes 0 (omega arith) (Write 0 0 (read_image pair start) seen_one both 4 4 refl (inr (refl, 5 ∷ [], refl, refl), omega arith, agree (0 ∷ 0 ∷ 0 ∷ 0 ∷ 0 ∷ 1 ∷ 1 ∷ 0 ∷ 5 ∷ 0 ∷ []) 4 refl) (omega arith)) (
+    Takes 0 (omega arith) (BringOwn 0 (read_image pair start) seen_one 5 (5 ∷ []) refl (agree (0 ∷ 0 ∷ 0 ∷ 0 ∷ 0 ∷ 1 ∷ 1 ∷ 0 ∷ 5 ∷ 8 ∷ []) 5 refl) refl refl room) (
+    Takes 0 (omega arith) (Reply 129 [] refl refl) (
+    Takes 1 (omega arith) (Start 0 refl (omega arith)) (
+    Takes 1 (omega arith) (Copy 0 129 [] refl (omega arith)) (
+    Takes 1 (omega arith) (Copy 0 129 (1 ∷ []) refl (omega arith)) (
+    Takes 1 (omega arith) (Copy 0 129 (1 ∷ 1 ∷ []) refl (omega arith)) (
+    Takes 1 (omega arith) (Copy 0 129 (1 ∷ 1 ∷ 0 ∷ []) refl (omega arith)) (
+    Takes 1 (omega arith) (Copy 0 129 (1 ∷ 1 ∷ 0 ∷ 5 ∷ []) refl (omega arith)) (
+    Takes 1 (omega arith) (Look 0 129 (1 ∷ 1 ∷ 0 ∷ 5 ∷ 8 ∷ []) [] refl refl (whole_none pair) (omega arith)) (
+    Takes 1 (omega arith) (Look 0 129 (1 ∷ 1 ∷ 0 ∷ 5 ∷ 8 ∷ []) (None ∷ []) refl refl none_seen_whole (omega arith)) (
+    Takes 1 (omega arith) (Check 0 129 (1 ∷ 1 ∷ 0 ∷ 5 ∷ 8 ∷ []) (None ∷ None ∷ []) refl refl nobody_whole refl refl) (
+    Takes 1 (omega arith) (Reply 129 [] refl refl) Ends))))))))))))))))))))))
 
 -- the call of process 1 was invoked first, and takes effect second: it is answered the 5 of process 0
 two_history : history sample_counter pair two_calls

@@ -1,12 +1,6 @@
 -- A seat of several processes is cut in two.
-use Rattle.uni_small.proofs.Vocabulary.{Board, IsShown, List, Local, Meaning, Seen, ShowsBoard, Sizes, Splits, Tells, View, [], ap, arith, at_set, first_alone, get_elem?, inl, inr, length, length-set, others, refl, set, set_at, set_at_elsewhere, set_at_same, some, some-injective, some-ne-none, subst, suc, sym, zero, ℕ, ◌++◌, ◌<◌, ◌∙◌, ◌∷◌, ◌≡◌, ◌≤◌, ◌⊎◌}
-
--- an element of a list with one more at its end
-at_end : {A : Type 0} (l : List A) (a b : A) (j : ℕ) → get_elem? (l ++ a ∷ []) j ≡ some b → (get_elem? l j ≡ some b) ⊎ ((j ≡ length l) × (a ≡ b))
-at_end [] a b zero e = inr (refl, some-injective a b e)
-at_end [] a b (suc j) e = absurd (some-ne-none b (sym e))
-at_end (x ∷ xs) a b zero e = inl e
-at_end (x ∷ xs) a b (suc j) e = elim (at_end xs a b j e) [ inl h ↦ inl h | inr h ↦ inr (ap suc h.0, h.1) ]
+use Rattle.uni_small.proofs.Vocabulary.{Board, IsShown, Local, Meaning, Seen, ShowsBoard, Sizes, Splits, Tells, View, [], ap, arith, at_set, first_alone, get_elem?, inl, inr, length, length-set, others, set, set_at, set_at_elsewhere, set_at_same, some, subst, sym, ℕ, ◌++◌, ◌<◌, ◌∙◌, ◌∷◌, ◌≡◌, ◌≤◌}
+use Rattle.uni_model.proofs.Each.{at_end}
 
 pub splits : {O : Type 0} (meaning : O → Meaning) (o : O) (sizes : Sizes) (id : ℕ) (v : View O) → 1 ≤ v.known.count
     → Splits {S = Seen} (ShowsBoard meaning o sizes) id v (others v) (first_alone v)

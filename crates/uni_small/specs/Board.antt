@@ -1,9 +1,9 @@
 -- The shared words as plain data, with what is remembered of the run.
 use Rattle.std.specs.Prelude.{◌≡◌, refl, ℕ, ◌+◌, ◌*◌, ◌/◌, ◌%◌, ◌≤◌, List, []}
-use Rattle.std.specs.Prelude.{replicate, slice_index}
+use Rattle.std.specs.Prelude.{length, replicate, slice_index}
 use Rattle.seq_object.specs.Sequential.{Sequential}
 use Rattle.uni_model.specs.AtomicObject.{Atomic, Act, at_start}
-use Rattle.uni_small.specs.Image.{Image, buffer_words, first_image, spell}
+use Rattle.uni_small.specs.Image.{AreWidths, Image, Meaning, buffer_words, first_image, spell}
 use Rattle.uni_small.specs.declared.sizes.Sizes.{Sizes}
 
 -- The word S names a version and the current buffer, which is one of 2n: buffer 2p or 2p + 1 is of process p. Of each process: what
@@ -43,6 +43,10 @@ buffer_in s = s % 128
 abbrev pub AreFew : Sizes → Type 0
 AreFew sizes = (1 ≤ sizes.processes) × (sizes.processes ≤ 64) × (sizes.state ≤ 65536) × (sizes.invocation ≤ 65536)
     × (1 ≤ sizes.reply) × (sizes.reply ≤ 65536)
+
+-- these are sizes of the object
+abbrev pub AreSizesOf : Meaning → Sizes → Type 0
+AreSizesOf meaning sizes = AreFew sizes × AreWidths meaning sizes × (length meaning.object.initial ≡ sizes.state)
 
 -- how many words there are before the buffers, and in all
 abbrev pub words_before : Sizes → ℕ

@@ -1,9 +1,10 @@
--- Executions: processes that take word steps in any order, as plain data.
+-- The machine of a small object: its words, what steps its processes take on them, and its executions, as plain data.
 use Rattle.std.specs.Prelude.{◌≡◌, ℕ, ◌+◌, ◌*◌, ◌<◌, ◌≤◌, ◌==◌, List, [], ◌∷◌, ◌++◌, Option, Some, if◌then◌else◌}
 use Rattle.std.specs.Prelude.{false, true, length, map, replicate, slice_index, slice_set}
 use Rattle.seq_object.specs.Sequential.{Sequential}
 use Rattle.uni_model.specs.AtomicObject.{Act, set_at}
 use Rattle.uni_model.specs.AtomicObject.Act.{Invoke, Linearize, Respond}
+use Rattle.uni_model.specs.Executions as Executions
 use Rattle.uni_small.specs.Image.{AreWhole, Image, buffer_words, calls_seen, first_held, first_image, held_place, joined, reply_place, spell, with_seen}
 use Rattle.uni_small.specs.View.{Local, announces, at_rest, begins_directly, goes, knows, returns, wrote}
 use Rattle.uni_small.specs.View.Stage.{Idle, Ready, Reading, Writing, Last}
@@ -146,26 +147,31 @@ module _ (object : Sequential (List ℕ) (List ℕ) (List ℕ)) (sizes : Sizes) 
   abbrev pub acts_at : Moment → Access → List (Act (List ℕ) (List ℕ))
   acts_at m a = a.acts (slice_index m.words a.word)
 
-  -- An execution from a moment on: again and again some process takes a step that it can take.
-  pub data Execution : Moment → Type 0 where
-    Ends : {m : Moment} → Execution m
-    Step : {m : Moment} (p : ℕ) → p < sizes.processes → (next : Next p (m.local p))
-        → Execution (after_access m p (access_of p (m.local p) next)) → Execution m
+  -- process p can take such a step; the moment after it; and the acts that it makes
+  abbrev pub CanTake : Moment → (p : ℕ) → Type 0
+  CanTake m p = Next p (m.local p)
 
-  -- the acts that its steps make, in the order of the steps
-  abbrev pub history : {m : Moment} → Execution m → List (Act (List ℕ) (List ℕ))
-  history Ends = []
-  history (Step {m = m} p inside next rest) = acts_at m (access_of p (m.local p) next) ++ history rest
+  abbrev pub after : (m : Moment) (p : ℕ) → CanTake m p → Moment
+  after m p next = after_access m p (access_of p (m.local p) next)
 
-  -- the moment at its end
+  abbrev pub acts_of : (m : Moment) (p : ℕ) → CanTake m p → List (Act (List ℕ) (List ℕ))
+  acts_of m p next = acts_at m (access_of p (m.local p) next)
+
+  -- its executions, and what they make
+  abbrev pub Execution : Moment → Type 0
+  Execution m = Executions.Execution sizes.processes CanTake after m
+
   abbrev pub last_moment : {m : Moment} → Execution m → Moment
-  last_moment {m = m} Ends = m
-  last_moment (Step p inside next rest) = last_moment rest
+  last_moment e = Executions.last_moment sizes.processes CanTake after e
 
-  -- one that goes on
   abbrev pub goes_on : {m : Moment} (e : Execution m) → Execution (last_moment e) → Execution m
-  goes_on Ends more = more
-  goes_on (Step p inside next rest) more = Step p inside next (goes_on rest more)
+  goes_on e more = Executions.goes_on sizes.processes CanTake after e more
+
+  abbrev pub history : {m : Moment} → Execution m → List (Act (List ℕ) (List ℕ))
+  history e = Executions.history sizes.processes CanTake after acts_of e
+
+  abbrev pub KeepsOrder : {m : Moment} (e : Execution m) → Execution (last_moment e) → Type 0
+  KeepsOrder e more = Executions.KeepsOrder sizes.processes CanTake after acts_of e more
 
   -- the opening: no process has a call, S is 0, and each buffer has the start state
   abbrev pub opened_moment : Moment

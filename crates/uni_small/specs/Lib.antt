@@ -13,7 +13,6 @@ pub mod Plays
 pub mod Standing
 pub mod Execution
 pub mod Ran
-pub mod Linearized
 pub mod Progress
 pub mod Belongs
 pub mod Final

@@ -1,13 +1,13 @@
 -- What is said of the steps that a call takes in an execution.
-use Rattle.std.specs.Prelude.{◌≡◌, Bool, true, ℕ, ◌+◌, ◌≤◌, ◌<◌, ◌==◌, if◌then◌else◌, List, []}
+use Rattle.std.specs.Prelude.{◌≡◌, Bool, true, ℕ, ◌+◌, ◌≤◌, ◌<◌, if◌then◌else◌, List, []}
 use Rattle.seq_object.specs.Sequential.{Sequential}
+use Rattle.uni_model.specs.Executions as Executions
 use Rattle.uni_small.specs.View.{Local, Stage}
 use Rattle.uni_small.specs.View.Stage.{Idle}
 use Rattle.uni_small.specs.Standing.{call_steps}
-use Rattle.uni_small.specs.Execution.{Execution, Moment, Next, last_moment, opened_moment}
+use Rattle.uni_small.specs.Execution.{CanTake, Execution, Moment, Next, after, last_moment, opened_moment}
 use Rattle.uni_small.specs.Execution.Next.{Store, Announce, Follow, Begin}
 use Rattle.uni_small.specs.Execution.Next.{Recount, Reread, Restart}
-use Rattle.uni_small.specs.Execution.Execution.{Ends, Step}
 use Rattle.uni_small.specs.declared.sizes.Sizes.{Sizes}
 
 -- a process is in the midst of a call: it is in an attempt, directly or not, or a direct one has failed, or it has stored words of the
@@ -32,8 +32,8 @@ module _ (object : Sequential (List ℕ) (List ℕ) (List ℕ)) (sizes : Sizes) 
 
   -- how many word steps process p has taken for its latest call at the end, where it had taken so many before
   abbrev pub steps_of_call : (p taken : ℕ) {m : Moment} → Execution object sizes m → ℕ
-  steps_of_call p taken Ends = taken
-  steps_of_call p taken (Step q inside next rest) = steps_of_call p (if p == q then counted next taken else taken) rest
+  steps_of_call p taken e =
+      Executions.steps_of_call sizes.processes (CanTake object sizes) (after object sizes) (λ m q next. counted next) p taken e
 
   -- no call of an execution from the opening takes more steps than this, counted since it last began again, whatever the other processes do
   abbrev pub KeepsBound : Execution object sizes (opened_moment object sizes) → Type 0

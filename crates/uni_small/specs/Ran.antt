@@ -1,10 +1,10 @@
 -- The execution that a table has seen, and how it goes on.
 use Rattle.std.specs.Prelude.{◌≡◌, ℕ, List, ◌<◌}
 use Rattle.seq_object.specs.Sequential.{Sequential}
+use Rattle.uni_model.specs.Executions.Execution.{Ends, Takes}
 use Rattle.uni_small.specs.View.{Local}
 use Rattle.uni_small.specs.Board.{Board}
 use Rattle.uni_small.specs.Execution.{Execution, Next, goes_on, history, last_moment, opened_moment}
-use Rattle.uni_small.specs.Execution.Execution.{Ends, Step}
 use Rattle.uni_small.specs.declared.sizes.Sizes.{Sizes}
 
 module _ (object : Sequential (List ℕ) (List ℕ) (List ℕ)) (sizes : Sizes) where
@@ -23,4 +23,4 @@ module _ (object : Sequential (List ℕ) (List ℕ) (List ℕ)) (sizes : Sizes) 
   GoesOn p g local words g' local' words' =
       (e : Execution object sizes (opened_moment object sizes)) → LeadsTo e g local words
       → (inside : p < sizes.processes) × ((next : Next object sizes p ((last_moment object sizes e).local p))
-      × LeadsTo (goes_on object sizes e (Step p inside next Ends)) g' local' words')
+      × LeadsTo (goes_on object sizes e (Takes p inside next Ends)) g' local' words')

@@ -1,17 +1,17 @@
 -- What a process that takes no further step leaves behind.
 use Rattle.std.specs.Prelude.{◌≡◌, ◌≢◌, ℕ, ◌+◌, List, length}
 use Rattle.seq_object.specs.Sequential.{Sequential}
+use Rattle.uni_model.specs.Executions.Execution.{Ends, Takes}
 use Rattle.uni_small.specs.View.Stage.{Last}
 use Rattle.uni_small.specs.Execution.{Execution, Moment, access_of, after_access, history, last_moment}
 use Rattle.uni_small.specs.Execution.Next.{Reply}
-use Rattle.uni_small.specs.Execution.Execution.{Ends, Step}
 use Rattle.uni_small.specs.declared.sizes.Sizes.{Sizes}
 
 module _ (object : Sequential (List ℕ) (List ℕ) (List ℕ)) (sizes : Sizes) where
   -- process p takes no step in an execution
   abbrev pub Rests : (p : ℕ) → {m : Moment} → Execution object sizes m → Type 0
   Rests p Ends = Unit {0}
-  Rests p (Step q inside next rest) = (q ≢ p) × Rests p rest
+  Rests p (Takes q inside next rest) = (q ≢ p) × Rests p rest
 
   -- Two executions make the same acts and end with the same words and all processes at the same places, but for process p, which takes no
   -- step in the second one.

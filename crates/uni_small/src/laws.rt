@@ -6,7 +6,7 @@ ghost use Rattle.atomic_table.specs.Table.{State, Me, Step};
 ghost use Rattle.uni_small.specs.Image.{Image, buffer_words, held_place, reply_place};
 ghost use Rattle.uni_small.specs.View.{Local, Returned};
 ghost use Rattle.uni_small.specs.View.Stage.{Idle, Last, Ready, Writing};
-ghost use Rattle.uni_small.specs.Board.{Board, announce_word, argument_word, buffer_word};
+ghost use Rattle.uni_small.specs.Board.{AreSizesOf, Board, announce_word, argument_word, buffer_word};
 ghost use Rattle.uni_small.specs.Board.{buffer_in, current_word, version_in};
 ghost use Rattle.uni_small.specs.Invariant.{most_calls};
 ghost use Rattle.uni_small.specs.Laws.{Moves, begins, ends, nothing, takes_effect, takes_effect_own};
@@ -21,8 +21,8 @@ ghost use Rattle.uni_small.specs.Standing.{IsWritten};
 ghost use Rattle.uni_small.specs.Standing.{IsAnnounced, IsDirect, local_of};
 ghost use mathlib.Core.Option.{some};
 ghost use Rattle.uni_small.specs.declared.seat.Seen.{Seen};
-ghost use Rattle.uni_small.specs.Execution.{Execution, last_moment, opened_moment};
-ghost use Rattle.uni_small.specs.Linearized.{AreSizesOf, IsLinearized, KeepsOrder};
+ghost use Rattle.uni_model.specs.Executions.{IsLinearizedInTime};
+ghost use Rattle.uni_small.specs.Execution.{Execution, KeepsOrder, history, last_moment, opened_moment};
 ghost use Rattle.uni_small.specs.Progress.{KeepsBound, NeverBlocks};
 ghost use Rattle.uni_small.specs.Resting.{LeavesNoTrace};
 ghost use Rattle.uni_small.specs.declared.sizes.Sizes.{Sizes};
@@ -165,7 +165,7 @@ pub fn returned_has_come<O: SmallObject>()
 pub fn every_execution_is_linearizable<O: SmallObject>()
     ensures linearized { (o : O) (sizes : Sizes) → AreSizesOf (O.meaning o) sizes
         → (e : Execution (O.meaning o).object sizes (opened_moment (O.meaning o).object sizes))
-        → IsLinearized (O.meaning o).object sizes e }
+        → IsLinearizedInTime (O.meaning o).object (history (O.meaning o).object sizes e) }
     ensures strongly { (o : O) (sizes : Sizes)
         → (e : Execution (O.meaning o).object sizes (opened_moment (O.meaning o).object sizes))
         (more : Execution (O.meaning o).object sizes (last_moment (O.meaning o).object sizes e))

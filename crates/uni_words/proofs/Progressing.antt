@@ -13,7 +13,7 @@ use Rattle.uni_words.proofs.Happens.{own_local, set_there}
 use Rattle.uni_words.proofs.Looks.{underway}
 use Rattle.uni_words.proofs.Moving.{goes_further}
 use Rattle.uni_words.proofs.Opening.{only_seat}
-use Rattle.uni_words.proofs.Splitting.{at_end}
+use Rattle.uni_model.proofs.Each.{at_end}
 
 -- how many turns of a call have settled a state, where it stands at this stage
 abbrev done : Stage → (turns : ℕ) → ℕ

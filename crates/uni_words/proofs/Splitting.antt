@@ -1,15 +1,9 @@
 -- A seat of several processes is cut in two.
-use Rattle.uni_words.proofs.Vocabulary.{Contains, Event, HasSeen, IsAmong, IsLocal, IsShown, Leads, LeadsTo, List, ProcessCalls, Sequential, ShowsRun, Splits, State, Tells, View, WorldOf, [], acts_by, acts_in_view, after_split, ap, arith, at_set, first_alone, get_elem?, inl, inr, length, length-set, others, refl, run_history, sequential_acts, set, set_at, set_at_elsewhere, set_at_same, some, some-injective, some-ne-none, subst, suc, sym, zero, ℕ, ◌++◌, ◌<◌, ◌∙◌, ◌∷◌, ◌≡◌, ◌≢◌, ◌≤◌, ◌⊎◌}
+use Rattle.uni_words.proofs.Vocabulary.{Contains, Event, HasSeen, IsAmong, IsLocal, IsShown, Leads, LeadsTo, List, ProcessCalls, Sequential, ShowsRun, Splits, State, Tells, View, WorldOf, [], acts_by, acts_in_view, after_split, ap, arith, at_set, first_alone, get_elem?, inl, inr, length, length-set, others, refl, run_history, sequential_acts, set, set_at, set_at_elsewhere, set_at_same, some, some-ne-none, subst, suc, sym, zero, ℕ, ◌++◌, ◌<◌, ◌∙◌, ◌∷◌, ◌≡◌, ◌≢◌, ◌≤◌}
+use Rattle.uni_model.proofs.Each.{at_end}
 use Rattle.uni_words.proofs.Happens.{taken_apart}
 use Rattle.uni_words.proofs.Running.{led, no_more}
 use Rattle.uni_words.proofs.Views.{Holds-kept, Holds-push}
-
--- an element of a list with one more at its end
-pub at_end : {A : Type 0} (l : List A) (a b : A) (j : ℕ) → get_elem? (l ++ a ∷ []) j ≡ some b → (get_elem? l j ≡ some b) ⊎ ((j ≡ length l) × (a ≡ b))
-at_end [] a b zero e = inr (refl, some-injective a b e)
-at_end [] a b (suc j) e = absurd (some-ne-none b (sym e))
-at_end (x ∷ xs) a b zero e = inl e
-at_end (x ∷ xs) a b (suc j) e = elim (at_end xs a b j e) [ inl h ↦ inl h | inr h ↦ inr (ap suc h.0, h.1) ]
 
 at_below : {A : Type 0} (l : List A) (j : ℕ) (b : A) → get_elem? l j ≡ some b → j < length l
 at_below [] j b e = absurd (some-ne-none b (sym e))
