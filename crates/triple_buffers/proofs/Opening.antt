@@ -1,16 +1,10 @@
 -- How the table starts, and how the first party is cut off.
-use Rattle.triple_buffers.proofs.Vocabulary.{AllowsSplit, Back, Contents, Ends, Fits, Front, IsSmall, Layout, List, None, Option, ShowsContents, Side, Sight, Tells, [], ap, arith, at_map, at_set, client_of, first_alone, first_ends, first_sight, get_elem?, inl, inr, length, length-replicate, length-set, map, map-set, opening, others, refl, replicate, set, set_at, set_at_elsewhere, set_at_same, slice_index, slot_at, some, some-injective, some-ne-none, subst, suc, sym, zero, ℕ, ◌*◌, ◌++◌, ◌+◌, ◌<◌, ◌∙◌, ◌∷◌, ◌≡◌, ◌≤◌, ◌⊎◌}
+use Rattle.triple_buffers.proofs.Vocabulary.{AllowsSplit, Back, Contents, Ends, Fits, Front, IsSmall, Layout, List, None, Option, ShowsContents, Side, Sight, Tells, [], ap, arith, at_map, at_set, client_of, first_alone, first_ends, first_sight, get_elem?, inl, inr, length, length-replicate, length-set, map, map-set, opening, others, refl, replicate, set, set_at, set_at_elsewhere, set_at_same, slice_index, slot_at, some, some-injective, some-ne-none, subst, suc, sym, zero, ℕ, ◌*◌, ◌++◌, ◌+◌, ◌<◌, ◌∙◌, ◌∷◌, ◌≡◌, ◌≤◌}
 use Rattle.atomic_table.specs.Table.{Splits, opening as starting}
 use Rattle.std.proofs.lemmas.List.{map-append}
+use Rattle.uni_model.proofs.Each.{at_end}
 use Rattle.triple_buffers.proofs.Places.{place_inside}
 use Rattle.triple_buffers.proofs.Settling.{none_is_none}
-
--- an element of a list with one more at its end
-at_end : {A : Type 0} (l : List A) (a b : A) (j : ℕ) → get_elem? (l ++ a ∷ []) j ≡ some b → (get_elem? l j ≡ some b) ⊎ ((j ≡ length l) × (a ≡ b))
-at_end [] a b zero e = inr (refl, some-injective a b e)
-at_end [] a b (suc j) e = absurd (some-ne-none b (sym e))
-at_end (x ∷ xs) a b zero e = inl e
-at_end (x ∷ xs) a b (suc j) e = elim (at_end xs a b j e) [ inl h ↦ inl h | inr h ↦ inr (ap suc h.0, h.1) ]
 
 copies : (n i a : ℕ) → i < n → slice_index (replicate n a) i ≡ a
 copies zero i a inside = absurd (omega arith)
