@@ -1,10 +1,8 @@
 pub mod Vocabulary
 pub mod Behind
 pub mod Books
-pub mod Left
 pub mod Pairs
 pub mod Reached
-pub mod Replaying
 pub mod Rows
 pub mod Scripts
 pub mod Short

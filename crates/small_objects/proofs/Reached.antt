@@ -38,3 +38,12 @@ module _ {I R : Type 0} (object : Sequential (List ℕ) I R) (call_in : List ℕ
 
   pub reached_in : (words : List ℕ) → IsReached (in_words object call_in spell) words → IsStateOf object call_in words
   reached_in words was = (was.0, sym (after_in object.initial was.0) ∙ was.1)
+
+-- a state that calls lead to: the start state, and one that a further call leads to
+pub reached_start : (object : Sequential (List ℕ) (List ℕ) (List ℕ)) (state : List ℕ) → state ≡ object.initial → IsReached object state
+reached_start object state is = ([], sym is)
+
+pub reached_further : (object : Sequential (List ℕ) (List ℕ) (List ℕ)) (state after inv : List ℕ) → IsReached object state → after ≡ object.next state inv
+    → IsReached object after
+reached_further object state after inv was is =
+    (was.0 ++ inv ∷ [], state_after-append object object.initial was.0 (inv ∷ []) ∙ ap (λ s. object.next s inv) was.1 ∙ sym is)

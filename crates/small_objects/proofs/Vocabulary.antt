@@ -12,10 +12,8 @@ pub use Rattle.small_objects.specs.Book.{call_in, length-book_next}
 pub use Rattle.small_objects.specs.Encoding.{Fits, IsStateOf, encoded, first_word, in_words, kept_by_calls, one_word}
 pub use Rattle.small_objects.specs.Padded.{length-padded, padded, row_of, values_in}
 pub use Rattle.small_objects.specs.Queue.{bounded_queue, queue, queue_answer, queue_next}
-pub use Rattle.small_objects.specs.Replay.{AreAnswered, ArePlaced, IsBegun, IsFirstDifference, IsReplayed, Made, NoneTellsPlace, asked_in, calls_by, next_of}
 pub use Rattle.small_objects.specs.Stack.{bounded_stack, stack, stack_answer, stack_next}
 pub use Rattle.small_objects.specs.declared.map.MapReply.TheVariants.{Absent, Full, Value}
-pub use Rattle.small_objects.specs.declared.placed.InPlace.{InPlace}
 pub use Rattle.uni_model.proofs.Appended.{slice_get-append_cases, state_after-append}
 pub use Rattle.uni_model.proofs.Written.{lt_cases, number_cases}
 pub use Rattle.uni_small.proofs.Lists.{same_list, sum_most}

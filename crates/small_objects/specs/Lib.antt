@@ -8,7 +8,6 @@ pub mod Padded
 pub mod Placed
 pub mod Queue
 pub mod Register
-pub mod Replay
 pub mod Rooms
 pub mod ScriptQueue
 pub mod Stack

@@ -4,13 +4,6 @@ ghost use Rattle.small_objects.specs.Placed.{placed, placed_steady};
 
 use uni_small::{SmallObject, Touched};
 
-/// A reply, with the place of its call in the order of all calls, from 0.
-#[derive(Debug, Clone, Copy, PartialEq, Eq, Drop)]
-pub struct InPlace<R> {
-    pub place: u64,
-    pub reply: R,
-}
-
 /// An object of several words that counts its calls, in a word before those of the object. A reply's first word is
 /// the call's place in the order of all calls, from 0, and behind it is the object's reply.
 #[derive(Drop)]

@@ -5,12 +5,11 @@ ghost use Rattle.uni_small.specs.Belongs.{IsSeatOf, invocation_width_of, reply_w
 
 use crate::small::{last_two, opened};
 use seq_object::CallId;
-use small_objects::{
-    InPlace, MapCall, MapReply, Placed, ReplayFault, SmallCounter, SmallMap, Words, replay,
-};
+use small_objects::{MapCall, MapReply, Placed, SmallCounter, SmallMap, Words, replay};
 use std::alloc::Global;
 use std::process::Abort;
 use std::thread::{Threads, join};
+use told_order::{InPlace, ReplayFault};
 use uni_small::{SmallSeat, SmallShared};
 
 /// A call of a counter, with what it was told.

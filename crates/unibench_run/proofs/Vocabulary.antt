@@ -14,8 +14,8 @@ pub use Rattle.command_line.proofs.Digits.{value_in-range, value_of-text}
 pub use Rattle.command_line.specs.Numbers.{in_range, number_in, value_of}
 pub use Rattle.seq_object.specs.Sequential.{Sequential}
 pub use Rattle.small_objects.specs.Placed.{placed}
-pub use Rattle.small_objects.specs.Replay.{IsReplayed}
-pub use Rattle.small_objects.specs.declared.placed.InPlace.{InPlace}
+pub use Rattle.told_order.specs.Replay.{IsReplayed}
+pub use Rattle.told_order.specs.declared.in_place.InPlace.{InPlace}
 pub use Rattle.uni_record.specs.Recorded.{IsHistory, IsPromised, Recording}
 pub use Rattle.uni_script.specs.Ends.{AppendsPrefix}
 pub use Rattle.uni_script.specs.Grammar.{object_of_word}

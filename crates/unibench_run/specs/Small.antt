@@ -14,10 +14,10 @@ use Rattle.small_objects.specs.ScriptQueue as queue
 use Rattle.small_objects.specs.Stack.{stack}
 use Rattle.small_objects.specs.Sticky as small_sticky
 use Rattle.small_objects.specs.Placed.{placed}
-use Rattle.small_objects.specs.Replay.{IsReplayed}
-use Rattle.small_objects.specs.declared.order.ReplayFault.{ReplayFault}
-use Rattle.small_objects.specs.declared.order.ReplayFault.TheVariants as replay
-use Rattle.small_objects.specs.declared.placed.InPlace.{InPlace}
+use Rattle.told_order.specs.Replay.{IsReplayed}
+use Rattle.told_order.specs.declared.order.ReplayFault.{ReplayFault}
+use Rattle.told_order.specs.declared.order.ReplayFault.TheVariants as replay
+use Rattle.told_order.specs.declared.in_place.InPlace.{InPlace}
 use Rattle.uni_small.specs.Belongs.{IsSeatOf, calls_made, calls_of, invocation_width_of, own_calls, process_of, processes_of}
 use Rattle.uni_small.specs.Belongs.{reply_width_of}
 use Rattle.uni_small.specs.Final.{IsFinal}

@@ -5,7 +5,7 @@ ghost use Rattle.std.specs.Prelude.{ℕ, List, [], All, IfOk, IsErrOf, OnOk};
 ghost use Rattle.std.specs.Prelude.{drop, flat_map, length, map, suc, true, vec_len};
 ghost use Rattle.std.specs.List.{sum_by};
 ghost use Rattle.small_objects.specs.Placed.{placed};
-ghost use Rattle.small_objects.specs.Replay.{IsReplayed};
+ghost use Rattle.told_order.specs.Replay.{IsReplayed};
 ghost use Rattle.uni_small.specs.Belongs.{IsSeatOf, calls_made, invocation_width_of, known_calls, object_of, own_calls};
 ghost use Rattle.uni_small.specs.Belongs.{process_of, processes_of, reply_width_of, width_of};
 ghost use Rattle.uni_small.specs.Final.{IsFinal};
@@ -24,12 +24,13 @@ use rand_core::SeedableRng;
 use rand_xoshiro::Xoshiro256PlusPlus;
 use ready_objects::StickyObject;
 use small_objects::{
-    Encoded, InPlace, Placed, ReplayFault, SmallBook, SmallCounter, SmallCounters, SmallMap,
-    SmallRegister, SmallScriptQueue, SmallStack, Words, replay,
+    Encoded, Placed, SmallBook, SmallCounter, SmallCounters, SmallMap, SmallRegister,
+    SmallScriptQueue, SmallStack, Words, replay,
 };
 use std::alloc::{AllocError, Global};
 use std::thread;
 use std::thread::Threads;
+use told_order::{InPlace, ReplayFault};
 use uni_record::Verdict;
 use uni_script::Drawn;
 use uni_small::{SmallOpenFault, SmallSeat, SmallShared};

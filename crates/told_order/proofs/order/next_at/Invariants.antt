@@ -1,5 +1,5 @@
-use Rattle.small_objects.proofs.Vocabulary.{InPlace, Some, map, next_of, ℕ, ◌<◌, ◌≡◌, ◌≢◌}
-use Rattle.small_objects.proofs.order.next_at.Given as goal
+use Rattle.told_order.proofs.Vocabulary.{InPlace, Some, map, next_of, ℕ, ◌<◌, ◌≡◌, ◌≢◌}
+use Rattle.told_order.proofs.order.next_at.Given as goal
 
 -- the next calls of the processes before this one were told other places
 abbrev pub invariant-loop-p : goal.invariant-loop-p

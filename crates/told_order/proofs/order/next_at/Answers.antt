@@ -1,6 +1,6 @@
-use Rattle.small_objects.proofs.Vocabulary.{arith, length-map, map}
-use Rattle.small_objects.proofs.Left.{next_below}
-use Rattle.small_objects.proofs.order.next_at.Goals as goal
+use Rattle.told_order.proofs.Vocabulary.{arith, length-map, map}
+use Rattle.told_order.proofs.Left.{next_below}
+use Rattle.told_order.proofs.order.next_at.Goals as goal
 
 pub returns-clause-none : goal.returns-clause-none
 returns-clause-none g c none p call is =

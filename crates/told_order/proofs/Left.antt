@@ -1,5 +1,5 @@
 -- How many calls of each list were made, and of all.
-use Rattle.small_objects.proofs.Vocabulary.{Global, List, None, Option, Some, Vec, [], ap, arith, length, map, next_of, option_and_then, refl, slice_get, slice_index, subst, suc, sum, sum_by, sum_by-cons, sym, vec_len, zero, ℕ, ◌+◌, ◌<◌, ◌∙◌, ◌∷◌, ◌≡◌, ◌≤◌}
+use Rattle.told_order.proofs.Vocabulary.{Global, List, None, Option, Some, Vec, [], ap, arith, length, map, next_of, option_and_then, refl, slice_get, slice_index, subst, suc, sum, sum_by, sum_by-cons, sym, vec_len, zero, ℕ, ◌+◌, ◌<◌, ◌∙◌, ◌∷◌, ◌≡◌, ◌≤◌}
 
 get_below : {A : Type 0} (xs : List A) (i : ℕ) (x : A) → slice_get xs i ≡ Some x → i < length xs
 get_below [] i x e = absurd (let f : None ≡ Some x = e in cc)

@@ -1,5 +1,5 @@
-use Rattle.small_objects.proofs.Vocabulary.{None, map, next_of, ℕ, ◌<◌, ◌≡◌}
-use Rattle.small_objects.proofs.order.first_left.Given as goal
+use Rattle.told_order.proofs.Vocabulary.{None, map, next_of, ℕ, ◌<◌, ◌≡◌}
+use Rattle.told_order.proofs.order.first_left.Given as goal
 
 -- the processes before this one have no call left
 abbrev pub invariant-loop-p : goal.invariant-loop-p

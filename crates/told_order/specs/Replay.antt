@@ -1,10 +1,13 @@
 -- What calls are compared with: an order of all of them, in which an object that makes them one after another answers as they were answered.
 use Rattle.std.specs.Prelude.{◌≡◌, ◌≢◌, ◌⊎◌, ◌==◌, ◌<◌, ℕ, List, [], ◌∷◌, Option, Some, None, if◌then◌else◌, option_and_then, map, length, take, slice_get, slice_index, refl}
-use Rattle.seq_object.specs.Sequential.{Sequential}
+use Rattle.seq_object.specs.Sequential.{Sequential, counter}
 use Rattle.seq_object.specs.History.{state_after}
 use Rattle.seq_object.specs.declared.call_id.CallId.{CallId}
-use Rattle.uni_small.specs.Image.{sample_counter}
-use Rattle.small_objects.specs.declared.placed.InPlace.{InPlace}
+use Rattle.told_order.specs.declared.in_place.InPlace.{InPlace}
+
+-- an invocation is asked for as it is, and a response is told so
+abbrev pub itself : {A : Type 0} → A → A
+itself a = a
 
 -- the next call of a process, where so many of each list were made
 abbrev pub next_of : {A : Type 0} → (lists : List (List A)) (made : List ℕ) (p : ℕ) → Option A
@@ -24,11 +27,12 @@ abbrev pub calls_by : {C R : Type 0} → (p : ℕ) → List (Made C R) → List 
 calls_by p [] = []
 calls_by p (m ∷ order) = if m.process == p then m.call ∷ calls_by p order else calls_by p order
 
--- what the calls asked for, in words
-abbrev pub asked_in : {C R : Type 0} → (asks : C → List ℕ) → List (Made C R) → List (List ℕ)
-asked_in {C} {R} asks order = map (λ (m : Made C R). asks m.call.0) order
+-- the invocations that the calls are
+abbrev pub asked_in : {I C R : Type 0} → (asks : C → I) → List (Made C R) → List I
+asked_in {I} {C} {R} asks order = map (λ (m : Made C R). asks m.call.0) order
 
-module _ {S C R : Type 0} (object : Sequential S (List ℕ) (List ℕ)) (asks : C → List ℕ) (tells : R → List ℕ) where
+-- a call asks for an invocation of the object, and a reply tells one of its responses
+module _ {S I A C R : Type 0} (object : Sequential S I A) (asks : C → I) (tells : R → A) where
   -- each call was told the object's reply, from this state on
   abbrev pub AreAnswered : S → List (Made C R) → Type 0
   AreAnswered state [] = Unit {0}
@@ -68,9 +72,6 @@ module _ {S C R : Type 0} (object : Sequential S (List ℕ) (List ℕ)) (asks : 
       pub differs : (tells own.1.reply ≢ object.answer before (asks own.0)) ⊎ NoneTellsPlace lists made (length order)
 
 -- Two processes on a counter. The second has made its first call, 5; the next call is the first one's, 3, which was told place 1 and the sum 5
-abbrev one_word : ℕ → List ℕ
-one_word word = word ∷ []
-
 abbrev sample_first : ℕ × InPlace ℕ
 sample_first = (3, record { place = 1; reply = 5 })
 
@@ -80,6 +81,6 @@ sample_second = (5, record { place = 0; reply = 0 })
 sample_next : map (next_of ((sample_first ∷ []) ∷ (sample_second ∷ []) ∷ []) (0 ∷ 1 ∷ [])) (0 ∷ 1 ∷ 2 ∷ []) ≡ Some sample_first ∷ None ∷ None ∷ []
 sample_next = refl
 
-sample_answered : AreAnswered sample_counter one_word one_word (0 ∷ [])
+sample_answered : AreAnswered counter itself itself 0
     (record { process = 1; call = sample_second } ∷ record { process = 0; call = sample_first } ∷ [])
 sample_answered = (refl, (refl, tt))

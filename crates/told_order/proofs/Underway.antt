@@ -1,8 +1,8 @@
 -- A replay that has come so far: the first so many calls of each list are made.
-use Rattle.small_objects.proofs.Vocabulary.{AreAnswered, ArePlaced, InPlace, IsBegun, IsFirstDifference, IsReached, IsReplayed, IsSome, List, Made, None, NoneTellsPlace, Option, Sequential, Some, [], ap, append-nil, arith, asked_in, calls_by, get_or-set_other, get_or-set_same, inl, inr, length, length-append, length-replicate, length-set, map-append, next_of, number_cases, refl, replicate, slice_get, slice_get-append_cases, slice_index, slice_set, state_after, state_after-append, subst, suc, sum, sum_by, sum_by-set, sym, take, take_all, zero, ℕ, ◌++◌, ◌+◌, ◌<◌, ◌∙◌, ◌∷◌, ◌≡◌, ◌≢◌, ◌⊎◌}
+use Rattle.told_order.proofs.Vocabulary.{AreAnswered, ArePlaced, InPlace, IsBegun, IsFirstDifference, IsReplayed, IsSome, List, Made, None, NoneTellsPlace, Option, Sequential, Some, [], ap, append-nil, arith, asked_in, calls_by, get_or-set_other, get_or-set_same, inl, inr, length, length-append, length-replicate, length-set, map-append, next_of, number_cases, refl, replicate, slice_get, slice_get-append_cases, slice_index, slice_set, state_after, state_after-append, subst, suc, sum, sum_by, sum_by-set, sym, take, take_all, zero, ℕ, ◌++◌, ◌+◌, ◌<◌, ◌∙◌, ◌∷◌, ◌≡◌, ◌≢◌, ◌⊎◌}
 use Rattle.std.proofs.lemmas.List.Folds.{sum_by-replicate}
 use Rattle.seq_object.specs.declared.call_id.CallId.{CallId}
-use Rattle.small_objects.proofs.Left.{Fits, all_made, next_below, next_in, next_room, some_left}
+use Rattle.told_order.proofs.Left.{Fits, all_made, next_below, next_in, next_room, some_left}
 
 calls_by-append : {C R : Type 0} → (p : ℕ) (xs ys : List (Made C R)) → calls_by p (xs ++ ys) ≡ calls_by p xs ++ calls_by p ys
 calls_by-append p [] ys = refl
@@ -19,7 +19,7 @@ take-suc {A} (y ∷ ys) (suc n) x e = ap (λ l. y ∷ l) (take-suc ys n x e)
 take_further : {A : Type 0} → (xs : List A) (n : ℕ) (x : A) → slice_get xs n ≡ Some x → take (n + 1) xs ≡ take n xs ++ x ∷ []
 take_further xs n x e = let next : n + 1 ≡ suc n = omega arith in ap (λ k. take k xs) next ∙ take-suc xs n x e
 
-module _ {S C R : Type 0} (object : Sequential S (List ℕ) (List ℕ)) (asks : C → List ℕ) (tells : R → List ℕ) where
+module _ {S I A C R : Type 0} (object : Sequential S I A) (asks : C → I) (tells : R → A) where
   -- one more call that was told the object's reply
   answered-append : (state : S) (order : List (Made C R)) (m : Made C R) → AreAnswered object asks tells state order
       → tells m.call.1.reply ≡ object.answer (state_after object state (asked_in asks order)) (asks m.call.0)
@@ -166,8 +166,3 @@ module _ {S C R : Type 0} (object : Sequential S (List ℕ) (List ℕ)) (asks : 
             | inr other ↦ let now = more_other q other.0 in let before = at.fits q own spot in omega (arith, now, before)
           ];
         }
-
--- the state that the replay has come to is one that calls lead to
-pub underway-reached : {C R : Type 0} (object : Sequential (List ℕ) (List ℕ) (List ℕ)) (asks : C → List ℕ) (tells : R → List ℕ) (lists : List (List (C × InPlace R)))
-    (made : List ℕ) (place : ℕ) (reached : List ℕ) → IsUnderway object asks tells lists made place reached → IsReached object reached
-underway-reached object asks tells lists made place reached at = (asked_in asks at.order, at.begun.state)

@@ -1,0 +1,3 @@
+pub mod Vocabulary
+pub mod Left
+pub mod Underway
