@@ -5,10 +5,12 @@ use crate::in_place::InPlace;
 use seq_object::SeqObject;
 use std::alloc::{AllocError, Global};
 
-/// How many calls were made on an object, modulo 2^64, and its state after them.
+/// A state of an object that counts its calls.
 #[derive(Drop)]
 pub struct CountedState<S> {
+    /// How many calls were made, modulo 2^64.
     pub calls: u64,
+    /// The object's state after them.
     pub state: S,
 }
 
