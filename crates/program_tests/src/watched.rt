@@ -34,6 +34,7 @@ const RUNS: &[(&str, &str, u64)] = &[
     ("lock", "queue", 60),
     ("words", "tally", 60),
     ("small", "map", 60),
+    ("any", "directory", 60),
     ("words", "book", 0),
 ];
 

@@ -9,3 +9,4 @@ pub mod DrawnBy
 pub mod Locked
 pub mod ThreadsFailed
 pub mod ToldSmall
+pub mod ToldAny

@@ -5,5 +5,6 @@ pub mod Draws
 pub mod Runs
 pub mod SmallDraws
 pub mod Small
+pub mod Any
 pub mod Threads
 pub mod Language

@@ -23,6 +23,7 @@ form_named name =
     else if bytes_eq name (codes "shared") then Some form.Lock
     else if bytes_eq name (codes "words") then Some form.Words
     else if bytes_eq name (codes "small") then Some form.Small
+    else if bytes_eq name (codes "any") then Some form.Any
     else None
 
 abbrev pub object_named : Text → Option ThreadsObject
@@ -106,9 +107,9 @@ seeds_have_64_bits : map (number_in 0 (2 ^ 64 - 1)) (codes "0" ∷ codes "184467
     ≡ Some 0 ∷ Some 18446744073709551615 ∷ None ∷ []
 seeds_have_64_bits = refl
 
-four_words_are_forms : map form_named (codes "lock" ∷ codes "shared" ∷ codes "words" ∷ codes "small" ∷ codes "locks" ∷ [])
-    ≡ Some form.Lock ∷ Some form.Lock ∷ Some form.Words ∷ Some form.Small ∷ None ∷ []
-four_words_are_forms = refl
+five_words_are_forms : map form_named (codes "lock" ∷ codes "shared" ∷ codes "words" ∷ codes "small" ∷ codes "any" ∷ codes "locks" ∷ [])
+    ≡ Some form.Lock ∷ Some form.Lock ∷ Some form.Words ∷ Some form.Small ∷ Some form.Any ∷ None ∷ []
+five_words_are_forms = refl
 
 ten_words_are_objects : map object_named (codes "queue" ∷ codes "directory" ∷ codes "book" ∷ codes "sticky" ∷ codes "tally"
     ∷ codes "counter" ∷ codes "counters" ∷ codes "register" ∷ codes "stack" ∷ codes "map" ∷ codes "ring" ∷ [])

@@ -29,6 +29,7 @@ use Rattle.uni_words.specs.Run.{IsLogOfRun}
 use Rattle.uni_model.specs.ProcessCalls.{ProcessCalls}
 use Rattle.uni_words.specs.declared.log.WordLog.{WordLog}
 use Rattle.uni_words.specs.declared.seat.WordSeat.{WordSeat}
+use Rattle.unibench_run.specs.Any.{HasAnyRun}
 use Rattle.unibench_run.specs.Draws.{below_1000, drawn_by, seed_of}
 use Rattle.unibench_run.specs.Small.{HasSmallRun}
 use Rattle.unibench_run.specs.declared.request.Form.{Form}
@@ -57,6 +58,10 @@ has_form form.Small object.Map = true
 has_form form.Small object.Queue = true
 has_form form.Small object.Book = true
 has_form form.Small object.Sticky = true
+has_form form.Any object.Queue = true
+has_form form.Any object.Directory = true
+has_form form.Any object.Book = true
+has_form form.Any object.Sticky = true
 has_form _ _ = false
 
 -- the numbers of a plan are in range
@@ -73,6 +78,7 @@ abbrev pub are_too_many : Form → (calls events all : ℕ) → Bool
 are_too_many form.Words calls events all = nat_lt 4096 calls
 are_too_many form.Lock calls events all = nat_lt 4096 calls || nat_lt 16777216 events
 are_too_many form.Small calls events all = nat_lt 40000000 all
+are_too_many form.Any calls events all = nat_lt 40000000 all
 
 -- what a plan is refused for before anything is opened
 abbrev pub refusal_of : Plan → Option ThreadsFault
@@ -149,6 +155,7 @@ abbrev pub HasRunIn : Form → ThreadsObject → (threads calls seed replies : �
 HasRunIn form.Words = HasRunOverWords
 HasRunIn form.Lock = HasRunUnderLock
 HasRunIn form.Small = HasSmallRun
+HasRunIn form.Any = HasAnyRun
 
 -- so many replies are those of all calls of a plan, in a run of it
 abbrev pub IsCounted : Plan → (replies : ℕ) → Type 0
@@ -184,7 +191,7 @@ OfAgreed plan Holds = (replies : ℕ) × IsCounted plan replies × Holds (agrees
 
 abbrev pub text_of_fault : ThreadsFault → List ℕ
 text_of_fault fault.NoSuchObject =
-    codes "no such object in this form\nlock has queue, directory, book and sticky; words sticky and tally; small all but directory and tally"
+    codes "no such object in this form\nlock and any have queue, directory, book and sticky; words sticky and tally; small all but directory and tally"
 text_of_fault fault.CallsTooMany = codes "calls too many"
 text_of_fault fault.Memory = codes "out of memory"
 text_of_fault fault.Write = codes "cannot write"
@@ -267,6 +274,16 @@ forty_million_calls_are_kept = refl
 
 one_more_is_not : are_too_many form.Small 1 1 40000001 ≡ true
 one_more_is_not = refl
+
+any_keeps_forty_million_calls : are_too_many form.Any 10000000 16777217 40000000 ≡ false
+any_keeps_forty_million_calls = refl
+
+any_keeps_no_more : are_too_many form.Any 1 1 40000001 ≡ true
+any_keeps_no_more = refl
+
+any_has_no_tally : refusal_of (record { form = form.Any; object = object.Tally; processes = 1; calls = 1; seed = 1 })
+    ≡ Some fault.NoSuchObject
+any_has_no_tally = refl
 
 -- a plan of a queue under a lock
 abbrev under_lock : (processes calls : ℕ) → Plan

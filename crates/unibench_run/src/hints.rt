@@ -67,7 +67,7 @@ const OBJECTS: [&str; 10] = [
 ];
 
 /// The names of the forms.
-const FORMS: [&str; 4] = ["lock", "shared", "words", "small"];
+const FORMS: [&str; 5] = ["lock", "shared", "words", "small", "any"];
 
 /// A command of which `clap` knows the names that an option or a word can have.
 fn naming<'a>(

@@ -2,6 +2,7 @@
 //! of `uni_script`, draws a schedule, or runs threads that share an object.
 #![tactic(auto)]
 
+mod any;
 mod hints;
 mod language;
 mod lock;

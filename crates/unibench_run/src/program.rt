@@ -145,7 +145,7 @@ fn report_threads<F: TextOut>(alloc: Global, fault: ThreadsFault, faults: &mut F
             tell(
                 faults,
                 b"no such object in this form\n\
-lock has queue, directory, book and sticky; words sticky and tally; small all but directory and tally\n",
+lock and any have queue, directory, book and sticky; words sticky and tally; small all but directory and tally\n",
             );
             2
         }

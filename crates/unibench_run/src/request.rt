@@ -31,6 +31,8 @@ pub enum Form {
     Words,
     /// Atomic words, for an object of several of them.
     Small,
+    /// Versions, for any object.
+    Any,
 }
 
 impl Form {
@@ -42,6 +44,7 @@ impl Form {
             "lock" | "shared" => Some(Form::Lock),
             "words" => Some(Form::Words),
             "small" => Some(Form::Small),
+            "any" => Some(Form::Any),
             _ => None,
         }
     }
@@ -359,21 +362,22 @@ pub(crate) fn random_command<'a>(alloc: Global) -> Result<Command<'a>, AllocErro
 
 /// What the help of `threads` says last.
 const THREADS_NOTES: &str = "\
-With --form lock, or shared, the object is queue, directory, book or sticky,
+With --form lock, shared or any the object is queue, directory, book or sticky,
 with --form words sticky or tally, with --form small counter, counters,
 register, stack, map, queue, book or sticky. Where all replies are those of the
 log, the line 'threads N calls M agrees' is written, M being the number of
-replies. With --form small each reply tells its place, and all calls are made
-again in that order.
+replies. With --form small or any each reply tells its place, and all calls are
+made again in that order.
 
-Only --form small takes more than 4096 calls of a thread, and at most 40000000
-in all. Under a lock each of the N * C calls takes at most 10 * N + 13 events,
-and there is room for 16777216.
+Only --form small and any take more than 4096 calls of a thread, and at most
+40000000 in all. Under a lock each of the N * C calls takes at most 10 * N + 13
+events, and there is room for 16777216.
 
 Examples:
   unibench threads --object book --processes 4 --calls 50
   unibench threads --form words --object tally --processes 8
-  unibench threads --form small --processes 4 --calls 1000000";
+  unibench threads --form small --processes 4 --calls 1000000
+  unibench threads --form any --object directory --processes 4 --calls 1000";
 
 /// The subcommand that runs threads.
 pub(crate) fn threads_command<'a>(alloc: Global) -> Result<Command<'a>, AllocError>
@@ -390,7 +394,7 @@ pub(crate) fn threads_command<'a>(alloc: Global) -> Result<Command<'a>, AllocErr
         alloc,
         "form",
         "NAME",
-        "One of lock, words and small",
+        "One of lock, words, small and any",
         "lock",
     ))?
     .arg(option(

@@ -13,6 +13,7 @@ ghost use Rattle.unibench_run.specs.Threads.{has_form};
 ghost use Rattle.unibench_run.specs.Threads.{IsRunOfThreads, IsThreadsPlan};
 ghost use Rattle.unibench_run.specs.Threads.{agrees_line, line_of_fault, refusal_of, text_of_fault, told_to};
 
+use crate::any::run_any;
 use crate::lock::{MOST_EVENTS, events_of, run_under_lock};
 use crate::request::{Form, Plan, ThreadsObject};
 use crate::small::{MOST_KEPT_CALLS, run_named};
@@ -78,7 +79,7 @@ impl fmt::Display for ThreadsFault {
             ThreadsFault::NoSuchObject => write!(
                 f,
                 "no such object in this form\n\
-lock has queue, directory, book and sticky; words sticky and tally; small all but directory and tally"
+lock and any have queue, directory, book and sticky; words sticky and tally; small all but directory and tally"
             ),
             ThreadsFault::CallsTooMany => write!(f, "calls too many"),
             ThreadsFault::Memory => write!(f, "out of memory"),
@@ -304,7 +305,7 @@ fn has_form(form: Form, object: ThreadsObject) -> bool
 {
     match form {
         Form::Words => matches!(object, ThreadsObject::Sticky | ThreadsObject::Tally),
-        Form::Lock => matches!(
+        Form::Lock | Form::Any => matches!(
             object,
             ThreadsObject::Queue
                 | ThreadsObject::Directory
@@ -334,7 +335,7 @@ fn are_too_many(plan: &Plan) -> bool
     match plan.form {
         Form::Words => plan.calls > MAX_ROW,
         Form::Lock => plan.calls > MAX_ROW || events_of(plan) > MOST_EVENTS,
-        Form::Small => plan.processes * plan.calls > MOST_KEPT_CALLS,
+        Form::Small | Form::Any => plan.processes * plan.calls > MOST_KEPT_CALLS,
     }
 }
 
@@ -385,6 +386,7 @@ pub fn run_plan<R: Threads + Wait + Watch + Sync>(
         (Form::Lock, ThreadsObject::Book) => run_under_lock(rt, alloc, BookObject, plan),
         (Form::Lock, ThreadsObject::Sticky) => run_under_lock(rt, alloc, StickyObject, plan),
         (Form::Small, _) => run_named(rt, alloc, plan),
+        (Form::Any, _) => run_any(rt, alloc, plan),
         (Form::Words | Form::Lock, _) => unreachable!(),
     }
 }
