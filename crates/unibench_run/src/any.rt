@@ -203,8 +203,8 @@ fn open_any<O: Spoken>(
     Ok((shared, jobs))
 }
 
-/// Makes the calls of a plan on a queue, each seat's in a thread of its own where one can be made: the lists of what the
-/// threads were told, with which the queue agrees.
+/// Makes the calls of a plan on a queue, each seat's in a thread of its own where one can be made:
+/// the lists of what the threads were told, with which the queue agrees.
 fn run_queue<R: Threads + Watch + Sync>(
     rt: &R,
     alloc: Global,
@@ -233,8 +233,8 @@ fn run_queue<R: Threads + Watch + Sync>(
     close_any(alloc, &QueueObject, shared, done, plan)
 }
 
-/// Makes the calls of a plan on a directory, each seat's in a thread of its own where one can be made: the lists of what the
-/// threads were told, with which the directory agrees.
+/// Makes the calls of a plan on a directory, each seat's in a thread of its own where one can be made:
+/// the lists of what the threads were told, with which the directory agrees.
 fn run_directory<R: Threads + Watch + Sync>(
     rt: &R,
     alloc: Global,
@@ -263,8 +263,8 @@ fn run_directory<R: Threads + Watch + Sync>(
     close_any(alloc, &DirectoryObject, shared, done, plan)
 }
 
-/// Makes the calls of a plan on a book of accounts, each seat's in a thread of its own where one can be made: the lists of what the
-/// threads were told, with which the book agrees.
+/// Makes the calls of a plan on a book of accounts, each seat's in a thread of its own where one can be made:
+/// the lists of what the threads were told, with which the book agrees.
 fn run_book<R: Threads + Watch + Sync>(
     rt: &R,
     alloc: Global,
@@ -293,8 +293,8 @@ fn run_book<R: Threads + Watch + Sync>(
     close_any(alloc, &BookObject, shared, done, plan)
 }
 
-/// Makes the calls of a plan on a sticky register, each seat's in a thread of its own where one can be made: the lists of what the
-/// threads were told, with which the register agrees.
+/// Makes the calls of a plan on a sticky register, each seat's in a thread of its own where one can be made:
+/// the lists of what the threads were told, with which the register agrees.
 fn run_sticky<R: Threads + Watch + Sync>(
     rt: &R,
     alloc: Global,
