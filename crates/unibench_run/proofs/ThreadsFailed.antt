@@ -1,5 +1,5 @@
 -- What threads come to, by the fault that ended them.
-use Rattle.unibench_run.proofs.Vocabulary.{Appends, AppendsPrefix, Bool, IsSome, IsStatusOfThreads, IsThreadsRun, List, None, OfAgreed, Option, Plan, Some, ThreadsFault, ap, are_too_many, arith, cond, events_of, false, has_form, inl, inr, nat_lt, refl, refusal_of, status_of_threads, sym, true, ℕ, ◌*◌, ◌↔◌, ◌∙◌, ◌≡◌, ◌≢◌, ◌⊎◌}
+use Rattle.unibench_run.proofs.Vocabulary.{AppendsPrefix, Bool, IsSome, IsStatusOfThreads, IsThreadsRun, List, None, OfAgreed, Option, Plan, Some, ThreadsFault, ap, are_too_many, arith, cond, events_of, false, has_form, inl, inr, refl, refusal_of, status_of_threads, sym, true, ℕ, ◌*◌, ◌∙◌, ◌≡◌, ◌≢◌, ◌⊎◌}
 use Rattle.unibench_run.specs.declared.request.Form.TheVariants.{Words}
 use Rattle.unibench_run.specs.declared.threads.ThreadsFault.TheVariants as fault
 

@@ -1,5 +1,5 @@
 -- Threads on any object whose calls are all made: their seats, and what they were told.
-use Rattle.unibench_run.proofs.Vocabulary.{All, All-map, AllocError, Done, Global, IfOk, InPlace, Job, List, None, Ok, Result, Sequential, Some, Vec, [], ap, arith, at_of_map, drawn_by, length, length-map, map, map-append, range_with_len, refl, seed_of, seeded_word, slice_get, slice_get-index, slice_get-map, slice_index_or, subst, suc, sum_by, sum_by-le, sym, vec_len, zero, ℕ, ◌*◌, ◌++◌, ◌+◌, ◌<◌, ◌^◌, ◌∙◌, ◌∷◌, ◌≡◌, ◌≤◌}
+use Rattle.unibench_run.proofs.Vocabulary.{All-map, AllocError, Done, Global, IfOk, InPlace, Job, List, None, Ok, Result, Sequential, Some, Vec, [], ap, arith, at_of_map, drawn_by, length, length-map, map, map-append, range_with_len, seed_of, seeded_word, slice_get, slice_get-index, slice_get-map, slice_index_or, subst, sum_by, sum_by-le, sym, vec_len, ℕ, ◌*◌, ◌++◌, ◌+◌, ◌<◌, ◌^◌, ◌∙◌, ◌∷◌, ◌≡◌, ◌≤◌}
 use Rattle.uni_any.specs.Seats.{AreFirstSeats, IsSeatOf, known_calls, own_calls, pending_call, process_of, processes_of}
 use Rattle.uni_any.specs.declared.seat.AnySeat.{AnySeat}
 use Rattle.uni_any.specs.declared.seat.AnyShared.{AnyShared}

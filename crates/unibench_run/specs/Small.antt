@@ -1,5 +1,5 @@
 -- What a run of threads on an object of several words comes to.
-use Rattle.std.specs.Prelude.{◌≡◌, ◌≤◌, ◌+◌, ◌*◌, ℕ, List, [], ◌∷◌, Some, drop, length, map, slice_get, slice_index, suc, vec_len, refl}
+use Rattle.std.specs.Prelude.{◌≡◌, ◌≤◌, ◌*◌, ℕ, List, [], ◌∷◌, Some, drop, length, map, slice_get, slice_index, suc, vec_len, refl}
 use Rattle.ready_objects.specs.Book.{book_language}
 use Rattle.ready_objects.specs.Queue.{queue_language}
 use Rattle.ready_objects.specs.Sticky.{sticky, sticky_language}

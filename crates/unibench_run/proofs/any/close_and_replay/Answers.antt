@@ -1,4 +1,4 @@
-use Rattle.unibench_run.proofs.Vocabulary.{[], subst, sym, ◌∷◌, ◌≡◌}
+use Rattle.unibench_run.proofs.Vocabulary.{[], subst, sym, ◌∷◌}
 use Rattle.told_order.specs.Counted.{counted}
 use Rattle.uni_any.specs.Closed.{HasRunTo, last_version}
 use Rattle.uni_any.specs.News.{version_as}

@@ -1,4 +1,4 @@
-use Rattle.unibench_run.proofs.Vocabulary.{Global, InPlace, List, Vec, ap, arith, length, map, slice_index_or, subst, sym, ◌*◌, ◌∙◌, ◌≡◌}
+use Rattle.unibench_run.proofs.Vocabulary.{Global, InPlace, List, Vec, ap, arith, length, map, slice_index_or, subst, sym, ◌*◌, ◌∙◌}
 use Rattle.uni_any.specs.Seats.{known_calls, processes_of}
 use Rattle.unibench_run.specs.Any.{AreAnyDone, HasClosed, IsAnyRun}
 use Rattle.unibench_run.proofs.ToldAny.{any_done, any_few_told, any_first_seat, any_long, any_run}

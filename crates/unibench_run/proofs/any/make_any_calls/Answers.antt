@@ -1,5 +1,5 @@
 use Rattle.unibench_run.proofs.Vocabulary.{[], ap, arith, drawn_by, length, length-append, sym, xoshiro_word, ◌++◌, ◌+◌, ◌∙◌, ◌∷◌, ◌≡◌}
-use Rattle.uni_any.specs.Seats.{calls_made, own_calls, version_of}
+use Rattle.uni_any.specs.Seats.{own_calls, version_of}
 use Rattle.unibench_run.proofs.DrawnBy.{words-after}
 use Rattle.unibench_run.proofs.ToldAny.{any_asked_more, any_told_more}
 use Rattle.unibench_run.proofs.any.make_any_calls.Goals as goal

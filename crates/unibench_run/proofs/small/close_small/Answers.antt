@@ -1,4 +1,4 @@
-use Rattle.unibench_run.proofs.Vocabulary.{All-same, Global, InPlace, IsFinal, IsReplayed, IsSmallRun, List, Vec, drop, flat_map, known_calls, map, placed, processes_of, subst, sym, ◌∙◌, ◌≡◌}
+use Rattle.unibench_run.proofs.Vocabulary.{All-same, Global, InPlace, IsFinal, IsReplayed, IsSmallRun, List, Vec, drop, flat_map, known_calls, map, placed, processes_of, subst, sym, ◌∙◌}
 use Rattle.uni_small.specs.Belongs.{IsSeatOf}
 use Rattle.unibench_run.proofs.ToldSmall.{few_told, small_run, small_seats}
 use Rattle.unibench_run.proofs.small.close_small.Goals as goal

@@ -1,4 +1,4 @@
-use Rattle.unibench_run.proofs.Vocabulary.{AreCalls, IsWide, calls_of, drawn_by, map, seeded_word, vec_len, xoshiro_word, ℕ, ◌+◌, ◌≡◌}
+use Rattle.unibench_run.proofs.Vocabulary.{AreCalls, IsWide, calls_of, drawn_by, seeded_word, vec_len, xoshiro_word, ℕ, ◌+◌, ◌≡◌}
 use Rattle.uni_small.specs.Belongs.{IsSeatOf, calls_made, process_of}
 use Rattle.unibench_run.specs.Small.{asked_in}
 use Rattle.unibench_run.proofs.small.make_small_calls.Given as goal

@@ -1,4 +1,4 @@
-use Rattle.unibench_run.proofs.Vocabulary.{HasSmallRun, refl, subst, sym, ◌*◌, ◌≡◌}
+use Rattle.unibench_run.proofs.Vocabulary.{HasSmallRun, refl, subst, sym, ◌*◌}
 use Rattle.unibench_run.proofs.small.run_named.Goals as goal
 use Rattle.unibench_run.proofs.small.run_named.Goals.{in-Counter+in_ok-run_small-in-Counter, in-Counters+in_ok-run_small-in-Counters, in-Register+in_ok-run_small-in-Register, in-Stack+in_ok-run_small-in-Stack, in-Map+in_ok-run_small-in-Map, in-Queue+in_ok-run_small-in-Queue, in-Book+in_ok-run_small-in-Book, in-Sticky+in_ok-run_small-in-Sticky}
 
