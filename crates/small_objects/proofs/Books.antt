@@ -1,5 +1,5 @@
 -- The balances of a book on words.
-use Rattle.small_objects.proofs.Vocabulary.{All, IsStateOf, List, arith, book, book_start, call_in, get_or_past, inl, inr, kept_by_calls, length, length-book_next, lt_cases, map, refl, slice_index, state_after, subst, sum, sum_most, sym, ℕ, ◌<◌, ◌∙◌, ◌≡◌, ◌≤◌}
+use Rattle.small_objects.proofs.Vocabulary.{All, IsStateOf, List, arith, book, call_in, get_or_past, inl, inr, kept_by_calls, length, length-book_next, lt_cases, map, refl, slice_index, subst, sum, sum_most, ℕ, ◌<◌, ◌∙◌, ◌≡◌, ◌≤◌}
 use Rattle.std.proofs.lemmas.List.Elements.{All-get_or}
 use Rattle.ready_objects.proofs.BookSums.{state_after-book_start-limit}
 

@@ -1,5 +1,5 @@
 -- Pairs in a row of words: what the steps of a map on the words do to the pairs.
-use Rattle.small_objects.proofs.Vocabulary.{Absent, Fits, Full, IsStateOf, List, None, Option, Some, Value, [], ap, arith, drop, get_or-remove_above, inl, inr, is_some, length, length-append, length-padded, length-remove, lt_cases, nat_eq, nat_lt, number_cases, padded, refl, remove, slice_index, slice_set, subst, suc, sym, take, zero, ℕ, ◌*◌, ◌++◌, ◌+◌, ◌-◌, ◌<◌, ◌∙◌, ◌∷◌, ◌≡◌, ◌≢◌, ◌≤◌}
+use Rattle.small_objects.proofs.Vocabulary.{Absent, Fits, Full, IsStateOf, List, None, Option, Some, Value, [], ap, arith, get_or-remove_above, inl, inr, length, length-append, length-padded, length-remove, lt_cases, nat_eq, number_cases, padded, refl, remove, slice_index, slice_set, subst, suc, sym, take, zero, ℕ, ◌*◌, ◌++◌, ◌+◌, ◌-◌, ◌<◌, ◌∙◌, ◌∷◌, ◌≡◌, ◌≢◌, ◌≤◌}
 use Rattle.std.specs.Map.{remove_entry, set_value}
 use Rattle.std.proofs.lemmas.Map.{length-set_value}
 use Rattle.small_objects.specs.Map.{before, bounded_map, call_in, flat, insert_answer, map, map_next, map_words, paired, pairs_in, value_of}

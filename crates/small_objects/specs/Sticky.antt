@@ -1,12 +1,12 @@
 -- The sticky register of scripts in words: its state, a call and a reply are each an amount that may be missing.
-use Rattle.std.specs.Prelude.{◌≡◌, ℕ, List, [], ◌∷◌, Option, None, Some, length, refl}
-use Rattle.std.proofs.Common.{◌∙◌, ap}
+use Rattle.std.specs.Prelude.{◌≡◌, ℕ, List, [], ◌∷◌, Option, None, Some, refl}
+use Rattle.std.proofs.Common.{ap}
 use Rattle.ready_objects.specs.Sticky.{sticky, sticky_next}
 use Rattle.ready_objects.specs.declared.sticky.StickyInv.{StickyInv}
 use Rattle.ready_objects.specs.declared.sticky.StickyInv.TheVariants.{Read, Stick}
 use Rattle.ready_objects.specs.declared.sticky.StickyResp.{StickyResp}
 use Rattle.ready_objects.specs.declared.sticky.StickyResp.TheVariants.{Settled, Unset}
-use Rattle.small_objects.specs.Amount.{IsAmount, amount_fits, amount_in, amount_in-IsAmount, amount_long, amount_words}
+use Rattle.small_objects.specs.Amount.{IsAmount, amount_fits, amount_in, amount_in-IsAmount, amount_words}
 use Rattle.small_objects.specs.Encoding.{Fits, kept_by_calls}
 
 -- the value that a call proposes, and the call that proposes one, or else reads

@@ -1,4 +1,4 @@
-use Rattle.std.proofs.Common.{◌≡◌, ◌≢◌, ◌<◌, ◌*◌, ◌+◌, ◌-◌, length, length-set, slice_index, arith}
+use Rattle.std.proofs.Common.{arith}
 use Rattle.small_objects.proofs.Pairs.{asked, count_is, found, map_pairs, not_found, told_absent, told_found, wide}
 use Rattle.small_objects.proofs.map.SmallMap.get.Goals as goal
 

@@ -1,4 +1,4 @@
-use Rattle.std.proofs.Common.{◌≡◌, ◌≢◌, ◌<◌, ◌*◌, ◌+◌, ◌-◌, length, length-set, slice_index, arith}
+use Rattle.std.proofs.Common.{◌*◌, ◌+◌, length-set, slice_index, arith}
 use Rattle.small_objects.proofs.Pairs.{added, added_reply, count_is, found, map_pairs, not_found, refused, refused_reply, replaced, replaced_reply, wide}
 use Rattle.small_objects.proofs.map.SmallMap.insert.Goals as goal
 

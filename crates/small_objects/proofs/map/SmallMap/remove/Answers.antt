@@ -1,4 +1,4 @@
-use Rattle.small_objects.proofs.Vocabulary.{Value, ap, arith, length, length-set, slice_index, ◌*◌, ◌+◌, ◌-◌, ◌<◌, ◌∙◌, ◌≡◌, ◌≢◌}
+use Rattle.small_objects.proofs.Vocabulary.{Value, ap, arith, length, slice_index, ◌*◌, ◌+◌, ◌<◌, ◌∙◌}
 use Rattle.small_objects.proofs.Rows.{IsTakenOut}
 use Rattle.small_objects.proofs.Pairs.{count_is, found, map_pairs, not_found, not_removed, removed, removed_reply, told_absent, told_found, wide}
 use Rattle.small_objects.proofs.map.SmallMap.remove.Goals as goal

@@ -1,4 +1,4 @@
-use Rattle.std.proofs.Common.{ap, arith, sym, ◌*◌, ◌+◌, ◌∙◌, ◌≡◌, ◌≤◌}
+use Rattle.std.proofs.Common.{ap, arith, sym, ◌∙◌}
 use Rattle.small_objects.proofs.Vocabulary.{slice_index}
 use Rattle.small_objects.specs.Map.{call_in, map, map_next, map_words, pairs_in, reply_words}
 use Rattle.small_objects.proofs.Reached.{reached_in}

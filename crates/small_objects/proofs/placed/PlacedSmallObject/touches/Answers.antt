@@ -1,4 +1,4 @@
-use Rattle.small_objects.proofs.Vocabulary.{IsReached, arith, drop, length, subst, sym, take_all, ◌-◌, ◌≤◌}
+use Rattle.small_objects.proofs.Vocabulary.{IsReached, arith, drop, length, subst, sym, take_all, ◌-◌}
 use Rattle.std.proofs.lemmas.List.{length-drop}
 use Rattle.small_objects.proofs.Behind.{reached_behind}
 use Rattle.small_objects.proofs.placed.PlacedSmallObject.touches.Goals as goal
