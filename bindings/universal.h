@@ -120,7 +120,8 @@ static inline const char *universal_strerror(uint32_t status) {
  * counter      1            1       1
  * register64   3            1       1
  * counters     2            1       count
- * queue        1            1       1 + capacity: how many numbers, and then they, the oldest first
+ * queue        1            1       2 + capacity: how many numbers, the slot of the oldest one, and the slots, from 0. Behind
+ *                                   that slot come the others in their order, and behind the last slot the first one
  * stack        1            1       1 + capacity: how many numbers, and then they, the newest last
  * map          3            2       1 + 2 * capacity: how many keys, and then each with its value, the oldest key first
  * book         4            2       16: the balances
@@ -130,7 +131,7 @@ static inline const char *universal_strerror(uint32_t status) {
  * Where a state has W words, an invocation I and a reply R, a call takes at most 6W + (9 + 3I + 6R)n + I + R + 11 steps on
  * shared words. Where another process's call came since the process's own last one, it copies the whole state, also while the
  * object is empty: some 1.3 nanoseconds a word (docs/measured.md). Where none came, it takes the time of what it touches: one
- * counter, or a value; or, where a queue gives one and a map takes or loses one, as many words as the object holds.
+ * counter, or a value; or, where a map takes or loses a key, as many words as the object holds.
  * ------------------------------------------------------------------------------------------------------------------ */
 
 /* Opens a counter modulo 2^64, 0 at the start, for n processes. A call adds its number, and is answered the sum before.
@@ -162,9 +163,9 @@ uint32_t universal_open_counters(uint64_t n, uint32_t count, universal_handle *o
 
 /* Opens a queue of at most `capacity` numbers that aren't 0. A number that is put in is answered 1, or 0 where the queue is
  * full. Taking the oldest number out is answered it, or 0 where there is none. To put 0 in is to take one out. A copy is
- * 1 + capacity words.
+ * 2 + capacity words.
  *
- * UNIVERSAL_BAD_COUNT; UNIVERSAL_BAD_CAPACITY where capacity is more than 65,535; UNIVERSAL_MEMORY; in this order. After each
+ * UNIVERSAL_BAD_COUNT; UNIVERSAL_BAD_CAPACITY where capacity is more than 65,534; UNIVERSAL_MEMORY; in this order. After each
  * *object is as it was. */
 uint32_t universal_open_queue(uint64_t n, uint32_t capacity, universal_handle *object);
 
@@ -172,7 +173,8 @@ uint32_t universal_open_queue(uint64_t n, uint32_t capacity, universal_handle *o
 #define UNIVERSAL_QUEUE_TAKE {0}
 
 /* Opens a stack of at most `capacity` numbers that aren't 0. It is as the queue is, but that the newest number comes off.
- * The statuses are those of universal_open_queue. */
+ * A copy is 1 + capacity words. The statuses are those of universal_open_queue, with UNIVERSAL_BAD_CAPACITY where capacity is
+ * more than 65,535. */
 uint32_t universal_open_stack(uint64_t n, uint32_t capacity, universal_handle *object);
 
 #define UNIVERSAL_STACK_PUSH(number) {(uint64_t)(number)}

@@ -89,7 +89,7 @@ typedef struct entry {
 } entry;
 
 static const char MAGIC[8] = "univseg";
-enum { LAYOUT = 2 };
+enum { LAYOUT = 3 };
 
 /* What is written comes in this order: who takes the seat over does so after its owner's death, so the compiler alone
  * could change it. */
@@ -132,7 +132,7 @@ static bool widths_of(const universal_shared_kind *kind, widths *w) {
     case UNIVERSAL_SHARED_COUNTER: *w = (widths){1, 1, 1}; return true;
     case UNIVERSAL_SHARED_REGISTER64: *w = (widths){3, 1, 1}; return true;
     case UNIVERSAL_SHARED_COUNTERS: *w = (widths){2, 1, capacity}; return true;
-    case UNIVERSAL_SHARED_QUEUE:
+    case UNIVERSAL_SHARED_QUEUE: *w = (widths){1, 1, 2 + capacity}; return true;
     case UNIVERSAL_SHARED_STACK: *w = (widths){1, 1, 1 + capacity}; return true;
     case UNIVERSAL_SHARED_MAP: *w = (widths){3, 2, 1 + 2 * capacity}; return true;
     case UNIVERSAL_SHARED_BOOK: *w = (widths){4, 2, 16}; return true;

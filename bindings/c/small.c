@@ -84,7 +84,7 @@ static void rows(void) {
     IS(CALL(&seat, 1, UNIVERSAL_QUEUE_PUT(9)), 1);
     IS(CALL(&seat, 1, UNIVERSAL_QUEUE_PUT(7)), 0);
     IS(CALL(&seat, 1, UNIVERSAL_QUEUE_TAKE), 8);
-    closes(&seat, (const uint64_t[]){1, 9, 0}, 3);
+    closes(&seat, (const uint64_t[]){1, 1, 0, 9}, 4);
 
     IS(universal_open_stack(1, 2, &object), UNIVERSAL_DONE);
     seat = only_seat(&object);
@@ -165,14 +165,14 @@ static void bad_sizes(void) {
     IS(universal_open_book(UINT64_MAX, &object), UNIVERSAL_BAD_COUNT);
     IS(universal_open_map(0, UINT32_MAX, &object), UNIVERSAL_BAD_COUNT);
     IS(universal_open_counters(1, 65537, &object), UNIVERSAL_BAD_CAPACITY);
-    IS(universal_open_queue(1, 65536, &object), UNIVERSAL_BAD_CAPACITY);
+    IS(universal_open_queue(1, 65535, &object), UNIVERSAL_BAD_CAPACITY);
     IS(universal_open_stack(1, UINT32_MAX, &object), UNIVERSAL_BAD_CAPACITY);
     IS(universal_open_map(1, 32768, &object), UNIVERSAL_BAD_CAPACITY);
     IS(object.at != NULL, 0);
     IS(universal_open_counters(1, 65536, &object), UNIVERSAL_DONE);
-    IS(universal_open_queue(1, 65535, &object), UNIVERSAL_DONE);
+    IS(universal_open_queue(1, 65534, &object), UNIVERSAL_DONE);
     IS(universal_open_map(1, 32767, &object), UNIVERSAL_DONE);
-    IS(universal_open_queue(1, 65536, &object), UNIVERSAL_BAD_CAPACITY);
+    IS(universal_open_queue(1, 65535, &object), UNIVERSAL_BAD_CAPACITY);
     universal_handle seat = only_seat(&object);
     IS(CALL(&seat, 2, UNIVERSAL_MAP_GET(1)), UNIVERSAL_MAP_ABSENT);
     universal_drop(&seat);
@@ -184,7 +184,8 @@ static void bad_sizes(void) {
     IS(universal_open_queue(1, 0, &object), UNIVERSAL_DONE);
     seat = only_seat(&object);
     IS(CALL(&seat, 1, UNIVERSAL_QUEUE_PUT(1)), 0);
-    closes(&seat, (const uint64_t[]){0}, 1);
+    IS(CALL(&seat, 1, UNIVERSAL_QUEUE_TAKE), 0);
+    closes(&seat, (const uint64_t[]){0, 0}, 2);
 }
 
 /* Other counts of words are refused, and nothing is written. */
@@ -344,7 +345,7 @@ static void named(void) {
     IS(universal_queue_put(&seat, 7, told) || told[0], 0);
     IS(universal_queue_take(&seat, told), UNIVERSAL_DONE);
     IS(told[0], 8);
-    closes(&seat, (const uint64_t[]){1, 9, 0}, 3);
+    closes(&seat, (const uint64_t[]){1, 1, 0, 9}, 4);
 
     IS(universal_open_stack(1, 2, &object), UNIVERSAL_DONE);
     seat = only_seat(&object);

@@ -199,10 +199,10 @@ static void in_order(uint64_t count) {
 
 static void queue(void) {
     universal_handle object = UNIVERSAL_NONE;
-    uint64_t state[1 + MOST] = {0};
+    uint64_t state[2 + MOST] = {0};
     passages = room(sizeof(passage));
     expect(universal_open_queue(threads, MOST, &object) == UNIVERSAL_DONE, "a queue opens");
-    shared(&object, pass_on, state, 1 + MOST);
+    shared(&object, pass_on, state, 2 + MOST);
     expect(state[0] == 0, "each number came out");
     in_order(calls / 2 * threads);
     free(passages);

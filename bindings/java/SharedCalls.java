@@ -110,7 +110,7 @@ public final class SharedCalls extends Checks {
         throwsA(NoSuchFileException.class, () -> Shared.attach(of, 2, Kind.map(10)));
         throwsA(NoSuchFileException.class, () -> Shared.unlink(of));
         refuses(Fault.BAD_COUNT, () -> Shared.create(of, 65, Kind.counter()));
-        refuses(Fault.BAD_CAPACITY, () -> Shared.create(of, 2, Kind.queue(65536)));
+        refuses(Fault.BAD_CAPACITY, () -> Shared.create(of, 2, Kind.queue(65535)));
         refuses(Fault.BAD_TABLE, () -> Shared.create(of, 2, Kind.machine(new int[][] {{2}}, new int[][] {{0}})));
         Path zeros = Path.of("/dev/shm/universal." + of);
         Files.write(zeros, new byte[10_000]);

@@ -33,7 +33,7 @@ public final class SmallCalls extends Checks {
         state(counters.finish(), 0, 0, 9);
         Small.Queue queue = only(Small.Queue.open(1, 2));
         is(List.of(queue.take(), queue.put(8), queue.put(9), queue.put(7), queue.take()), List.of(0L, true, true, false, 8L));
-        state(queue.finish(), 1, 9, 0);
+        state(queue.finish(), 1, 1, 0, 9);
         Small.Stack stack = only(Small.Stack.open(1, 2));
         is(List.of(stack.pop(), stack.push(8), stack.push(9), stack.push(7), stack.pop()), List.of(0L, true, true, false, 9L));
         state(stack.finish(), 1, 8, 0);
@@ -70,7 +70,7 @@ public final class SmallCalls extends Checks {
         refuses(Fault.BAD_COUNT, () -> Small.Counter.open(0));
         refuses(Fault.BAD_COUNT, () -> Small.Book.open(65));
         refuses(Fault.BAD_CAPACITY, () -> Small.Counters.open(1, 65537));
-        refuses(Fault.BAD_CAPACITY, () -> Small.Queue.open(1, 65536));
+        refuses(Fault.BAD_CAPACITY, () -> Small.Queue.open(1, 65535));
         refuses(Fault.BAD_CAPACITY, () -> Small.Stack.open(1, -1));
         refuses(Fault.BAD_CAPACITY, () -> Small.Map.open(1, 32768));
         state(only(Small.Counters.open(1, 0)).finish());

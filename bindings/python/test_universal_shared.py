@@ -137,7 +137,7 @@ class Calls(unittest.TestCase):
             self.assertRaises(ValueError, lambda: SharedCounter(bad, seats=1, create=True))
         self.assertRaises(ValueError, lambda: SharedCounter(None, seats=1))
         self.refuses(Fault.BAD_COUNT, lambda: SharedCounter(None, seats=65, create=True))
-        self.refuses(Fault.BAD_CAPACITY, lambda: SharedQueue(None, 65536, seats=1, create=True))
+        self.refuses(Fault.BAD_CAPACITY, lambda: SharedQueue(None, 65535, seats=1, create=True))
         self.refuses(Fault.BAD_TABLE, lambda: SharedMachine(None, [[2]], [[0]], seats=1, create=True))
 
     def test_seats(self):

@@ -110,7 +110,7 @@ class Calls(unittest.TestCase):
         self.refuses(Fault.BAD_COUNT, lambda: Counter.open(0))
         self.refuses(Fault.BAD_COUNT, lambda: Book.open(65))
         self.refuses(Fault.BAD_CAPACITY, lambda: Counters.open(1, 65537))
-        self.refuses(Fault.BAD_CAPACITY, lambda: Queue.open(1, 65536))
+        self.refuses(Fault.BAD_CAPACITY, lambda: Queue.open(1, 65535))
         self.refuses(Fault.BAD_CAPACITY, lambda: Stack.open(1, 65536))
         self.refuses(Fault.BAD_CAPACITY, lambda: Map.open(1, 32768))
         self.assertRaises(ValueError, lambda: Queue.open(1, -1))

@@ -156,31 +156,37 @@ class Counters(CountersCalls, _Seat[list[int]]):
         return Small._open(cls, count, _LIBRARY.universal_open_counters, _number(n, 64), _number(count, 32))
 
 
-class _Row(_Seat[list[int]]):
-    @classmethod
-    def _state(cls, words: list[int]) -> list[int]:
-        return words[1 : 1 + words[0]]
-
-
-class Queue(QueueCalls, _Row):
+class Queue(QueueCalls, _Seat[list[int]]):
     """A seat of a queue of numbers from 1 to 2^64 - 1. The last state is their list, the oldest one first."""
 
     @classmethod
     def open(cls, n: int, capacity: int) -> Small[Queue, list[int]]:
-        """A queue of at most `capacity` numbers for n processes; a copy is 1 + capacity words.
+        """A queue of at most `capacity` numbers for n processes; a copy is 2 + capacity words.
 
-        Raises `Refused`: n isn't from 1 to 64; capacity is more than 65,535; memory was refused.
+        Raises `Refused`: n isn't from 1 to 64; capacity is more than 65,534; memory was refused.
         """
-        return Small._open(cls, 1 + capacity, _LIBRARY.universal_open_queue, _number(n, 64), _number(capacity, 32))
+        return Small._open(cls, 2 + capacity, _LIBRARY.universal_open_queue, _number(n, 64), _number(capacity, 32))
+
+    @classmethod
+    def _state(cls, words: list[int]) -> list[int]:
+        count, first, *slots = words
+        return [*slots[first:], *slots[:first]][:count]
 
 
-class Stack(StackCalls, _Row):
+class Stack(StackCalls, _Seat[list[int]]):
     """A seat of a stack of numbers from 1 to 2^64 - 1. The last state is their list, the newest one last."""
 
     @classmethod
     def open(cls, n: int, capacity: int) -> Small[Stack, list[int]]:
-        """A stack of at most `capacity` numbers for n processes. Time and `Refused` are as of `Queue.open`."""
+        """A stack of at most `capacity` numbers for n processes; a copy is 1 + capacity words.
+
+        Raises `Refused`: n isn't from 1 to 64; capacity is more than 65,535; memory was refused.
+        """
         return Small._open(cls, 1 + capacity, _LIBRARY.universal_open_stack, _number(n, 64), _number(capacity, 32))
+
+    @classmethod
+    def _state(cls, words: list[int]) -> list[int]:
+        return words[1 : 1 + words[0]]
 
 
 class Map(MapCalls, _Seat[dict[int, int]]):

@@ -79,7 +79,9 @@ pub mod kinds {
         Counter: u64, words => words[0];
         Register: u64, words => words[0];
         Counters: Vec<u64>, words => words;
-        Queue: Vec<u64>, words => words[1..][..words[0] as usize].to_vec();
+        Queue: Vec<u64>, words => {
+            words[2..].iter().cycle().skip(words[1] as usize).take(words[0] as usize).copied().collect()
+        };
         Stack: Vec<u64>, words => words[1..][..words[0] as usize].to_vec();
         Map: Vec<(u64, u64)>, words => words[1..].chunks(2).take(words[0] as usize).map(|pair| (pair[0], pair[1])).collect();
         Book: [u64; 16], words => std::array::from_fn(|account| words[account]);
@@ -376,15 +378,16 @@ impl Counters {
 }
 
 impl Queue {
-    /// A queue of at most `capacity` numbers for `n` processes; a copy is `1 + capacity` words.
-    /// Errors: `BadCount`; `BadCapacity` for more than 65,535 numbers; `Memory`.
+    /// A queue of at most `capacity` numbers for `n` processes; a copy is `2 + capacity` words.
+    /// Errors: `BadCount`; `BadCapacity` for more than 65,534 numbers; `Memory`.
     pub fn open(n: u64, capacity: u32) -> Result<Small<kinds::Queue>, Fault> {
-        Small::opened(1 + capacity as usize, |object| raw::open_queue(n, capacity, object))
+        Small::opened(2 + capacity as usize, |object| raw::open_queue(n, capacity, object))
     }
 }
 
 impl Stack {
-    /// A stack of at most `capacity` numbers for `n` processes. Copies and errors are those of [`Queue::open`].
+    /// A stack of at most `capacity` numbers for `n` processes; a copy is `1 + capacity` words.
+    /// Errors: those of [`Queue::open`], with `BadCapacity` for more than 65,535 numbers.
     pub fn open(n: u64, capacity: u32) -> Result<Small<kinds::Stack>, Fault> {
         Small::opened(1 + capacity as usize, |object| raw::open_stack(n, capacity, object))
     }

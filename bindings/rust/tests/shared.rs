@@ -110,7 +110,7 @@ fn names_and_refusals() {
     assert!(matches!(Shared::<Map>::attach(&named.0, 3, 10), Err(SharedFault::OtherObject)));
     assert!(matches!(Shared::<Counter>::attach(&named.0, 2), Err(SharedFault::OtherObject)));
     assert!(matches!(Shared::<Counter>::create(None, 65), Err(SharedFault::Object(Fault::BadCount))));
-    assert!(matches!(Shared::<Queue>::create(None, 1, 65536), Err(SharedFault::Object(Fault::BadCapacity))));
+    assert!(matches!(Shared::<Queue>::create(None, 1, 65535), Err(SharedFault::Object(Fault::BadCapacity))));
     let tables = universal::Machine { states: 2, invocations: 1, next: &[1], reply: &[7, 8] };
     assert!(matches!(Shared::<Machine>::create(None, 1, tables), Err(SharedFault::Object(Fault::BadTable))));
     let zeros = Named(PathBuf::from(format!("/dev/shm/rust.{}.zeros", process::id())));

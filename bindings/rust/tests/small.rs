@@ -97,7 +97,7 @@ fn bad_sizes_are_refused() {
     assert_eq!(Counter::open(0).unwrap_err(), Fault::BadCount);
     assert_eq!(Book::open(65).unwrap_err(), Fault::BadCount);
     assert_eq!(Counters::open(1, 65537).unwrap_err(), Fault::BadCapacity);
-    assert_eq!(Queue::open(1, 65536).unwrap_err(), Fault::BadCapacity);
+    assert_eq!(Queue::open(1, 65535).unwrap_err(), Fault::BadCapacity);
     assert_eq!(Stack::open(1, u32::MAX).unwrap_err(), Fault::BadCapacity);
     assert_eq!(Map::open(1, 32768).unwrap_err(), Fault::BadCapacity);
     assert!(Map::open(1, 32767).is_ok());

@@ -2,7 +2,9 @@ pub mod Vocabulary
 pub mod Behind
 pub mod Books
 pub mod Pairs
+pub mod Queues
 pub mod Reached
+pub mod Rings
 pub mod Rows
 pub mod Scripts
 pub mod Short

@@ -1,7 +1,5 @@
 -- Values in a row of words: what the steps on the words do to the values.
-use Rattle.small_objects.proofs.Vocabulary.{Fits, IsStateOf, List, Sequential, [], ap, arith, bounded_queue, bounded_stack, drop, encoded, first_word, get_or-remove_above, get_or-remove_below, if◌then◌else◌, inl, inr, length, length-append, length-padded, length-remove, length-set, lt_cases, map, nat_lt, number_cases, padded, queue, queue_next, refl, remove, replicate, row_of, same_list, slice_index, slice_set, stack, stack_next, state_after, subst, suc, sym, take, values_in, zero, ℕ, ◌++◌, ◌+◌, ◌-◌, ◌<◌, ◌∙◌, ◌∷◌, ◌≡◌, ◌≢◌, ◌≤◌, ◌⊎◌}
-use Rattle.std.specs.Prelude.{false, true}
-use Rattle.std.proofs.lemmas.List.{get_or-take, get_or_append_left}
+use Rattle.small_objects.proofs.Vocabulary.{Fits, IsStateOf, List, Sequential, [], ap, arith, bounded_stack, first_word, get_or-remove_above, get_or-remove_below, get_or-set_other, inl, inr, length, length-append, length-padded, length-remove, lt_cases, map, number_cases, padded, refl, remove, replicate, row_of, same_list, slice_index, slice_set, stack, stack_answer, stack_next, state_after, subst, suc, sym, take, values_in, zero, ℕ, ◌++◌, ◌+◌, ◌-◌, ◌<◌, ◌∙◌, ◌∷◌, ◌≡◌, ◌≢◌, ◌≤◌, ◌⊎◌}
 use Rattle.small_objects.proofs.Reached.{reached_is}
 
 -- a row of zeros has no values
@@ -44,10 +42,6 @@ length-take_less zero xs = omega arith
 length-take_less (suc k) [] = omega arith
 length-take_less (suc k) (x ∷ xs) = (let h = length-take_less k xs in omega arith)
 
-length-drop_less : (xs : List ℕ) → length (drop 1 xs) ≤ length xs
-length-drop_less [] = omega arith
-length-drop_less (x ∷ xs) = omega arith
-
 -- a word behind the values
 pub index_beyond : (values : List ℕ) (k : ℕ) → length values ≤ k → slice_index values k ≡ 0
 index_beyond [] k above = refl
@@ -64,28 +58,6 @@ zero_row room state long each = same_list state (row_of room []) (long ∙ ap su
 pub zeros_are : (state : List ℕ) → ((j : ℕ) → j < length state → slice_index state j ≡ 0) → state ≡ replicate (length state) 0
 zeros_are [] each = refl
 zeros_are (x ∷ state) each = (let first : x ≡ 0 = each 0 (omega arith) in let rest : state ≡ replicate (length state) 0 = zeros_are state (λ j below. each (suc j) (omega arith)) in cc)
-
--- a word of a row is the same where its value is, or where neither row has one there
-pub row_same : (room : ℕ) (values more : List ℕ) (i : ℕ) → 1 ≤ i → i < suc room → ((k : ℕ) → i ≡ suc k → slice_index more k ≡ slice_index values k)
-    → slice_index (row_of room more) i ≡ slice_index (row_of room values) i
-row_same room values more zero one below same = absurd (omega arith)
-row_same room values more (suc k) one below same =
-    index-padded room more k (omega arith) ∙ same k refl ∙ sym (index-padded room values k (omega arith))
-
--- one more value changes the value behind the others alone, the first or the last one out those from its place on
-pub more_same : (b : _) (values : List ℕ) (v k : ℕ) → k ≢ length values → slice_index (if b then values ++ v ∷ [] else values) k ≡ slice_index values k
-more_same false values v k other = refl
-more_same true values v k other = elim (lt_cases k (length values)) [
-  | inl less ↦ get_or_append_left values (v ∷ []) 0 k less.0
-  | inr more ↦ index_beyond (values ++ v ∷ []) k (let l = length-append values (v ∷ []) in let m = more.0 in omega (arith, other, l, m)) ∙ sym (index_beyond values k more.0)
-]
-
-pub first_out_same : (values : List ℕ) (k : ℕ) → length values ≤ k → slice_index (drop 1 values) k ≡ slice_index values k
-first_out_same values k beyond = index_beyond (drop 1 values) k (let l = length-drop_less values in omega arith) ∙ sym (index_beyond values k beyond)
-
-pub last_out_same : (values : List ℕ) (k : ℕ) → (k < length values - 1) ⊎ (length values ≤ k) → slice_index (take (length values - 1) values) k ≡ slice_index values k
-last_out_same values k (inl before) = get_or-take (length values - 1) values k 0 before
-last_out_same values k (inr beyond) = index_beyond (take (length values - 1) values) k (let l = length-take_less (length values - 1) values in omega arith) ∙ sym (index_beyond values k beyond)
 
 -- states that are lists of no more elements than so many
 module _ {A I R : Type 0} (object : Sequential (List A) I R) (call_in : List ℕ → I) (most : ℕ)
@@ -146,13 +118,6 @@ taken_out room c values new j at last below few at_is last_is t = same_list new 
 
 module _ (capacity : ℕ) where
   -- no more values than fit
-  queue_few : (values : List ℕ) (inv : ℕ) → length values ≤ capacity → length (queue_next capacity values inv) ≤ capacity
-  queue_few values zero few = (let t = length-drop_less values in omega arith)
-  queue_few values (suc i) few = elim (lt_cases (length values) capacity) [
-    | inl less ↦ rw less.1 (let l = less.0 in let a = length-append values (suc i ∷ []) in omega arith)
-    | inr more ↦ rw more.1 few
-  ]
-
   stack_few : (values : List ℕ) (inv : ℕ) → length values ≤ capacity → length (stack_next capacity values inv) ≤ capacity
   stack_few values zero few = (let t = length-take_less (length values - 1) values in omega arith)
   stack_few values (suc i) few = elim (lt_cases (length values) capacity) [
@@ -160,22 +125,14 @@ module _ (capacity : ℕ) where
     | inr more ↦ rw more.1 few
   ]
 
-  pub queue_fits : Fits (bounded_queue capacity) (row_of capacity) values_in first_word
-  queue_fits values was = row_fits capacity values (reached_few (bounded_queue capacity) first_word capacity queue_few refl values was)
-
   pub stack_fits : Fits (bounded_stack capacity) (row_of capacity) values_in first_word
   stack_fits values was = row_fits capacity values (reached_few (bounded_stack capacity) first_word capacity stack_few refl values was)
 
-  -- the words of a queue and of a stack, by their values
+  -- the words of a stack, by its values
   pub record HasValues (words values : List ℕ) : Type 0 where
     pub few : length values ≤ capacity
     pub words_are : words ≡ row_of capacity values
     pub read : values_in words ≡ values
-
-  pub queue_values : (words : List ℕ) → IsStateOf (queue capacity) first_word words → (values : List ℕ) × HasValues words values
-  queue_values words was =
-      let h = reached_is (bounded_queue capacity) first_word (row_of capacity) values_in queue_fits words was in
-      (h.0, record { few = reached_few (bounded_queue capacity) first_word capacity queue_few refl h.0 h.1; words_are = h.2; read = h.3 })
 
   pub stack_values : (words : List ℕ) → IsStateOf (stack capacity) first_word words → (values : List ℕ) × HasValues words values
   stack_values words was =
@@ -192,42 +149,8 @@ module _ (capacity : ℕ) where
     pub word_is : (k : ℕ) → k < capacity → slice_index words (suc k) ≡ slice_index values k
     word_is k below = ap (λ w. slice_index w (suc k)) h.words_are ∙ index-padded capacity values k below
 
-    -- the words that an invocation of a queue doesn't touch
-    pub queue_alike : (inv i : ℕ) → 1 ≤ i → i < length words → ((inv ≡ 0) × (1 + length values ≤ i)) ⊎ ((inv ≢ 0) × (i ≢ 1 + length values))
-        → slice_index ((queue capacity).next words inv) i ≡ slice_index words i
-    queue_alike zero i one below (inl far) =
-        let w = wide in
-        ap (λ vs. slice_index (row_of capacity (drop 1 vs)) i) h.read
-        ∙ row_same capacity values (drop 1 values) i one (omega arith) (λ k e. first_out_same values k (let f = far.1 in omega arith)) ∙ ap (λ ws. slice_index ws i) (sym h.words_are)
-    queue_alike zero i one below (inr other) = absurd (other.0 refl)
-    queue_alike (suc v) i one below (inl far) = absurd (let f = far.0 in omega arith)
-    queue_alike (suc v) i one below (inr other) =
-        let w = wide in
-        ap (λ vs. slice_index (row_of capacity (if nat_lt (length vs) capacity then vs ++ suc v ∷ [] else vs)) i) h.read
-        ∙ row_same capacity values (if nat_lt (length values) capacity then values ++ suc v ∷ [] else values) i one (omega arith)
-        (λ k e. more_same (nat_lt (length values) capacity) values (suc v) k (let o = other.1 in omega (arith, o))) ∙ ap (λ ws. slice_index ws i) (sym h.words_are)
-
-    -- and those that one of a stack doesn't
-    pub stack_alike : (inv i : ℕ) → 1 ≤ i → i < length words
-        → ((inv ≡ 0) × ((i < length values) ⊎ (1 + length values ≤ i))) ⊎ ((inv ≢ 0) × (i ≢ 1 + length values))
-        → slice_index ((stack capacity).next words inv) i ≡ slice_index words i
-    stack_alike zero i one below (inl far) =
-        let w = wide in
-        ap (λ vs. slice_index (row_of capacity (take (length vs - 1) vs)) i) h.read
-        ∙ row_same capacity values (take (length values - 1) values) i one (omega arith) (λ k e. last_out_same values k (elim far.1 [
-          | inl before ↦ inl (omega (arith, before))
-          | inr beyond ↦ inr (omega (arith, beyond))
-        ])) ∙ ap (λ ws. slice_index ws i) (sym h.words_are)
-    stack_alike zero i one below (inr other) = absurd (other.0 refl)
-    stack_alike (suc v) i one below (inl far) = absurd (let f = far.0 in omega arith)
-    stack_alike (suc v) i one below (inr other) =
-        let w = wide in
-        ap (λ vs. slice_index (row_of capacity (if nat_lt (length vs) capacity then vs ++ suc v ∷ [] else vs)) i) h.read
-        ∙ row_same capacity values (if nat_lt (length values) capacity then values ++ suc v ∷ [] else values) i one (omega arith)
-        (λ k e. more_same (nat_lt (length values) capacity) values (suc v) k (let o = other.1 in omega (arith, o))) ∙ ap (λ ws. slice_index ws i) (sym h.words_are)
-
-    -- a value goes in behind the others
-    pub put_row : (v : ℕ) → slice_index words 0 < capacity
+    -- a value goes on the others
+    put_row : (v : ℕ) → slice_index words 0 < capacity
         → slice_set (slice_set words (1 + slice_index words 0) v) 0 (slice_index words 0 + 1) ≡ row_of capacity (values ++ v ∷ [])
     put_row v room =
         let less : length values < capacity = (let c = count_is in omega arith) in
@@ -238,63 +161,40 @@ module _ (capacity : ℕ) where
         ∙ ap (λ k. k ∷ slice_set (padded capacity values) (length values) v) one
         ∙ ap (λ p. length (values ++ v ∷ []) ∷ p) (pushed capacity values v less)
 
-    -- the first value is taken out
-    pub out_row : 1 ≤ slice_index words 0 → (moved : List ℕ) → IsTakenOut words moved 1 (slice_index words 0)
-        → slice_set moved 0 (slice_index words 0 - 1) ≡ row_of capacity (drop 1 values)
-    out_row some moved taken =
-        let row : moved ≡ row_of_rest = taken_out capacity (length values) values moved 0 1 (slice_index words 0) (let c = count_is in omega arith) h.few refl
-        count_is (subst (λ w. IsTakenOut w moved 1 (slice_index words 0)) h.words_are taken) in
-        ap (λ w. slice_set w 0 (slice_index words 0 - 1)) row
-        ∙ ap (λ c. c ∷ padded capacity (drop 1 values)) (ap (λ c. c - 1) count_is ∙ sym (fewer values)) where
-          row_of_rest : List ℕ
-          row_of_rest = length values ∷ padded capacity (drop 1 values)
+    pub put_state : (inv : ℕ) → inv ≢ 0 → slice_index words 0 < capacity
+        → slice_set (slice_set words (1 + slice_index words 0) inv) 0 (slice_index words 0 + 1) ≡ row_of capacity (stack_next capacity (values_in words) inv)
+    put_state zero some room = absurd (some refl)
+    put_state (suc i) some room = elim (lt_cases (length values) capacity) [
+      | inl less ↦
+          let after : stack_next capacity values (suc i) ≡ values ++ suc i ∷ [] = rw less.1 refl in
+          put_row (suc i) room ∙ ap (row_of capacity) (sym after) ∙ ap (λ vs. row_of capacity (stack_next capacity vs (suc i))) (sym h.read)
+      | inr more ↦ absurd (let m = more.0 in let c = count_is in omega arith)
+    ]
 
-          fewer : (vs : List ℕ) → length (drop 1 vs) ≡ length vs - 1
-          fewer [] = refl
-          fewer (v ∷ vs) = (let e : length vs ≡ suc (length vs) - 1 = omega arith in e)
+    pub full_state : (inv : ℕ) → inv ≢ 0 → capacity ≤ slice_index words 0 → words ≡ row_of capacity (stack_next capacity (values_in words) inv)
+    full_state zero some full = absurd (some refl)
+    full_state (suc i) some full = elim (lt_cases (length values) capacity) [
+      | inl less ↦ absurd (let l = less.0 in let c = count_is in omega arith)
+      | inr more ↦
+          let after : stack_next capacity values (suc i) ≡ values = rw more.1 refl in
+          h.words_are ∙ ap (row_of capacity) (sym after) ∙ ap (λ vs. row_of capacity (stack_next capacity vs (suc i))) (sym h.read)
+    ]
 
-    -- a value that goes in, to a queue and to a stack
-    module _ (next : List ℕ → ℕ → List ℕ) (same : (values : List ℕ) (i : ℕ) → next values (suc i) ≡ (if nat_lt (length values) capacity then values ++ suc i ∷ [] else values)) where
-      pub put_state : (inv : ℕ) → inv ≢ 0 → slice_index words 0 < capacity → slice_set (slice_set words (1 + slice_index words 0) inv) 0 (slice_index words 0 + 1) ≡ row_of capacity (next (values_in words) inv)
-      put_state zero some room = absurd (some refl)
-      put_state (suc i) some room = elim (lt_cases (length values) capacity) [
-        | inl less ↦
-            let after : next values (suc i) ≡ values ++ suc i ∷ [] = same values i ∙ rw less.1 refl in
-            put_row (suc i) room ∙ ap (row_of capacity) (sym after) ∙ ap (λ vs. row_of capacity (next vs (suc i))) (sym h.read)
-        | inr more ↦ absurd (let m = more.0 in let c = count_is in omega arith)
-      ]
+    pub put_reply : (inv : ℕ) → inv ≢ 0 → slice_index words 0 < capacity → 1 ≡ stack_answer capacity (values_in words) inv
+    put_reply zero some room = absurd (some refl)
+    put_reply (suc i) some room = elim (lt_cases (length values) capacity) [
+      | inl less ↦ (let after : stack_answer capacity values (suc i) ≡ 1 = rw less.1 refl in sym after ∙ ap (λ vs. stack_answer capacity vs (suc i)) (sym h.read))
+      | inr more ↦ absurd (let m = more.0 in let c = count_is in omega arith)
+    ]
 
-      pub full_state : (inv : ℕ) → inv ≢ 0 → capacity ≤ slice_index words 0 → words ≡ row_of capacity (next (values_in words) inv)
-      full_state zero some full = absurd (some refl)
-      full_state (suc i) some full = elim (lt_cases (length values) capacity) [
-        | inl less ↦ absurd (let l = less.0 in let c = count_is in omega arith)
-        | inr more ↦
-            let after : next values (suc i) ≡ values = same values i ∙ rw more.1 refl in
-            h.words_are ∙ ap (row_of capacity) (sym after) ∙ ap (λ vs. row_of capacity (next vs (suc i))) (sym h.read)
-      ]
+    pub full_reply : (inv : ℕ) → inv ≢ 0 → capacity ≤ slice_index words 0 → 0 ≡ stack_answer capacity (values_in words) inv
+    full_reply zero some full = absurd (some refl)
+    full_reply (suc i) some full = elim (lt_cases (length values) capacity) [
+      | inl less ↦ absurd (let l = less.0 in let c = count_is in omega arith)
+      | inr more ↦ (let after : stack_answer capacity values (suc i) ≡ 0 = rw more.1 refl in sym after ∙ ap (λ vs. stack_answer capacity vs (suc i)) (sym h.read))
+    ]
 
-    module _ (answer : List ℕ → ℕ → ℕ) (same : (values : List ℕ) (i : ℕ) → answer values (suc i) ≡ (if nat_lt (length values) capacity then 1 else 0)) where
-      pub put_reply : (inv : ℕ) → inv ≢ 0 → slice_index words 0 < capacity → 1 ≡ answer (values_in words) inv
-      put_reply zero some room = absurd (some refl)
-      put_reply (suc i) some room = elim (lt_cases (length values) capacity) [
-        | inl less ↦ (let after : answer values (suc i) ≡ 1 = same values i ∙ rw less.1 refl in sym after ∙ ap (λ vs. answer vs (suc i)) (sym h.read))
-        | inr more ↦ absurd (let m = more.0 in let c = count_is in omega arith)
-      ]
-
-      pub full_reply : (inv : ℕ) → inv ≢ 0 → capacity ≤ slice_index words 0 → 0 ≡ answer (values_in words) inv
-      full_reply zero some full = absurd (some refl)
-      full_reply (suc i) some full = elim (lt_cases (length values) capacity) [
-        | inl less ↦ absurd (let l = less.0 in let c = count_is in omega arith)
-        | inr more ↦ (let after : answer values (suc i) ≡ 0 = same values i ∙ rw more.1 refl in sym after ∙ ap (λ vs. answer vs (suc i)) (sym h.read))
-      ]
-
-    -- nothing is taken out of none
-    pub none_queued : slice_index words 0 ≡ 0 → words ≡ row_of capacity (queue_next capacity (values_in words) 0)
-    none_queued none = h.words_are ∙ ap (row_of capacity) (nil values (sym count_is ∙ none)) ∙ ap (λ vs. row_of capacity (queue_next capacity vs 0)) (sym h.read) where
-      nil : (vs : List ℕ) → length vs ≡ 0 → vs ≡ drop 1 vs
-      nil [] e = refl
-      nil (v ∷ vs) e = absurd (omega arith)
-
+    -- nothing is taken off none
     pub none_stacked : slice_index words 0 ≡ 0 → words ≡ row_of capacity (stack_next capacity (values_in words) 0)
     none_stacked none = h.words_are ∙ ap (row_of capacity) (nil values (sym count_is ∙ none)) ∙ ap (λ vs. row_of capacity (stack_next capacity vs 0)) (sym h.read) where
       nil : (vs : List ℕ) → length vs ≡ 0 → vs ≡ take (length vs - 1) vs
@@ -323,10 +223,21 @@ module _ (capacity : ℕ) where
         let less : k ≡ length values - 1 = omega arith in
         ap (slice_index words) some ∙ word_is k (let f = h.few in omega arith) ∙ ap (slice_index values) less ∙ ap (λ vs. slice_index vs (length vs - 1)) (sym h.read)
 
-    -- the oldest value is taken out
-    pub out_state : 1 ≤ slice_index words 0 → (moved : List ℕ) → IsTakenOut words moved 1 (slice_index words 0)
-        → slice_set moved 0 (slice_index words 0 - 1) ≡ row_of capacity (queue_next capacity (values_in words) 0)
-    out_state some moved taken = out_row some moved taken ∙ ap (λ vs. row_of capacity (queue_next capacity vs 0)) (sym h.read)
-
-    pub out_reply : (k : ℕ) → slice_index words 0 ≡ suc k → slice_index words 1 ≡ slice_index (values_in words) 0
-    out_reply k some = word_is 0 (let f = h.few in let c = count_is in omega arith) ∙ ap (λ vs. slice_index vs 0) (sym h.read)
+    -- the words that an invocation doesn't touch
+    pub stack_alike : (inv i : ℕ) → 1 ≤ i → ((inv ≡ 0) × (i ≢ slice_index words 0)) ⊎ ((inv ≢ 0) × (i ≢ 1 + slice_index words 0))
+        → slice_index ((stack capacity).next words inv) i ≡ slice_index words i
+    stack_alike inv i one (inl off) =
+        subst (λ inv. slice_index ((stack capacity).next words inv) i ≡ slice_index words i) (sym off.0) (by_count (slice_index words 0) refl) where
+          by_count : (count : ℕ) → slice_index words 0 ≡ count → slice_index ((stack capacity).next words 0) i ≡ slice_index words i
+          by_count zero none = ap (λ w. slice_index w i) (sym (none_stacked none))
+          by_count (suc k) some =
+              ap (λ w. slice_index w i) (sym (off_state k some))
+              ∙ get_or-set_other (slice_set words (slice_index words 0) 0) 0 i (slice_index words 0 - 1) 0 (λ e. omega (arith, e))
+              ∙ get_or-set_other words (slice_index words 0) i 0 0 off.1
+    stack_alike inv i one (inr on) = elim (lt_cases (slice_index words 0) capacity) [
+      | inl room ↦
+          ap (λ w. slice_index w i) (sym (put_state inv on.0 room.0))
+          ∙ get_or-set_other (slice_set words (1 + slice_index words 0) inv) 0 i (slice_index words 0 + 1) 0 (λ e. omega (arith, e))
+          ∙ get_or-set_other words (1 + slice_index words 0) i inv 0 on.1
+      | inr full ↦ ap (λ w. slice_index w i) (sym (full_state inv on.0 full.0))
+    ]

@@ -8,6 +8,7 @@ pub mod Padded
 pub mod Placed
 pub mod Queue
 pub mod Register
+pub mod Ring
 pub mod Rooms
 pub mod ScriptQueue
 pub mod Stack

@@ -8,8 +8,8 @@ use Rattle.ready_objects.specs.declared.queue.QueueInv.TheVariants.{Deq, Enq}
 use Rattle.ready_objects.specs.declared.queue.QueueResp.{QueueResp}
 use Rattle.ready_objects.specs.declared.queue.QueueResp.TheVariants.{Added, Empty, Full, Taken}
 use Rattle.small_objects.specs.Amount.{IsAmount, amount_fits, amount_in, amount_words, is_amount, is_amount-true}
-use Rattle.small_objects.specs.Encoding.{encoded, in_words, steady_in_words}
-use Rattle.small_objects.specs.Padded.{row_of, row_wide, values_in}
+use Rattle.small_objects.specs.Encoding.{in_words, steady_in_words}
+use Rattle.small_objects.specs.Ring.{ring_queue, ring_steady}
 
 -- the values after a call: as those of scripts, but at most so many
 abbrev pub values_after : (capacity : ℕ) → List ℕ → QueueInv → List ℕ
@@ -78,25 +78,29 @@ reply_fits Full is = refl
 reply_fits (Taken v) is = rw (is_amount-true v is) refl
 reply_fits Empty is = refl
 
--- the queue on words, and with its calls and replies in words
+-- the queue in a ring of words, and with its calls and replies in words
 abbrev pub on_words : (capacity : ℕ) → Sequential (List ℕ) QueueInv QueueResp
-on_words capacity = encoded (queue_of capacity) (row_of capacity) values_in
+on_words capacity = ring_queue capacity (queue_of capacity)
 
 abbrev pub spelled : (capacity : ℕ) → Meaning
 spelled capacity = record { object = in_words (on_words capacity) call_in reply_words; invocation = 2; reply = 2 }
 
 pub queue_steady : (capacity : ℕ) → IsSteady (spelled capacity).object 2
 queue_steady capacity = steady_in_words (on_words capacity) call_in reply_words 2
-    (λ state call long. row_wide capacity (values_after capacity (values_in state) call)) reply_long
+    (λ state call long. ring_steady capacity (queue_of capacity) state call) reply_long
 
-sample_put : (spelled 4).object.next (1 ∷ 8 ∷ 0 ∷ 0 ∷ 0 ∷ []) (1 ∷ 9 ∷ []) ≡ 2 ∷ 8 ∷ 9 ∷ 0 ∷ 0 ∷ []
+-- behind the last slot comes the first one: 9 goes in there, and then 8 is taken out of the last
+sample_put : (spelled 4).object.next (1 ∷ 3 ∷ 0 ∷ 0 ∷ 0 ∷ 8 ∷ []) (1 ∷ 9 ∷ []) ≡ 2 ∷ 3 ∷ 9 ∷ 0 ∷ 0 ∷ 8 ∷ []
 sample_put = refl
 
-sample_full : (spelled 1).object.answer (1 ∷ 8 ∷ []) (1 ∷ 9 ∷ []) ≡ 1 ∷ 0 ∷ []
+sample_out : (spelled 4).object.next (2 ∷ 3 ∷ 9 ∷ 0 ∷ 0 ∷ 8 ∷ []) (0 ∷ 0 ∷ []) ≡ 1 ∷ 0 ∷ 9 ∷ 0 ∷ 0 ∷ 0 ∷ []
+sample_out = refl
+
+sample_full : (spelled 1).object.answer (1 ∷ 0 ∷ 8 ∷ []) (1 ∷ 9 ∷ []) ≡ 1 ∷ 0 ∷ []
 sample_full = refl
 
-sample_taken : (spelled 1).object.answer (1 ∷ 8 ∷ []) (0 ∷ 0 ∷ []) ≡ 2 ∷ 8 ∷ []
+sample_taken : (spelled 1).object.answer (1 ∷ 0 ∷ 8 ∷ []) (0 ∷ 0 ∷ []) ≡ 2 ∷ 8 ∷ []
 sample_taken = refl
 
-sample_empty : (spelled 1).object.answer (0 ∷ 0 ∷ []) (0 ∷ 0 ∷ []) ≡ 3 ∷ 0 ∷ []
+sample_empty : (spelled 1).object.answer (0 ∷ 0 ∷ 0 ∷ []) (0 ∷ 0 ∷ []) ≡ 3 ∷ 0 ∷ []
 sample_empty = refl

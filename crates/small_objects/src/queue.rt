@@ -1,14 +1,17 @@
 //! A bounded queue.
-ghost use Rattle.std.specs.Prelude.{◌≡◌, length, refl};
-ghost use Rattle.small_objects.specs.Queue.{queue, queue_steady};
-ghost use Rattle.small_objects.specs.Encoding.{IsStateOf, first_word, of_one_word};
+ghost use Rattle.std.specs.Prelude.{List, [], ℕ, ◌≡◌, length, map, refl};
+ghost use Rattle.seq_object.specs.History.{state_after};
+ghost use Rattle.small_objects.specs.Encoding.{IsStateOf, first_word, of_one_word, one_word};
+ghost use Rattle.small_objects.specs.Queue.{bounded_queue, queue, queue_steady};
+ghost use Rattle.small_objects.specs.Ring.{ring_in, ring_words};
 
-use crate::row::{clear, take_out};
+use crate::ring::{end_of, first_of, put_last, take_first, touching};
+use crate::row::clear;
 use uni_small::{SmallObject, Touched};
 
 /// A queue of numbers that aren't 0, at most so many. An invocation that isn't 0 puts its number in, and is
 /// answered 1, or 0 where the queue is full; 0 takes the oldest number out, and is answered it, or 0 where
-/// there is none. Its state is how many there are, and then they, the oldest first.
+/// there is none. Its state is how many there are, the slot of the oldest one, and a ring of slots.
 #[derive(Clone, Copy, Debug, Drop)]
 pub struct SmallQueue {
     /// How many numbers fit.
@@ -23,20 +26,16 @@ impl SmallQueue {
         ensures state { state.new ≡ (queue self.now.capacity).next state.old inv }
         ensures reply { result ≡ (queue self.now.capacity).answer state.old inv }
     {
-        let count = state[0] as usize;
         if inv == 0 {
-            if count == 0 {
+            if state[0] == 0 {
                 return 0;
             }
-            let first = take_out(state, 1, count);
-            state[0] = count as u64 - 1;
-            return first;
+            return take_first(state);
         }
-        if count >= self.capacity as usize {
+        if state[0] >= self.capacity as u64 {
             return 0;
         }
-        state[1 + count] = inv;
-        state[0] = count as u64 + 1;
+        put_last(state, inv);
         1
     }
 }
@@ -46,7 +45,7 @@ impl SmallObject for SmallQueue {
     ghost meaning = { λ o. of_one_word (queue o.capacity) };
 
     fn width(&self) -> u64 {
-        self.capacity as u64 + 1
+        self.capacity as u64 + 2
     }
 
     fn invocation_width(&self) -> u64 {
@@ -66,14 +65,29 @@ impl SmallObject for SmallQueue {
     }
 
     fn touches(&self, state: &[u64], invocation: &[u64]) -> Touched {
-        let end = state[0] + 1;
-        let (from, to) = if invocation[0] == 0 {
-            (1, end)
+        let slot = if invocation[0] == 0 {
+            first_of(state)
         } else {
-            (end, end + 1)
+            end_of(state)
         };
-        Touched { head: 1, from, to }
+        touching(slot)
     }
 
     ghost steady = { λ o state inv long. (queue_steady o.capacity state (first_word inv) long, refl) };
 }
+
+/// The queue on words is the plain one, a list of at most so many values: after invocations in words the values in
+/// the ring are those of the list, the oldest first, and the next reply is the list's. The words are the ring's, with 0
+/// in each slot without a value. The call does nothing: it tells what holds of each capacity.
+pub fn ring_answers_as_the_queue()
+    ensures values { (capacity : ℕ) (is : List (List ℕ)) → let words = (of_one_word (queue capacity)).object in
+        (ring_in (state_after words words.initial is)).values
+        ≡ state_after (bounded_queue capacity) [] (map first_word is) }
+    ensures replies { (capacity : ℕ) (is : List (List ℕ)) (i : List ℕ) →
+        let words = (of_one_word (queue capacity)).object in
+        words.answer (state_after words words.initial is) i
+        ≡ one_word ((bounded_queue capacity).answer (state_after (bounded_queue capacity) [] (map first_word is))
+        (first_word i)) }
+    ensures words { (capacity : ℕ) (is : List (List ℕ)) → let words = (of_one_word (queue capacity)).object in
+        state_after words words.initial is ≡ ring_words capacity (ring_in (state_after words words.initial is)) }
+{}

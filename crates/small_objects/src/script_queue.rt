@@ -5,15 +5,16 @@ ghost use Rattle.ready_objects.specs.declared.queue.QueueInv.{QueueInv};
 ghost use Rattle.seq_object.specs.History.{state_after};
 ghost use Rattle.small_objects.specs.Amount.{amount_long};
 ghost use Rattle.small_objects.specs.Encoding.{IsStateOf};
-ghost use Rattle.small_objects.specs.Padded.{row_of};
+ghost use Rattle.small_objects.specs.Ring.{ring_in, ring_words};
 ghost use Rattle.small_objects.specs.ScriptQueue.{IsCall, IsReply, call_fits, call_in, call_words, on_words, put_by};
 ghost use Rattle.small_objects.specs.ScriptQueue.{queue_of, queue_steady, reply_fits, reply_in, reply_long};
 ghost use Rattle.small_objects.specs.ScriptQueue.{reply_words, spelled};
 
-use crate::row::{clear, take_out};
+use crate::ring::{end_of, first_of, put_last, take_first, touching};
+use crate::row::clear;
 use crate::words::Words;
 use ready_objects::{Amount, QueueInv, QueueResp};
-use uni_small::SmallObject;
+use uni_small::{SmallObject, Touched};
 
 impl Words for QueueInv {
     ghost words = { 2 };
@@ -91,7 +92,7 @@ impl Words for QueueResp {
 }
 
 /// The queue of scripts, of at most so many values: with room for 1,000 it is that of scripts. Its state is how many
-/// values there are, and then they, the first of them first.
+/// values there are, the slot of the first of them, and a ring of slots.
 #[derive(Clone, Copy, Debug, Drop)]
 pub struct SmallScriptQueue {
     /// How many values fit.
@@ -101,31 +102,29 @@ pub struct SmallScriptQueue {
 impl SmallScriptQueue {
     /// Puts a value last.
     fn enqueue(&self, state: &mut [u64], value: Amount) -> QueueResp
-        requires { IsStateOf (on_words self.now.capacity) call_in state.old }
+        requires wide { length state.old ≡ length (on_words self.now.capacity).initial }
+        requires reached { IsStateOf (on_words self.now.capacity) call_in state.old }
         ensures state { state.new ≡ (on_words self.now.capacity).next state.old (QueueInv.Enq value) }
         ensures reply { result ≡ (on_words self.now.capacity).answer state.old (QueueInv.Enq value) }
     {
-        let count = state[0] as usize;
-        if count >= self.capacity as usize {
+        if state[0] >= self.capacity as u64 {
             return QueueResp::Full;
         }
-        state[1 + count] = value.number();
-        state[0] = count as u64 + 1;
+        put_last(state, value.number());
         QueueResp::Added
     }
 
     /// Takes out the first value.
     fn dequeue(&self, state: &mut [u64]) -> QueueResp
-        requires { IsStateOf (on_words self.now.capacity) call_in state.old }
+        requires wide { length state.old ≡ length (on_words self.now.capacity).initial }
+        requires reached { IsStateOf (on_words self.now.capacity) call_in state.old }
         ensures state { state.new ≡ (on_words self.now.capacity).next state.old QueueInv.Deq }
         ensures reply { result ≡ (on_words self.now.capacity).answer state.old QueueInv.Deq }
     {
-        let count = state[0] as usize;
-        if count == 0 {
+        if state[0] == 0 {
             return QueueResp::Empty;
         }
-        let first = take_out(state, 1, count);
-        state[0] = count as u64 - 1;
+        let first = take_first(state);
         let Some(value) = Amount::new(first) else {
             unreachable!()
         };
@@ -138,7 +137,7 @@ impl SmallObject for SmallScriptQueue {
     ghost meaning = { λ o. spelled o.capacity };
 
     fn width(&self) -> u64 {
-        self.capacity as u64 + 1
+        self.capacity as u64 + 2
     }
 
     fn invocation_width(&self) -> u64 {
@@ -161,16 +160,30 @@ impl SmallObject for SmallScriptQueue {
         told.store(reply);
     }
 
+    fn touches(&self, state: &[u64], invocation: &[u64]) -> Touched {
+        let slot = match QueueInv::load(invocation) {
+            QueueInv::Enq(_) => end_of(state),
+            QueueInv::Deq => first_of(state),
+        };
+        touching(slot)
+    }
+
     ghost steady = { λ o. queue_steady o.capacity };
 }
 
-/// The queue on words is the plain one of that capacity: after invocations in words the words are those of its
-/// values. With room for 1,000 values it is the queue of scripts, call by call; with less room it is so as long as
-/// fewer values are in it than fit. The call does nothing: it tells what holds of each queue.
+/// The queue on words is the plain one of that capacity: after invocations in words the values in the ring are its
+/// values, and the next reply is its reply. The words are the ring's, with 0 in each slot without a value. With room for
+/// 1,000 values it is the queue of scripts, call by call; with less room it is so as long as fewer values are in it than
+/// fit. The call does nothing: it tells what holds of each queue.
 pub fn small_queue_follows_plain()
-    ensures states { (capacity : ℕ) (is : List (List ℕ)) → let words = (spelled capacity).object in
-        state_after words words.initial is
-        ≡ row_of capacity (state_after (queue_of capacity) [] (map call_in is)) }
+    ensures values { (capacity : ℕ) (is : List (List ℕ)) → let words = (spelled capacity).object in
+        (ring_in (state_after words words.initial is)).values
+        ≡ state_after (queue_of capacity) [] (map call_in is) }
+    ensures replies { (capacity : ℕ) (is : List (List ℕ)) (i : List ℕ) → let words = (spelled capacity).object in
+        words.answer (state_after words words.initial is) i
+        ≡ reply_words ((queue_of capacity).answer (state_after (queue_of capacity) [] (map call_in is)) (call_in i)) }
+    ensures words { (capacity : ℕ) (is : List (List ℕ)) → let words = (spelled capacity).object in
+        state_after words words.initial is ≡ ring_words capacity (ring_in (state_after words words.initial is)) }
     ensures scripts { (values : List ℕ) (call : QueueInv) →
         ((queue_of 1000).next values call ≡ queue.next values call)
         × ((queue_of 1000).answer values call ≡ queue.answer values call) }

@@ -131,17 +131,19 @@ fn unmark_taken(marks: &mut [bool], replies: &[u64]) -> bool {
     true
 }
 
-/// Unmarks the values that the queue's state has.
+/// Unmarks the values that the queue's state has: they are in its slots, and 0 is in the others.
 fn unmark_left(marks: &mut [bool], state: &[u64]) -> bool {
-    let Some((count, values)) = state.split_first() else {
-        return false;
-    };
-    for value in values.iter().take(*count as usize) {
+    let mut left = 0u64;
+    for value in state.iter().skip(2) {
+        if *value == 0 {
+            continue;
+        }
         if !unmark(marks, *value) {
             return false;
         }
+        left = left.wrapping_add(1);
     }
-    true
+    state.first() == Some(&left)
 }
 
 /// The replies that four threads are given on the queue, which is closed then with the seat of the first one; its
@@ -193,7 +195,7 @@ fn unmark_all_refused(rt: &impl Abort, marks: &mut [bool], all: &[Vec<u64>]) {
 /// Each value that went into the queue came out once, or is left.
 #[test]
 fn four_threads_on_a_queue(rt: HostRuntime) -> Result<(), Fail> {
-    let mut state = [0; 65];
+    let mut state = [0; 66];
     let all = replies_and_state(&rt, rt.alloc(), &mut state);
     let mut marks = vec![in rt.alloc(); true; 1 + 4 * VALUES as usize]?;
     unmark_all_refused(&rt, &mut marks, &all);

@@ -13,6 +13,7 @@ use Rattle.small_objects.specs.Map.{spelled as map, map_steady}
 use Rattle.small_objects.specs.Padded.{length-padded}
 use Rattle.small_objects.specs.Queue.{queue, queue_steady}
 use Rattle.small_objects.specs.Register.{spelled as register}
+use Rattle.small_objects.specs.Ring.{ring_wide}
 use Rattle.small_objects.specs.Stack.{stack, stack_steady}
 use Rattle.word_objects.specs.Machine.{small_machine}
 use Rattle.universal_c.specs.declared.small_kind.SmallKind.{SmallKind}
@@ -34,7 +35,7 @@ abbrev pub state_words : SmallKind → ℕ
 state_words Counter = 1
 state_words Register = 1
 state_words (Counters c) = c.count
-state_words (Queue q) = q.capacity + 1
+state_words (Queue q) = q.capacity + 2
 state_words (Stack s) = s.capacity + 1
 state_words (Map m) = 2 * m.capacity + 1
 state_words Book = 16
@@ -58,7 +59,7 @@ pub state_long : (kind : SmallKind) → length (small_meaning kind).object.initi
 state_long Counter = refl
 state_long Register = refl
 state_long (Counters c) = length-replicate c.count 0
-state_long (Queue q) = let e = length-padded q.capacity [] in omega arith
+state_long (Queue q) = let e = ring_wide q.capacity (record { start = 0; values = [] }) in omega arith
 state_long (Stack s) = let e = length-padded s.capacity [] in omega arith
 state_long (Map m) = let e = length-padded (2 * m.capacity) [] in omega arith
 state_long Book = refl

@@ -97,7 +97,7 @@ pub extern "C" fn universal_open_counters(
 }
 
 /// Opens a queue of at most `capacity` numbers, for n processes.
-/// 1: `n` isn't from 1 to 64. 10: `capacity` is more than 65,535. 3: memory was refused. After each the handle
+/// 1: `n` isn't from 1 to 64. 10: `capacity` is more than 65,534. 3: memory was refused. After each the handle
 /// is as before; else what it had is dropped.
 #[unsafe(no_mangle)]
 pub extern "C" fn universal_open_queue(
@@ -107,7 +107,7 @@ pub extern "C" fn universal_open_queue(
     object: &mut Handle,
 ) -> u32
     ensures count { (result ≡ 1) ↔ ((n ≡ 0) ⊎ (64 < n)) }
-    ensures capacity { (result ≡ 10) ↔ ((1 ≤ n) × (n ≤ 64) × (65535 < capacity)) }
+    ensures capacity { (result ≡ 10) ↔ ((1 ≤ n) × (n ≤ 64) × (65534 < capacity)) }
     ensures status { (result ≡ 0) ⊎ (result ≡ 1) ⊎ (result ≡ 3) ⊎ (result ≡ 10) }
     ensures unchanged { result ≢ 0 → object.new ≡ object.old }
     ensures opened { result ≡ 0 → HasOpenedSmall object.new.value (Queue (record { capacity = capacity })) n }
@@ -115,7 +115,8 @@ pub extern "C" fn universal_open_queue(
     open(alloc, SmallKind::Queue(SmallQueue { capacity }), n, object)
 }
 
-/// Opens a stack of at most `capacity` numbers, with the statuses of `universal_open_queue`.
+/// Opens a stack of at most `capacity` numbers, with the statuses of `universal_open_queue`: 10 where `capacity` is
+/// more than 65,535.
 #[unsafe(no_mangle)]
 pub extern "C" fn universal_open_stack(
     alloc: Global,

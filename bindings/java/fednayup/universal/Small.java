@@ -308,18 +308,21 @@ public final class Small<S extends Small.Seat> implements AutoCloseable {
         }
     }
 
-    /** A seat of a queue of numbers that aren't 0. A state is how many there are, and then they, the oldest one first. */
+    /**
+     * A seat of a queue of numbers that aren't 0. A state is how many there are, the slot of the oldest one, and the slots,
+     * from 0. Behind that slot come the others in their order, and behind the last slot the first one.
+     */
     public static final class Queue extends Seat {
         Queue(Place place, long process, int width) {
             super(place, process, width);
         }
 
         /**
-         * A queue of at most {@code capacity} numbers for n processes; a copy is 1 + capacity words. Refused: capacity
-         * is more than 65,535.
+         * A queue of at most {@code capacity} numbers for n processes; a copy is 2 + capacity words. Refused: capacity
+         * is more than 65,534.
          */
         public static Small<Queue> open(long n, int capacity) throws Refused {
-            return opened(Universal.OPEN_QUEUE, n, capacity, 1 + capacity, Queue::new);
+            return opened(Universal.OPEN_QUEUE, n, capacity, 2 + capacity, Queue::new);
         }
 
         /** Puts a number in, if there is room. */
@@ -339,7 +342,10 @@ public final class Small<S extends Small.Seat> implements AutoCloseable {
             super(place, process, width);
         }
 
-        /** A stack of at most {@code capacity} numbers for n processes. Copies and refusal are those of a queue. */
+        /**
+         * A stack of at most {@code capacity} numbers for n processes; a copy is 1 + capacity words. Refused: capacity is
+         * more than 65,535.
+         */
         public static Small<Stack> open(long n, int capacity) throws Refused {
             return opened(Universal.OPEN_STACK, n, capacity, 1 + capacity, Stack::new);
         }

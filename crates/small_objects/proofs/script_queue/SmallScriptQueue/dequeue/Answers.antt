@@ -1,60 +1,50 @@
-use Rattle.small_objects.proofs.Vocabulary.{Taken, ap, arith, slice_index, subst, sym, ◌∙◌, ◌≡◌, ◌≢◌, ◌≤◌}
-use Rattle.small_objects.proofs.Rows.{count_is, wide}
-use Rattle.small_objects.proofs.Scripts.{first_small, nothing, nothing_reply, script_values, taken, taken_reply}
+use Rattle.small_objects.proofs.Vocabulary.{Taken, ap, arith, slice_index, subst, sym, ◌∙◌, ◌≢◌, ◌≤◌}
+use Rattle.ready_objects.specs.declared.queue.QueueInv.TheVariants.{Deq}
+use Rattle.small_objects.specs.ScriptQueue.{queue_of}
+use Rattle.small_objects.proofs.Rings.{is_ring, none_next, take_next}
+use Rattle.small_objects.proofs.Scripts.{first_small, nothing_reply, script_ring, taken_reply, takes}
 use Rattle.small_objects.proofs.script_queue.SmallScriptQueue.dequeue.Goals as goal
 
-pub bounds-state-0 : goal.bounds-state-0
-bounds-state-0 c =
+pub returns-then-state-eq0-clause-state : goal.returns-then-state-eq0-clause-state
+returns-then-state-eq0-clause-state c =
     let words = c.args.state.now in
     let room = c.args.self.now.capacity in
-    let v = script_values room words c.requires in
-    let w = wide room words v.0 v.1.row in
-    omega arith
+    let r = script_ring room words c.requires.reached in
+    none_next room words r.0 r.1 (queue_of room) Deq (takes room r.0.values) c.if-state-eq0.true
 
-pub returns-then-count-eq0-clause-state : goal.returns-then-count-eq0-clause-state
-returns-then-count-eq0-clause-state c =
+pub returns-then-state-eq0-clause-reply : goal.returns-then-state-eq0-clause-reply
+returns-then-state-eq0-clause-reply c =
     let words = c.args.state.now in
     let room = c.args.self.now.capacity in
-    let v = script_values room words c.requires in
-    nothing room words v.0 v.1 c.if-count-eq0.true
+    let r = script_ring room words c.requires.reached in
+    nothing_reply room words r.0 r.1 c.if-state-eq0.true
 
-pub take_out-first-requires : goal.take_out-first-requires
-take_out-first-requires c =
-    let words = c.args.state.now in
+pub take_first-first-requires-clause-ring : goal.take_first-first-requires-clause-ring
+take_first-first-requires-clause-ring c =
     let room = c.args.self.now.capacity in
-    let v = script_values room words c.requires in
-    let w = wide room words v.0 v.1.row in
-    let e = count_is room words v.0 v.1.row in
-    let few = v.1.row.few in
-    let other : slice_index words 0 ≢ 0 = c.if-count-eq0.false in
-    let some : 1 ≤ slice_index words 0 = omega (arith, other) in
-    record { inside = (some, omega arith) }
+    let r = script_ring room c.args.state.now c.requires.reached in
+    is_ring room c.args.state.now r.0 r.1
 
 pub unreachable-requires : goal.unreachable-requires
 unreachable-requires c =
     let words = c.args.state.now in
     let room = c.args.self.now.capacity in
-    let v = script_values room words c.requires in
-    let other : slice_index words 0 ≢ 0 = c.if-count-eq0.false in
-    let some : 1 ≤ slice_index words 0 = omega (arith, other) in
-    c.in_default.ensures (subst (λ n. n ≤ 999999999999) (sym c.take_out-first.ensures.taken) (first_small room words v.0 v.1 some))
+    let r = script_ring room words c.requires.reached in
+    let some : slice_index words 0 ≢ 0 = c.if-state-eq0.false in
+    c.in_default.ensures (subst (λ n. n ≤ 999999999999) (sym c.take_first-first.ensures.first) (first_small room words r.0 r.1 (omega (arith, some)) r.2))
 
 pub returns-clause-state : goal.returns-clause-state
 returns-clause-state c =
     let words = c.args.state.now in
     let room = c.args.self.now.capacity in
-    let v = script_values room words c.requires in
-    let other : slice_index words 0 ≢ 0 = c.if-count-eq0.false in
-    let some : 1 ≤ slice_index words 0 = omega (arith, other) in
-    let s = c.take_out-first.ensures in
-    taken room words v.0 v.1 some c.take_out-first.new.state
-    (record { long = s.long; before = s.before; moved = s.moved; cleared = s.cleared; others = s.others })
+    let r = script_ring room words c.requires.reached in
+    let some : slice_index words 0 ≢ 0 = c.if-state-eq0.false in
+    c.take_first-first.ensures.state ∙ take_next room words r.0 r.1 (queue_of room) Deq (takes room r.0.values) (omega (arith, some))
 
 pub returns-clause-reply : goal.returns-clause-reply
 returns-clause-reply c =
     let words = c.args.state.now in
     let room = c.args.self.now.capacity in
-    let v = script_values room words c.requires in
-    let other : slice_index words 0 ≢ 0 = c.if-count-eq0.false in
-    let some : 1 ≤ slice_index words 0 = omega (arith, other) in
-    ap Taken (c.in-Some.ensures.1 ∙ c.take_out-first.ensures.taken) ∙ taken_reply room words v.0 v.1 some
+    let r = script_ring room words c.requires.reached in
+    let some : slice_index words 0 ≢ 0 = c.if-state-eq0.false in
+    ap Taken (c.in-Some.ensures.1 ∙ c.take_first-first.ensures.first) ∙ taken_reply room words r.0 r.1 (omega (arith, some))

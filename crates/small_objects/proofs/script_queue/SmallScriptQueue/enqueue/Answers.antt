@@ -1,58 +1,53 @@
-use Rattle.std.proofs.Common.{◌≡◌, ◌≢◌, ◌≤◌, slice_index, arith, length-set, ◌+◌}
-use Rattle.small_objects.proofs.Rows.{count_is, wide}
-use Rattle.small_objects.proofs.Scripts.{added, added_reply, refused, refused_reply, script_values}
+use Rattle.small_objects.proofs.Vocabulary.{ap, arith, refl, ◌∙◌}
+use Rattle.small_objects.specs.Ring.{with_last}
+use Rattle.small_objects.specs.ScriptQueue.{queue_of}
+use Rattle.ready_objects.specs.declared.queue.QueueInv.TheVariants.{Enq}
+use Rattle.small_objects.proofs.Rings.{full_next, is_ring, put_next, wide}
+use Rattle.small_objects.proofs.Scripts.{added_reply, refused_reply, script_ring}
 use Rattle.small_objects.proofs.script_queue.SmallScriptQueue.enqueue.Goals as goal
 
-pub bounds-state-0 : goal.bounds-state-0
-bounds-state-0 c =
+pub returns-then-state-self-clause-state : goal.returns-then-state-self-clause-state
+returns-then-state-self-clause-state c =
     let words = c.args.state.now in
     let room = c.args.self.now.capacity in
-    let v = script_values room words c.requires in
-    let w = wide room words v.0 v.1.row in
-    omega arith
+    let r = script_ring room words c.requires.reached in
+    full_next room words r.0 r.1 (queue_of room) (Enq c.args.value) c.args.value refl c.if-state-self.true
 
-pub returns-then-count-self-clause-state : goal.returns-then-count-self-clause-state
-returns-then-count-self-clause-state c =
+pub returns-then-state-self-clause-reply : goal.returns-then-state-self-clause-reply
+returns-then-state-self-clause-reply c =
     let words = c.args.state.now in
     let room = c.args.self.now.capacity in
-    let v = script_values room words c.requires in
-    refused room words v.0 v.1 c.args.value c.if-count-self.true
+    let r = script_ring room words c.requires.reached in
+    refused_reply room words r.0 r.1 c.args.value c.if-state-self.true
 
-pub returns-then-count-self-clause-reply : goal.returns-then-count-self-clause-reply
-returns-then-count-self-clause-reply c =
-    let words = c.args.state.now in
+pub put_last-requires-clause-ring : goal.put_last-requires-clause-ring
+put_last-requires-clause-ring c =
     let room = c.args.self.now.capacity in
-    let v = script_values room words c.requires in
-    refused_reply room words v.0 v.1 c.args.value c.if-count-self.true
+    let r = script_ring room c.args.state.now c.requires.reached in
+    is_ring room c.args.state.now r.0 r.1
 
-pub bounds-state-count : goal.bounds-state-count
-bounds-state-count c =
+pub put_last-requires-clause-room : goal.put_last-requires-clause-room
+put_last-requires-clause-room c =
     let words = c.args.state.now in
     let room = c.args.self.now.capacity in
-    let v = script_values room words c.requires in
-    let w = wide room words v.0 v.1.row in
-    let t = c.if-count-self.false in
-    omega arith
-
-pub bounds-state-0-2 : goal.bounds-state-0-2
-bounds-state-0-2 c =
-    let words = c.args.state.now in
-    let room = c.args.self.now.capacity in
-    let v = script_values room words c.requires in
-    let w = wide room words v.0 v.1.row in
-    let l = length-set words (1 + slice_index words 0) c.number.result in
-    omega arith
+    let r = script_ring room words c.requires.reached in
+    let w = wide room words r.0 r.1 in
+    let less = c.if-state-self.false in
+    omega (arith, w, less)
 
 pub returns-clause-state : goal.returns-clause-state
 returns-clause-state c =
     let words = c.args.state.now in
     let room = c.args.self.now.capacity in
-    let v = script_values room words c.requires in
-    rw c.number.ensures.same (added room words v.0 v.1 c.args.value (let t = c.if-count-self.false in omega arith))
+    let r = script_ring room words c.requires.reached in
+    let less = c.if-state-self.false in
+    c.put_last.ensures ∙ ap (with_last words) c.number.ensures.same
+    ∙ put_next room words r.0 r.1 (queue_of room) (Enq c.args.value) c.args.value refl (omega (arith, less))
 
 pub returns-clause-reply : goal.returns-clause-reply
 returns-clause-reply c =
     let words = c.args.state.now in
     let room = c.args.self.now.capacity in
-    let v = script_values room words c.requires in
-    added_reply room words v.0 v.1 c.args.value (let t = c.if-count-self.false in omega arith)
+    let r = script_ring room words c.requires.reached in
+    let less = c.if-state-self.false in
+    added_reply room words r.0 r.1 c.args.value (omega (arith, less))

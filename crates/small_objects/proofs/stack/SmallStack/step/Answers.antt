@@ -1,4 +1,4 @@
-use Rattle.small_objects.proofs.Vocabulary.{List, ap, arith, length, refl, row_of, slice_index, slice_set, stack_answer, stack_next, subst, suc, sym, values_in, ℕ, ◌+◌, ◌-◌, ◌<◌, ◌∙◌, ◌≡◌, ◌≢◌, ◌≤◌}
+use Rattle.small_objects.proofs.Vocabulary.{arith, row_of, slice_index, slice_set, stack_answer, stack_next, subst, sym, values_in, ◌-◌, ◌≡◌, ◌≢◌}
 use Rattle.small_objects.proofs.Rows.{stack_values, wide, count_is, none_stacked, off_state, off_reply, put_state, put_reply, full_state, full_reply}
 use Rattle.small_objects.proofs.stack.SmallStack.step.Goals as goal
 
@@ -72,14 +72,14 @@ returns-then-count-self-clause-state c =
     let words = c.args.state.now in
     let room = c.args.self.now.capacity in
     let v = stack_values room words c.requires.reached in
-    full_state room words v.0 v.1 (stack_next room) (λ values i. refl) c.args.inv c.if-inv-eq0.false (let t = c.if-count-self.true in omega arith)
+    full_state room words v.0 v.1 c.args.inv c.if-inv-eq0.false (let t = c.if-count-self.true in omega arith)
 
 pub returns-then-count-self-clause-reply : goal.returns-then-count-self-clause-reply
 returns-then-count-self-clause-reply c =
     let words = c.args.state.now in
     let room = c.args.self.now.capacity in
     let v = stack_values room words c.requires.reached in
-    full_reply room words v.0 v.1 (stack_answer room) (λ values i. refl) c.args.inv c.if-inv-eq0.false (let t = c.if-count-self.true in omega arith)
+    full_reply room words v.0 v.1 c.args.inv c.if-inv-eq0.false (let t = c.if-count-self.true in omega arith)
 
 pub bounds-state-count-2 : goal.bounds-state-count-2
 bounds-state-count-2 c =
@@ -95,11 +95,11 @@ returns-clause-state c =
     let words = c.args.state.now in
     let room = c.args.self.now.capacity in
     let v = stack_values room words c.requires.reached in
-    put_state room words v.0 v.1 (stack_next room) (λ values i. refl) c.args.inv c.if-inv-eq0.false (let t = c.if-count-self.false in omega arith)
+    put_state room words v.0 v.1 c.args.inv c.if-inv-eq0.false (let t = c.if-count-self.false in omega arith)
 
 pub returns-clause-reply : goal.returns-clause-reply
 returns-clause-reply c =
     let words = c.args.state.now in
     let room = c.args.self.now.capacity in
     let v = stack_values room words c.requires.reached in
-    put_reply room words v.0 v.1 (stack_answer room) (λ values i. refl) c.args.inv c.if-inv-eq0.false (let t = c.if-count-self.false in omega arith)
+    put_reply room words v.0 v.1 c.args.inv c.if-inv-eq0.false (let t = c.if-count-self.false in omega arith)
