@@ -33,7 +33,7 @@ static double of_words(uint64_t seats, uint32_t words, int is_queue) {
     universal_handle object = UNIVERSAL_NONE, seat = UNIVERSAL_NONE;
     uint64_t process = 0, reply = 0, version = 0, calls = 2000000 / (words + 20);
     double took[ROUNDS];
-    must((is_queue ? universal_open_queue : universal_open_counters)(seats, words, &object));
+    must(is_queue ? universal_open_queue(seats, words - 2, &object) : universal_open_counters(seats, words, &object));
     must(universal_small_seat(&object, &seat, &process));
     for (uint64_t k = 0; is_queue && k < 10; k++) must(universal_small_apply(&seat, &(uint64_t){1 + k}, 1, &reply, 1, &version));
     for (int round = 0; round < ROUNDS; round++) {

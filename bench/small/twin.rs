@@ -72,25 +72,29 @@ impl Object for Book {
     }
 }
 
+/// The slot that a place is, which is one of the first round or the next.
+fn slot_of(place: u64) -> usize {
+    let place = place as usize;
+    if place < ROOM { place } else { place - ROOM }
+}
+
 impl Object for Queue {
-    const WIDTHS: (usize, usize, usize) = (1 + ROOM, 1, 1);
+    const WIDTHS: (usize, usize, usize) = (2 + ROOM, 1, 1);
     fn apply(state: &mut [u64], inv: &[u64], reply: &mut [u64]) {
-        let count = state[0] as usize;
+        let (count, start) = (state[0], state[1]);
         reply[0] = if inv[0] == 0 {
             if count == 0 {
                 0
             } else {
-                let first = state[1];
-                state.copy_within(2..count + 1, 1);
-                state[count] = 0;
-                state[0] -= 1;
-                first
+                state[1] = slot_of(start + 1) as u64;
+                state[0] = count - 1;
+                std::mem::take(&mut state[2 + start as usize])
             }
-        } else if count >= ROOM {
+        } else if count as usize >= ROOM {
             0
         } else {
-            state[1 + count] = inv[0];
-            state[0] += 1;
+            state[2 + slot_of(start + count)] = inv[0];
+            state[0] = count + 1;
             1
         };
     }
