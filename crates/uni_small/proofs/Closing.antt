@@ -1,8 +1,10 @@
 -- What the words of a closed table show.
-use Rattle.uni_small.proofs.Vocabulary.{AreWords, Board, Contains, Idle, Image, IsBoard, IsClosed, IsFinal, IsShown, List, Local, Meaning, ProcessReturned, Rule, Seen, Sequential, Setup, Sizes, State, View, [], ap, arith, buffer_in, get_elem?, map, plain, refl, sequential_acts, slice_get, slice_index, some, state_place, subst, suc, sym, zero, ℕ, ◌*◌, ◌<◌, ◌∙◌, ◌∷◌, ◌≡◌, ◌≤◌}
+use Rattle.uni_small.proofs.Vocabulary.{AreWords, Board, Contains, Idle, IsBoard, IsClosed, IsFinal, IsOrdered, IsShown, List, Local, Meaning, ProcessReturned, Rule, Seen, Sequential, Setup, Sizes, State, View, [], ap, arith, buffer_in, get_elem?, slice_index, some, state_place, subst, suc, sym, zero, ℕ, ◌*◌, ◌<◌, ◌∙◌, ◌∷◌, ◌≡◌, ◌≤◌}
 use Rattle.uni_small.specs.Reading.{IsStateIn}
 use Rattle.uni_small.specs.Ended.{HasRunTo}
-use Rattle.uni_small.proofs.Images.{reached_from, spell-state}
+use Rattle.uni_small.proofs.Finals as Finals
+use Rattle.uni_small.proofs.Finals.{acts_of_final, final_of}
+use Rattle.uni_small.proofs.Images.{spell-state}
 use Rattle.uni_small.proofs.Lists.{same_list}
 use Rattle.uni_small.proofs.Loads.{buffer_of, call_at}
 
@@ -47,29 +49,29 @@ module _ {O : Type 0} (meaning : O → Meaning) (setup : Setup O) (few : setup.s
   abbrev IsDone : ProcessReturned → Type 0
   IsDone its = (its.process < sizes.processes) × ((local its.process).stage ≡ Idle []) × ((local its.process).own ≡ its.calls)
 
+  done : (its : ProcessReturned) → IsDone its → Finals.IsDone object sizes g board its
+  done its d =
+      let at = is.sound.each its.process d.0 in
+      record {
+        closed = subst (IsClosed g its.process) d.2 (call_at object sizes g its.process (local its.process) (Idle []) at d.1).0;
+        after = (local its.process).after;
+        ordered = subst (IsOrdered object g.atomic.agreed g.calls_in_version g.version its.process (local its.process).after) d.2 at.ordered;
+      }
+
   final : (known : List ProcessReturned) → ((its : ProcessReturned) → Contains known its → IsDone its) → (state : List ℕ) → IsStateIn sizes words state → IsFinal object sizes.processes known state
-  final known done state read = record {
-    acts = g.acts;
-    atomic = g.atomic;
-    accepted = board.history;
-    linearized = (g.acts, g.atomic, refl, board.history, refl);
-    inside = λ c has. (board.agreed c has).0;
-    state = sym (reached_from object _ g.atomic.agreed) ∙ ap (λ (i : Image). i.state) board.image ∙ state_is state read;
-    own = λ its has. (let d = done its has in (closed its d).acts ∙ ap (λ cs. sequential_acts its.process 0 (map plain cs)) d.2);
-    calls_in_version = g.calls_in_version;
-    rising = board.rising;
-    stand = λ its has k call at. (let d = done its has in (is.sound.each its.process d.0).ordered.stand k call (ap (λ cs. slice_get cs k) d.2 ∙ at));
-  } where
-    closed : (its : ProcessReturned) → IsDone its → IsClosed g its.process (local its.process).own
-    closed its d = (call_at object sizes g its.process (local its.process) (Idle []) (is.sound.each its.process d.0) d.1).0
+  final known each state read = final_of object sizes g board known (λ its has. done its (each its has)) state (state_is state read)
+
+  acts_are : (known : List ProcessReturned) (each : (its : ProcessReturned) → Contains known its → IsDone its) (state : List ℕ) (read : IsStateIn sizes words state) → (final known each state read).acts ≡ g.acts
+  unfolding final
+  acts_are known each state read = acts_of_final object sizes g board known (λ its has. done its (each its has)) state (state_is state read)
 
   -- with no seat
   pub closes_alone : (state : List ℕ) → IsStateIn sizes words state → IsFinal object sizes.processes [] state
   closes_alone = final [] (λ its has. absurd (let h = has.1 in omega arith))
 
   pub ran_alone : (state : List ℕ) → IsStateIn sizes words state → HasRunTo object sizes [] state
-  unfolding final closes_alone
-  ran_alone state read = (closes_alone state read, holds.1.1.2.0, holds.1.1.2.1.acts_are)
+  unfolding closes_alone
+  ran_alone state read = (closes_alone state read, holds.1.1.2.0, holds.1.1.2.1.acts_are ∙ sym (acts_are [] _ state read))
 
   -- with a seat of one process that has no call pending, and of those that it has taken in
   pub closes_with : (id : ℕ) (view : View O) → get_elem? last.views id ≡ some view → view.known.count ≡ 1 → view.known.local.stage ≡ Idle []
@@ -83,8 +85,8 @@ module _ {O : Type 0} (meaning : O → Meaning) (setup : Setup O) (few : setup.s
 
   pub ran_with : (id : ℕ) (view : View O) → get_elem? last.views id ≡ some view → view.known.count ≡ 1 → view.known.local.stage ≡ Idle []
       → (state : List ℕ) → IsStateIn sizes words state → HasRunTo object sizes (record { process = view.known.first; calls = view.known.local.own } ∷ view.known.taken) state
-  unfolding final closes_with
-  ran_with id view seen single idle state read = (closes_with id view seen single idle state read, holds.1.1.2.0, holds.1.1.2.1.acts_are)
+  unfolding closes_with
+  ran_with id view seen single idle state read = (closes_with id view seen single idle state read, holds.1.1.2.0, holds.1.1.2.1.acts_are ∙ sym (acts_are _ _ state read))
 
 -- what tells of more calls tells of fewer
 pub final_of_fewer : (object : Sequential (List ℕ) (List ℕ) (List ℕ)) (n : ℕ) (all known : List ProcessReturned) (state : List ℕ) → ((its : ProcessReturned) → Contains known its → Contains all its) → IsFinal object n all state → IsFinal object n known state

@@ -1,5 +1,6 @@
 -- Seats that go on with a call.
 use Rattle.uni_small.proofs.Vocabulary.{AreApplied, AreBuffers, Bool, Buffers, Goes, GoesBy, Image, IsLeft, IsOf, List, Me, None, Option, Reading, Seen, Sequential, Sizes, Some, Stage, View, WritesWithin, [], ap, arith, begun, buffer_in, false, goes, inl, inr, length, local_of, looked, nat_le, number_cases, refl, slice_index, slice_set, stage_of, subst, sym, true, went, with_local, with_seen, words_held, wrote, ℕ, ◌%◌, ◌++◌, ◌+◌, ◌/◌, ◌<◌, ◌∙◌, ◌∷◌, ◌≡◌, ◌≤◌, ◌⊎◌, HasComeTo, Ready, Writing, Idle, Last, written_to, with_row, spell, buffer_words, held_place, lt_cases, ⊎_elim, ◌*◌, ◌-◌}
+use Rattle.uni_small.proofs.Vocabulary.{ReadsWithin, after_read, begins_directly, confirms, if◌then◌else◌, version_in, ◌==◌}
 use Rattle.std.proofs.lemmas.Bool.Decides.{nat_tests}
 use Rattle.uni_small.proofs.Rows.{with_row-before, with_row-index}
 
@@ -168,3 +169,18 @@ writes_come object sizes me me1 from most held row image seen all written first 
       ∙ written_row (local_of me).held ((local_of me).spare * buffer_words sizes) from row (spell (with_seen object image 0 all)) (omega (arith, long, room)) come.2
       (λ j inside. words j (omega (arith, long, inside))) i (omega (arith, long, below))),
 )
+
+-- a read from its first load to its last one
+pub read_ends : {O : Type 0} (me me1 me2 me3 : Me Seen (View O)) (s again words most : ℕ) (first : List ℕ) (stage : Stage) (version : Option ℕ) → IsLeft me (begins_directly (local_of me) s first) me1
+    → words ≤ most → GoesBy me1 words stage me2 → IsLeft me2 (confirms (local_of me2) s again) me3
+    → (if again == s then version_in s else (local_of me).after) ≡ after_read (local_of me).after version → ReadsWithin (most + 2) me version me3
+read_ends me me1 me2 me3 s again words most first stage version began few copied ended found =
+    let l = local_of me in
+    let count : l.steps + 1 + words + 1 ≡ l.steps + (words + 2) = omega arith in (
+      words + 2,
+      omega (arith, few),
+      ended
+          ∙ ap (λ (m : Me Seen (View _)). (with_local m.0 (confirms (local_of m) s again), m.1))
+          (copied ∙ ap (λ (m : Me Seen (View _)). (with_local m.0 (went (local_of m) words stage), m.1)) began)
+          ∙ (λ k. (with_local me.0 (record l { stage = Idle []; direct = false; after = found k; steps = count k }), me.1)),
+    )

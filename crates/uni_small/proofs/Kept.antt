@@ -1,5 +1,5 @@
 -- What a process keeps of its two buffers for itself.
-use Rattle.uni_small.proofs.Vocabulary.{AreBuffers, Buffers, HasRoom, List, Local, Room, Sizes, ap, arith, buffer_words, drop, held_place, image_in, length, length-drop, number_cases, inl, inr, refl, slice_index, spell, state_place, sym, take, with_row, words_held, ℕ, ◌*◌, ◌+◌, ◌-◌, ◌<◌, ◌∙◌, ◌≡◌, ◌≤◌, ◌⊎◌}
+use Rattle.uni_small.proofs.Vocabulary.{Buffers, HasRoom, List, Room, Sizes, ap, arith, buffer_words, drop, held_place, image_in, length, length-drop, number_cases, inl, inr, slice_index, spell, state_place, sym, with_row, words_held, ℕ, ◌*◌, ◌+◌, ◌-◌, ◌<◌, ◌∙◌, ◌≡◌, ◌≤◌, ◌⊎◌}
 use Rattle.uni_small.proofs.Vocabulary.{IsKept, subst}
 use Rattle.uni_small.specs.Touched.{IsUntouched, everything}
 use Rattle.std.proofs.lemmas.List.{ext_get_or, get_or-drop, get_or-take, length-take-le}

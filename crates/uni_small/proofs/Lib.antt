@@ -6,6 +6,7 @@ pub mod Rooms
 pub mod Kept
 pub mod Acts
 pub mod Images
+pub mod Finals
 pub mod Loads
 pub mod Rejoining
 pub mod Words

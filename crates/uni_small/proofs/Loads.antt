@@ -3,7 +3,10 @@ use Rattle.uni_small.proofs.Vocabulary.{AreIn, AreWhole, Board, Bool, HasAsked, 
 use Rattle.uni_small.specs.Invariant.{IsCopied}
 use Rattle.std.proofs.lemmas.Bool.Decides.{nat_tests}
 use Rattle.uni_small.proofs.Frame.{Found, load_law}
-use Rattle.uni_small.proofs.Stepping.{ask_steps, begin_steps, check_own_steps, check_steps, copy_steps, follow_steps, look_steps, start_steps, turn_steps}
+use Rattle.uni_small.proofs.Vocabulary.{AreWidths, HasConfirmed, IsOrdered, ProcessReturned, confirms, own_in_view, Contains}
+use Rattle.uni_small.specs.Final.{IsVersion}
+use Rattle.uni_small.proofs.Finals.{IsDone, version_has}
+use Rattle.uni_small.proofs.Stepping.{ask_steps, begin_steps, check_own_steps, check_steps, confirm_steps, copy_steps, follow_steps, look_steps, start_steps, turn_steps}
 use Rattle.uni_small.proofs.Lists.{due-set, due_cases, due_last, due_same, due_snoc, get-contains, get_last, get_snoc, index_last, index_snoc, same_list, sum_most}
 use Rattle.uni_small.proofs.Rows.{begins_more}
 use Rattle.uni_small.proofs.Images.{spell-length, spell-applied, read-spell, reached_from, rows-seen, width_is, reply-seen}
@@ -529,6 +532,64 @@ module _ {O : Type 0} (meaning : O → Meaning) (o : O) (sizes : Sizes) (id : �
               λ inv. subst (λ i. MayBeWritten object sizes g (2 * p + l.spare) (with_seen object i 0 (slice_set seen p (Some inv)))) (sym image)
                   (may_write object sizes steadily g p (2 * p + l.spare) f.sound.board seen (slice_set seen p (Some inv)) now.1.1 (λ r apart. due-set seen p r (Some inv) apart) mine),
             )
+
+  -- a read ends
+  pub reads : (s : ℕ) → IsCopying 0 s (buffer_words sizes) me → IsDirect me
+      → Moves meaning o sizes id me 0 (λ x. x) nothing (λ found me'. (q : O) → me.0.object ≡ Some q → HasConfirmed (meaning q) st me found me')
+  reads s copying direct = load_law meaning o sizes id me 0 (λ found me'. (q : O) → me.0.object ≡ Some q → HasConfirmed (meaning q) st me found me') single (confirm_steps meaning o sizes st me s copying direct) (λ g local words f.
+      let x = slice_index words 0 in
+      let copy = copying.0 in
+      let stage : l.stage ≡ Reading 0 s copy [] = copying.1 in
+      let was = attempt_at object sizes g p l (Reading 0 s copy []) f.mine stage in
+      let closed : IsClosed g p l.own = attempted_closed g direct (call_at object sizes g p l (Reading 0 s copy []) f.mine stage) in
+      let is : x ≡ current_word g.version g.current = f.words_are.current in
+      let board = f.sound.board in
+      let version : version_in x ≡ g.version = ap version_in is ∙ version_of g.version g.current (let c = board.current in omega arith) in (
+        confirms l s x,
+        record {
+          spare = f.mine.spare;
+          apart = f.mine.apart;
+          held = f.mine.held;
+          told = f.mine.told;
+          call = (closed, refl);
+          attempt = tt;
+          ordered = by_found g f.mine board closed x version (x == s) refl;
+        },
+        λ q object_is s' copy' stage'.
+            let object_same : o ≡ q = (let e : Some o ≡ Some q = sym f.object ∙ object_is in cc) in
+            let e : Reading 0 s copy [] ≡ Reading 0 s' copy' [] = sym stage ∙ stage' in
+            let b : s ≡ s' = cc in let c : copy ≡ copy' = cc in (
+              λ k. (with_local me.0 (confirms l (b k) x), me.1),
+              λ same.
+                  let here : version_in s' ≡ g.version = ap version_in (sym same) ∙ version in
+                  let image : read_image sizes copy ≡ g.image
+                  = ap (read_image sizes) (copy_is 0 s g copy [] x f copying.2 was is (same ∙ sym b)) ∙ read-spell sizes g.image board.rows in
+                  let state : g.image.state ≡ (read_image sizes copy').state = ap (λ (i : Image). i.state) (sym image) ∙ ap (λ ws. (read_image sizes ws).state) c in
+                  let is_version : IsVersion object sizes.processes (own_in_view me.0 ∷ []) (version_in s') (read_image sizes copy').state
+                  = version_has object sizes g board (own_in_view me.0 ∷ []) (done g board f.mine closed) (read_image sizes copy').state state (version_in s') (omega arith) in (
+                    subst (λ q. AreWidths (meaning q) me.0.known.sizes) object_same (subst (AreWidths (meaning o)) (sym f.processes) f.widths),
+                    (let r = f.mine.ordered.reached in omega arith),
+                    subst (λ q. IsVersion (meaning q).object me.0.known.sizes.processes (own_in_view me.0 ∷ []) (version_in s') (read_image me.0.known.sizes copy').state) object_same
+                        (subst (λ z. IsVersion object z.processes (own_in_view me.0 ∷ []) (version_in s') (read_image z copy').state) (sym f.processes) is_version),
+                  ),
+            ),
+      )) where
+        by_found : (g : Board) → IsAt object sizes g p l → IsBoard object sizes g → IsClosed g p l.own → (x : ℕ) → version_in x ≡ g.version → (b : Bool) → (x == s) ≡ b
+            → IsOrdered object g.atomic.agreed g.calls_in_version g.version p (if b then version_in s else l.after) l.own
+        by_found g mine board closed x version true e =
+            let same : x ≡ s = (let h : (x == s) ≡ true = e in grind (arith, nat_tests, h)) in
+            let here : version_in s ≡ g.version = ap version_in (sym same) ∙ version in
+            record {
+              reached = omega arith;
+              later = λ c place at own from. absurd (none_beyond object sizes g p board c place at own (let i = closed.in_is in omega arith));
+              known = mine.ordered.known;
+              stand = mine.ordered.stand;
+            }
+        by_found g mine board closed x version false e = mine.ordered
+
+        done : (g : Board) (board : IsBoard object sizes g) → IsAt object sizes g p l → IsClosed g p l.own → (its : ProcessReturned) → Contains (own_in_view me.0 ∷ []) its → IsDone object sizes g board its
+        done g board mine closed its (zero, below, e) = subst (IsDone object sizes g board) e (record { closed = closed; after = l.after; ordered = mine.ordered })
+        done g board mine closed its (suc k, below, e) = absurd (omega arith)
 
   -- S is loaded between calls
   pub follows_on : stage_of me ≡ Idle [] → Moves meaning o sizes id me 0 (λ x. x) nothing (λ found me'. HasFollowed st me found me')

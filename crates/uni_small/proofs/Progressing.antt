@@ -5,7 +5,7 @@ use Rattle.uni_small.proofs.Vocabulary.{has_begun}
 use Rattle.uni_model.proofs.Each.{each-set_at}
 use Rattle.uni_model.specs.Executions.Execution.{Ends, Takes}
 use Rattle.uni_small.specs.Execution.{CanTake, Execution, Moment, Next, access_of, after, last_moment, opened_moment}
-use Rattle.uni_small.specs.Execution.Next.{Store, Announce, Follow, Begin, Start, Copy, Look, Ask, Check, CheckOwn, Write, Bring, BringOwn, Turn, Load, Reply}
+use Rattle.uni_small.specs.Execution.Next.{Store, Announce, Follow, Begin, Start, Copy, Look, Ask, Check, CheckOwn, Confirm, Write, Bring, BringOwn, Turn, Load, Reply}
 use Rattle.uni_small.specs.Execution.Next.{Recount, Reread, Restart}
 use Rattle.uni_small.specs.Progress.{IsPending, KeepsBound, NeverBlocks, StepOfCall, counted, steps_of_call}
 use Rattle.uni_small.proofs.Ending.{steps_are}
@@ -265,6 +265,7 @@ module _ (object : Sequential (List ℕ) (List ℕ) (List ℕ)) (sizes : Sizes) 
     long = h.long;
     either = h.either;
   }
+  stands_after p l h (Confirm s copy at copied direct) found = record { standing = omega arith; coming = tt; mode = inl refl; long = h.long; either = h.either }
   stands_after p l h (Write tries s image seen all written k at come below) found =
       let x = slice_index (spell (with_seen object image 0 all)) k in
       let l' = wrote l k (held_place sizes l.spare k) x in
@@ -513,6 +514,7 @@ module _ (object : Sequential (List ℕ) (List ℕ) (List ℕ)) (sizes : Sizes) 
       let w' = subst (λ k. IsWithin l.direct k taken) at w in
       let u = unless_true l.direct ((1 - 0) * most sizes + (1 + sizes.reply)) direct in
       checked_own_within l.direct (found == s) s (read_image sizes copy) seen taken direct (omega (arith, w', u))
+  within_after p l h (Confirm s copy at copied direct) found taken w = omega arith
   within_after p l h (Write tries s image seen all written k at come below) found taken w =
       let w' = subst (λ k. IsWithin l.direct k taken) at w in
       let c = come.1 in

@@ -1,7 +1,7 @@
 -- Each word step of a seat is a step of an execution.
 use Rattle.uni_small.proofs.Vocabulary.{HasAnnounced, HasAsked, HasBegun, HasBrought, HasChecked, HasCheckedOwn, HasCopied, HasFollowed, HasLoaded, HasLooked, HasReplied, HasStarted, HasStored, HasTurned, HasWritten, HasWrittenAll, HasWrittenOwn, Idle, Image, Invoke, IsAnnounced, IsDirect, IsAsking, IsAttemptAt, IsCopying, IsLoading, IsLeft, IsLooking, IsStoring, IsWriting, Last, Linearize, List, Local, Me, Meaning, Reading, Ready, Sizes, Some, Step, View, [], ap, arith, announce_word, argument_word, begins, brought, brought_own, buffer_in, buffer_word, buffer_words, calls_seen, checked, checked_own, current_word, either, ends, eqb, false, goes, held_place, if◌then◌else◌, length, map, most_calls, nothing, begins_directly, begun, Seen, takes_effect_own, slice_set, ◌∷◌, number_cases, refl, reply_place, slice_index, stage_of, subst, sym, takes_effect, true, version_in, wrote, ℕ, ⊎_elim, ◌*◌, ◌+◌, ◌<◌, ◌==◌, ◌∙◌, ◌≡◌, ◌≤◌}
-use Rattle.uni_small.proofs.Vocabulary.{HasRecounted, HasReread, HasRestarted, has_begun}
-use Rattle.uni_small.specs.Execution.Next.{Store, Announce, Follow, Begin, Start, Copy, Look, Ask, Check, CheckOwn, Write, Bring, BringOwn, Turn, Load, Reply}
+use Rattle.uni_small.proofs.Vocabulary.{HasConfirmed, HasRecounted, HasReread, HasRestarted, has_begun}
+use Rattle.uni_small.specs.Execution.Next.{Store, Announce, Follow, Begin, Start, Copy, Look, Ask, Check, CheckOwn, Confirm, Write, Bring, BringOwn, Turn, Load, Reply}
 use Rattle.uni_small.specs.Execution.Next.{Recount, Reread, Restart}
 use Rattle.uni_small.proofs.Frame.{Steps}
 
@@ -114,6 +114,16 @@ module _ {O : Type 0} (meaning : O → Meaning) (o : O) (sizes : Sizes) (st : St
             ∙ left_at me me' _ (said o f.object s looking.0 here.0 here.1).0,
         refl,
       )
+
+  pub confirm_steps : (s : ℕ) → IsCopying 0 s (buffer_words sizes) me → IsDirect me
+      → Steps meaning o sizes me 0 (λ x. x) nothing (λ found me'. (q : O) → me.0.object ≡ Some q → HasConfirmed (meaning q) st me found me')
+  confirm_steps s copying direct = λ g local words f me' said. (
+    Confirm s copying.0 copying.1 copying.2 direct,
+    refl,
+    refl,
+    left_at me me' _ (said o f.object s copying.0 copying.1).0,
+    refl,
+  )
 
   pub write_steps : (k x : ℕ) → IsWriting (meaning o).object sizes k x me → k < buffer_words sizes → st.word ≡ buffer_word sizes (2 * p + l.spare) k
       → Steps meaning o sizes me (buffer_word sizes (2 * p + l.spare) k) (λ y. x) nothing (λ found me'. HasWritten st me x me')

@@ -71,6 +71,7 @@ pub record HasRoom (sizes : Sizes) (room : Room) : Type 0 where
   pub state : length room.state.items ≡ sizes.state
   pub seen : length room.seen.items ≡ sizes.processes
   pub invocations : All (HasInvocation sizes) room.seen.items
+  pub saved : length room.saved.items ≡ sizes.state
 
 -- an image with its replies in words, one after another
 abbrev pub image_of_rows : Sizes → (applied replies state : List ℕ) → Image
@@ -112,6 +113,10 @@ pub record IsSeatOf {O : Type 0} (shared : SmallShared O) (seat : SmallSeat O) :
 -- a seat's process with its calls
 abbrev pub calls_of : {O : Type 0} → SmallSeat O → ProcessReturned
 calls_of seat = record { process = process_of seat; calls = own_calls seat }
+
+-- the words of the state that it has read last
+abbrev pub state_read : {O : Type 0} → SmallSeat O → List ℕ
+state_read seat = seat.room.state.items
 
 -- the calls of the processes whose seats it has taken in, and all that it knows
 abbrev pub taken_calls : {O : Type 0} → SmallSeat O → List (ProcessReturned)

@@ -6,7 +6,7 @@ use Rattle.uni_model.specs.AtomicObject.{Act, set_at}
 use Rattle.uni_model.specs.AtomicObject.Act.{Invoke, Linearize, Respond}
 use Rattle.uni_model.specs.Executions as Executions
 use Rattle.uni_small.specs.Image.{AreWhole, Image, buffer_words, calls_seen, first_held, first_image, held_place, joined, reply_place, spell, with_seen}
-use Rattle.uni_small.specs.View.{Local, announces, at_rest, begins_directly, goes, knows, returns, wrote}
+use Rattle.uni_small.specs.View.{Local, announces, at_rest, begins_directly, confirms, goes, knows, returns, wrote}
 use Rattle.uni_small.specs.View.Stage.{Idle, Ready, Reading, Writing, Last}
 use Rattle.uni_small.specs.Board.{announce_word, argument_word, buffer_in, buffer_word, current_word, version_in, words_before}
 use Rattle.uni_small.specs.Invariant.{most_calls}
@@ -58,6 +58,8 @@ module _ (object : Sequential (List ℕ) (List ℕ) (List ℕ)) (sizes : Sizes) 
         → length copy ≡ buffer_words sizes → AreWhole sizes seen → length seen ≡ sizes.processes → l.direct ≡ false → Next p l
     CheckOwn : (s : ℕ) (copy : List ℕ) (seen : List (Option (List ℕ))) → l.stage ≡ Reading 0 s copy seen
         → length copy ≡ buffer_words sizes → AreWhole sizes seen → length seen ≡ sizes.processes → l.direct ≡ true → Next p l
+    -- a read ends where a direct attempt would look at the announcements: S is loaded again, and no call is made
+    Confirm : (s : ℕ) (copy : List ℕ) → l.stage ≡ Reading 0 s copy [] → length copy ≡ buffer_words sizes → l.direct ≡ true → Next p l
     -- a word of the spare buffer is stored, with all that was seen applied, and in a direct attempt a call of its own too, where those before it
     -- are as they are to be; once all are, S is exchanged for one that names this buffer. The invocation of a direct call is known here at the
     -- exchange alone: an execution may do more than the code does, which has it from the first step on
@@ -103,6 +105,7 @@ module _ (object : Sequential (List ℕ) (List ℕ) (List ℕ)) (sizes : Sizes) 
   access_of p l (Check tries s copy seen at copied whole all announced) =
       load_of 0 (λ found. goes l (checked sizes p (length l.own + 1) tries s copy seen found))
   access_of p l (CheckOwn s copy seen at copied whole all direct) = load_of 0 (λ found. goes l (checked_own sizes s copy seen found))
+  access_of p l (Confirm s copy at copied direct) = load_of 0 (λ found. confirms l s found)
   access_of p l (Write tries s image seen all written k at come inside) =
       let x = slice_index (spell (with_seen object image 0 all)) k in
       store_of (buffer_word sizes (2 * p + l.spare) k) x (wrote l k (held_place sizes l.spare k) x)

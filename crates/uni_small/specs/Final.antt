@@ -1,5 +1,5 @@
 -- What a closed object tells.
-use Rattle.std.specs.Prelude.{◌≡◌, ℕ, ◌<◌, ◌≤◌, List, [], ◌∷◌, refl, map, slice_get, Some, Contains}
+use Rattle.std.specs.Prelude.{◌≡◌, ℕ, ◌<◌, ◌≤◌, List, [], ◌∷◌, refl, length, map, slice_get, Some, Contains}
 use Rattle.seq_object.specs.Sequential.{Sequential}
 use Rattle.seq_object.specs.History.{state_after}
 use Rattle.uni_model.specs.AtomicObject.{Atomic, Act, Invoked, AcceptsAll, at_start}
@@ -28,6 +28,17 @@ pub record IsFinal (object : Sequential (List ℕ) (List ℕ) (List ℕ)) (n : �
   pub rising : (v w : ℕ) → v ≤ w → calls_in_version v ≤ calls_in_version w
   pub stand : (its : ProcessReturned) → Contains known its
       → (k : ℕ) (call : Returned) → slice_get its.calls k ≡ Some call → StandsIn object atomic.agreed calls_in_version its.process k call
+
+-- A version has this state: there is such a history, and all its calls that took effect are in the version.
+pub record IsVersion (object : Sequential (List ℕ) (List ℕ) (List ℕ)) (n : ℕ) (known : List ProcessReturned) (version : ℕ)
+    (state : List ℕ) : Type 0 where
+  pub final : IsFinal object n known state
+  pub all_in : final.calls_in_version version ≡ length final.atomic.agreed
+
+-- This is what the object would answer to an invocation at such a version.
+abbrev pub IsAnswerAt : (object : Sequential (List ℕ) (List ℕ) (List ℕ)) (n : ℕ) (known : List ProcessReturned) (version : ℕ) (inv reply : List ℕ) → Type 0
+IsAnswerAt object n known version inv reply =
+    (state : List ℕ) × IsVersion object n known version state × (reply ≡ object.answer state inv)
 
 -- two processes that overlap, on a counter: both have begun before a call takes effect, and one exchange brings both in
 abbrev overlapping : List (Act (List ℕ) (List ℕ))

@@ -4,9 +4,10 @@ use Rattle.std.specs.Prelude.{drop, length, slice_index, take}
 use mathlib.Core.Option.{some}
 use Rattle.atomic_table.specs.Table.{Me, Step}
 use Rattle.uni_small.specs.Image.{AreWidths, Image, IsReached, Meaning, buffer_words, counter_sizes, first_held, held_place, read_image}
-use Rattle.uni_small.specs.View.{Local, ProcessReturned, Stage, announces, at_rest, begins_directly, brings_own, everyone, goes, brings, returns, knows, wrote}
+use Rattle.uni_small.specs.View.{Local, ProcessReturned, Stage, announces, at_rest, begins_directly, brings_own, confirms, everyone, goes, brings, returns, knows, wrote}
 use Rattle.uni_small.specs.View.Stage.{Idle, Ready, Reading, Writing, Last}
 use Rattle.uni_small.specs.Board.{buffer_in, buffer_word, version_in}
+use Rattle.uni_small.specs.Final.{IsVersion}
 use Rattle.uni_small.specs.Invariant.{most_calls}
 use Rattle.uni_small.specs.declared.seat.Seen.{Seen}
 use Rattle.uni_small.specs.declared.sizes.Sizes.{Sizes}
@@ -172,6 +173,16 @@ HasReplied step me found me' =
 abbrev pub HasFollowed : {O : Type 0} → Step Seen → Me Seen (View O) → (s : ℕ) → Me Seen (View O) → Type 0
 HasFollowed step me s me' =
     stage_of me ≡ Idle [] → let l = me.0.known.local in IsLeft me (knows l (version_in s)) me' × (l.after ≤ version_in s)
+
+-- The load of S that ends a read. Where S is as it was, the copy has the state of the version that it names, after a history in which the
+-- process takes its own calls; and that version is no smaller than the one that it knew of.
+abbrev pub HasConfirmed : {O : Type 0} → Meaning → Step Seen → Me Seen (View O) → (found : ℕ) → Me Seen (View O) → Type 0
+HasConfirmed meaning step me found me' =
+    (s : ℕ) (copy : List ℕ) → stage_of me ≡ Reading 0 s copy []
+    → let v = me.0.known in
+    IsLeft me (confirms v.local s found) me'
+    × (found ≡ s → AreWidths meaning v.sizes × (v.local.after ≤ version_in s)
+    × IsVersion meaning.object v.sizes.processes (own_in_view me.0 ∷ []) (version_in s) (read_image v.sizes copy).state)
 
 -- a process that has taken a step more, and else is where it was
 abbrev pub rests : Local → Local

@@ -6,7 +6,7 @@ use Rattle.uni_small.specs.View.{Local, Stage}
 use Rattle.uni_small.specs.View.Stage.{Idle}
 use Rattle.uni_small.specs.Standing.{call_steps}
 use Rattle.uni_small.specs.Execution.{CanTake, Execution, Moment, Next, after, last_moment, opened_moment}
-use Rattle.uni_small.specs.Execution.Next.{Store, Announce, Follow, Begin}
+use Rattle.uni_small.specs.Execution.Next.{Store, Announce, Follow, Begin, Confirm}
 use Rattle.uni_small.specs.Execution.Next.{Recount, Reread, Restart}
 use Rattle.uni_small.specs.declared.sizes.Sizes.{Sizes}
 
@@ -19,12 +19,14 @@ IsPending stage direct = Unit {0}
 module _ (object : Sequential (List ℕ) (List ℕ) (List ℕ)) (sizes : Sizes) where
   -- Where a process has taken so many word steps for its latest call, so many with one more. A call's first step begins a direct attempt,
   -- or, where none was made, stores the first word of its invocation, or announces the call where it has no words. To ask which version has
-  -- come is no step of a call, and neither is what a new owner of its seat loads before the call begins again, from which on it is counted.
+  -- come is no step of a call, and neither is what a new owner of its seat loads before the call begins again, from which on it is counted. A
+  -- read is no call: it begins as a direct attempt, and where it ends nothing counts.
   abbrev pub counted : {p : ℕ} {l : Local} → Next object sizes p l → (taken : ℕ) → ℕ
   counted {l = l} (Store [] x at inside room) taken = if l.direct then taken + 1 else 1
   counted {l = l} (Announce [] at whole few) taken = if l.direct then taken + 1 else 1
   counted (Follow at) taken = taken
   counted (Begin at untried few) taken = 1
+  counted (Confirm s copy at copied direct) taken = 0
   counted Recount taken = taken
   counted (Reread which k either below) taken = taken
   counted Restart taken = 0

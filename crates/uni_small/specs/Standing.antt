@@ -131,6 +131,10 @@ announced_steps sizes =
 abbrev pub call_steps : Sizes → ℕ
 call_steps sizes = attempt_steps sizes + announced_steps sizes
 
+-- and a read of the state
+abbrev pub read_steps : Sizes → ℕ
+read_steps sizes = buffer_words sizes + 2
+
 -- two processes on a counter of one word
 sample_steps : call_steps (counter_sizes 2) ≡ 55
 sample_steps = refl
@@ -172,6 +176,18 @@ tried_directly l inv None own words =
 abbrev pub TriesWithin : {O : Type 0} → Sizes → (most : ℕ) → Me Seen (View O) → (inv : List ℕ) → (ended : Option ℕ) → Buffers → Me Seen (View O) → Type 0
 TriesWithin sizes most me inv ended own me' =
     (words : ℕ) × (words ≤ most) × IsEnd sizes ended × IsLeft me (tried_directly (local_of me) inv ended own words) me'
+
+-- the version that a process's next calls come after, once it has read the state of one, or none
+abbrev pub after_read : (after : ℕ) → (version : Option ℕ) → ℕ
+after_read after (Some version) = version
+after_read after None = after
+
+-- a process has read the state of a version, or none, after at most so many word steps, and has no call pending
+abbrev pub ReadsWithin : {O : Type 0} → (most : ℕ) → Me Seen (View O) → (version : Option ℕ) → Me Seen (View O) → Type 0
+ReadsWithin most me version me' =
+    let l = local_of me in
+    (words : ℕ) × (words ≤ most)
+    × IsLeft me (record l { stage = Idle []; direct = false; after = after_read l.after version; steps = l.steps + words }) me'
 
 -- a call has returned with this reply after at most so many word steps, and is in this version, which is greater than the one that it
 -- comes after; the announcement of its process tells so many calls then

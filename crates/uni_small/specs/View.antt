@@ -1,5 +1,5 @@
 -- What a seat knows.
-use Rattle.std.specs.Prelude.{Bool, false, true, ℕ, ◌+◌, ◌-◌, List, [], ◌∷◌, ◌++◌, Option, length, slice_set}
+use Rattle.std.specs.Prelude.{Bool, false, true, ℕ, ◌+◌, ◌-◌, ◌==◌, List, [], ◌∷◌, ◌++◌, Option, if◌then◌else◌, length, slice_set}
 use Rattle.uni_small.specs.Image.{Image}
 use Rattle.uni_small.specs.Board.{version_in}
 use Rattle.uni_small.specs.declared.sizes.Sizes.{Sizes}
@@ -107,3 +107,9 @@ returns l s reply =
 -- after it has asked which version has come, and found this one
 abbrev pub knows : Local → (version : ℕ) → Local
 knows l version = record l { after = version; steps = l.steps + 1 }
+
+-- after it has read the state of the version that s names, in place of a direct attempt: where S is still s, its next calls come after that
+-- version
+abbrev pub confirms : Local → (s found : ℕ) → Local
+confirms l s found =
+    record l { stage = Idle []; direct = false; after = if found == s then version_in s else l.after; steps = l.steps + 1 }

@@ -292,7 +292,7 @@ impl<O: SmallObject> SmallShared<O> {
 
     /// Copies the buffer that s names: where it is one of the process's own, no word of it is loaded, and where the
     /// process has the copy of it, nothing is to do.
-    fn copy(
+    pub(crate) fn copy(
         &self,
         seat: &mut Seat<Seen, View<O>>,
         p: u64,

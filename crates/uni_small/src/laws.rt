@@ -11,7 +11,7 @@ ghost use Rattle.uni_small.specs.Board.{buffer_in, current_word, version_in};
 ghost use Rattle.uni_small.specs.Invariant.{most_calls};
 ghost use Rattle.uni_small.specs.Laws.{Moves, begins, ends, nothing, takes_effect, takes_effect_own};
 ghost use Rattle.uni_small.specs.Plays.{HasAnnounced, HasAsked, HasBrought, HasChecked, HasCopied, HasLoaded};
-ghost use Rattle.uni_small.specs.Plays.{HasBegun, HasBroughtOwn, HasCheckedOwn, HasFollowed, HasLooked, HasReplied};
+ghost use Rattle.uni_small.specs.Plays.{HasBegun, HasBroughtOwn, HasCheckedOwn, HasConfirmed, HasFollowed, HasLooked, HasReplied};
 ghost use Rattle.uni_small.specs.Plays.{HasStarted, HasStored};
 ghost use Rattle.uni_small.specs.Plays.{HasTurned, HasWritten, stage_of};
 ghost use Rattle.uni_small.specs.Plays.{HasRecounted, HasReread, HasRestarted};
@@ -105,6 +105,10 @@ pub fn loads_append_nothing<O: SmallObject>()
         sizes.processes ≤ 64 → me.0.known.count ≡ 1 → IsLooking sizes 0 s sizes.processes me → IsDirect me
         → Moves O.meaning o sizes id me 0 (λ x. x) nothing
         (λ found me'. (q : O) → me.0.object ≡ Some q → HasCheckedOwn (O.meaning q) st me found me') }
+    ensures confirm { (o : O) (sizes : Sizes) (id s : ℕ) (st : Step Seen) (me : Me Seen (View O)) →
+        sizes.processes ≤ 64 → me.0.known.count ≡ 1 → IsCopying 0 s (buffer_words sizes) me → IsDirect me
+        → Moves O.meaning o sizes id me 0 (λ x. x) nothing
+        (λ found me'. (q : O) → me.0.object ≡ Some q → HasConfirmed (O.meaning q) st me found me') }
     ensures copy { (o : O) (sizes : Sizes) (id tries s i : ℕ) (st : Step Seen) (me : Me Seen (View O)) →
         sizes.processes ≤ 64 → me.0.known.count ≡ 1 → IsCopying tries s i me → i < buffer_words sizes
         → buffer_in s < 2 * sizes.processes

@@ -7,6 +7,7 @@ pub mod laws;
 mod log;
 mod object;
 mod orphan;
+mod read;
 mod resume;
 mod rule;
 mod seat;

@@ -194,6 +194,17 @@ impl<O: SmallObject> Play<Seen, View<O>> for ChecksOwn {
         → HasCheckedOwn (O.meaning o) step me found me' };
 }
 
+/// The load of S that ends a read, and gives the direct attempt up.
+pub struct Confirms;
+
+impl<O: SmallObject> Play<Seen, View<O>> for Confirms {
+    ghost use Rattle.std.specs.Prelude.{◌≡◌, Some};
+    ghost use Rattle.uni_small.specs.Plays.{HasConfirmed};
+
+    ghost then = { λ step me found me'. (o : O) → me.0.object ≡ Some o
+        → HasConfirmed (O.meaning o) step me found me' };
+}
+
 /// The exchange of S in a direct attempt, which is told the call.
 pub struct BringsOwn;
 

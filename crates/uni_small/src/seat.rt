@@ -23,6 +23,8 @@ pub(crate) struct Room {
     pub reply: Vec<u64>,
     pub state: Vec<u64>,
     pub seen: Vec<Seen>,
+    /// Room for the words of the state that a read changes, and puts back.
+    pub saved: Vec<u64>,
 }
 
 /// What the two buffers of a process hold, one after the other, which only the process writes, and which one

@@ -1,5 +1,5 @@
 //! Which words of a state a call may change.
-ghost use Rattle.std.specs.Prelude.{◌≤◌, ◌<◌, ℕ};
+ghost use Rattle.std.specs.Prelude.{◌≡◌, ◌≤◌, ◌<◌, ◌⊎◌, ℕ, length, slice_index};
 ghost use Rattle.uni_small.specs.Touched.{IsUntouched};
 
 /// Words of a state: those before the word `head`, and those from the word `from` on that are before the word `to`.
@@ -11,6 +11,20 @@ pub struct Touched {
     pub from: u64,
     /// The word after the last of them.
     pub to: u64,
+}
+
+/// Copies the words from the word `first` on that are before the word `end` of one state to another one.
+fn copy_between(from: &[u64], to: &mut [u64], first: u64, end: u64)
+    requires { length from.now ≡ length to.old }
+    ensures long { length to.new ≡ length to.old }
+    ensures between { (i : ℕ) → i < length to.old → first ≤ i → i < end
+        → slice_index to.new i ≡ slice_index from.now i }
+    ensures beside { (i : ℕ) → (i < first) ⊎ (end ≤ i) → slice_index to.new i ≡ slice_index to.old i }
+{
+    let last = end.min(from.len() as u64);
+    for i in first..last {
+        to[i as usize] = from[i as usize];
+    }
 }
 
 impl Touched {
@@ -58,6 +72,18 @@ impl Touched {
             return u64::MAX;
         }
         self.from.max(i)
+    }
+
+    /// Copies these words of one state to another one.
+    pub(crate) fn copy(self, from: &[u64], to: &mut [u64])
+        requires { length from.now ≡ length to.old }
+        ensures long { length to.new ≡ length to.old }
+        ensures kept { (i : ℕ) → IsUntouched self i → slice_index to.new i ≡ slice_index to.old i }
+        ensures copied { (i : ℕ) → i < length to.old
+            → IsUntouched self i ⊎ (slice_index to.new i ≡ slice_index from.now i) }
+    {
+        copy_between(from, to, 0, self.head);
+        copy_between(from, to, self.from, self.to);
     }
 
     /// The first of these words or those from this one on, or a word that no state has.

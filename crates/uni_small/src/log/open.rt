@@ -49,6 +49,7 @@ pub(crate) fn room(alloc: Global, sizes: &Sizes) -> Result<Room, AllocError>
         reply: vec![in alloc; 0u64; (n * sizes.reply) as usize]?,
         state: vec![in alloc; 0u64; sizes.state as usize]?,
         seen: seen_room(alloc, sizes)?,
+        saved: vec![in alloc; 0u64; sizes.state as usize]?,
     })
 }
 

@@ -2,8 +2,9 @@
 ghost use Rattle.std.specs.Prelude.{true, false, ◌≡◌, ◌≢◌, ℕ, ◌+◌, ◌*◌, ◌<◌, ◌≤◌};
 ghost use Rattle.std.specs.Prelude.{◌==◌, List, [], ◌∷◌, ◌++◌, Option, Some, None};
 ghost use Rattle.std.specs.Prelude.{if◌then◌else◌, length, slice_index};
-ghost use Rattle.uni_small.specs.Image.{HasRows, buffer_words, held_place, spell, with_seen, read_image};
-ghost use Rattle.uni_small.specs.View.{announces, begins_directly, brings, goes, knows, returns, wrote};
+ghost use Rattle.uni_small.specs.Image.{AreWidths, HasRows, buffer_words, held_place, spell, with_seen, read_image};
+ghost use Rattle.uni_small.specs.Final.{IsVersion};
+ghost use Rattle.uni_small.specs.View.{announces, begins_directly, brings, confirms, goes, knows, returns, wrote};
 ghost use Rattle.uni_small.specs.View.Stage.{Idle, Last, Reading, Ready, Writing};
 ghost use Rattle.uni_small.specs.Board.{buffer_in, current_word, version_in};
 ghost use Rattle.uni_small.specs.Invariant.{most_calls};
@@ -18,8 +19,8 @@ ghost use Rattle.uni_small.specs.Belongs.{HasInvocation};
 use crate::log::SmallShared;
 use crate::object::SmallObject;
 use crate::rule::{
-    Announces, Asks, Begins, Brings, BringsOwn, Checks, ChecksOwn, Copies, Follows, Loads, Looks,
-    Recounts, Replies, Rereads, Restarts, Starts, Stores, Turns, Writes,
+    Announces, Asks, Begins, Brings, BringsOwn, Checks, ChecksOwn, Confirms, Copies, Follows,
+    Loads, Looks, Recounts, Replies, Rereads, Restarts, Starts, Stores, Turns, Writes,
 };
 use crate::seat::Seen;
 use crate::view::View;
@@ -192,6 +193,26 @@ impl<O: SmallObject> SmallShared<O> {
             (read_image self.now.setup.sizes copy)) }
     {
         self.table.shared.load::<ChecksOwn>(seat, 0)
+    }
+
+    /// Loads S again, and gives the direct attempt up: where S is as it was, the copy has the state of the version that
+    /// it names.
+    pub(crate) fn confirm(&self, seat: &mut Seat<Seen, View<O>>, p: u64, s: u64) -> u64
+        requires table { seat.old.table_id ≡ self.now.table.shared.table_id }
+        requires inside { p < self.now.setup.sizes.processes }
+        requires of { IsOf self.now.setup.object self.now.setup.sizes p seat.old.me }
+        requires direct { IsDirect seat.old.me }
+        requires stage { IsCopying 0 s (buffer_words self.now.setup.sizes) seat.old.me }
+        ensures same { (seat.new.table_id ≡ seat.old.table_id) × (seat.new.id ≡ seat.old.id) }
+        ensures left { IsLeft seat.old.me (confirms (local_of seat.old.me) s result) seat.new.me }
+        ensures later { result ≡ s → (local_of seat.old.me).after ≤ version_in s }
+        ensures widths { result ≡ s → AreWidths (O.meaning self.now.setup.object) self.now.setup.sizes }
+        ensures told { (copy : List ℕ) → stage_of seat.old.me ≡ Reading 0 s copy [] → result ≡ s
+            → IsVersion (O.meaning self.now.setup.object).object self.now.setup.sizes.processes
+            (record { process = p; calls = (local_of seat.old.me).own } ∷ []) (version_in s)
+            (read_image self.now.setup.sizes copy).state }
+    {
+        self.table.shared.load::<Confirms>(seat, 0)
     }
 
     /// Stores a word of the spare buffer.

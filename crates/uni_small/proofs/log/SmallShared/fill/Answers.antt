@@ -51,6 +51,7 @@ returns-clause-long g c =
       state = ap size d ∙ c.apply_seen-touched.auto.state ∙ ap size c.deref_mut-3.ensures.value ∙ c.requires.room.state;
       seen = c.requires.room.seen;
       invocations = c.requires.room.invocations;
+      saved = c.requires.room.saved;
     } in
     let words = spell (image_in sizes room1) in
     let whole : length words ≡ buffer_words sizes = spell-length sizes (image_in sizes room1) (room_rows sizes room1 has) in
@@ -73,6 +74,7 @@ returns-clause-held g c =
       state = ap size d ∙ c.apply_seen-touched.auto.state ∙ ap size c.deref_mut-3.ensures.value ∙ c.requires.room.state;
       seen = c.requires.room.seen;
       invocations = c.requires.room.invocations;
+      saved = c.requires.room.saved;
     } in
     let words = spell (image_in sizes room1) in
     let whole : length words ≡ buffer_words sizes = spell-length sizes (image_in sizes room1) (room_rows sizes room1 has) in
@@ -102,6 +104,7 @@ returns-clause-kept g c =
       state = ap size d ∙ c.apply_seen-touched.auto.state ∙ ap size c.deref_mut-3.ensures.value ∙ c.requires.room.state;
       seen = c.requires.room.seen;
       invocations = c.requires.room.invocations;
+      saved = c.requires.room.saved;
     } in
     let words = spell (image_in sizes room1) in
     let whole : length words ≡ buffer_words sizes = spell-length sizes (image_in sizes room1) (room_rows sizes room1 has) in

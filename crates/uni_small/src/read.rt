@@ -1,0 +1,156 @@
+//! The present state, read without a call.
+ghost use Rattle.std.specs.Prelude.{◌≡◌, ◌↔◌, ◌+◌, ◌<◌, ◌≤◌, ◌∷◌, [], None, length};
+ghost use Rattle.std.specs.Prelude.{IfOk, IfSome, IsErr, IsSome, OnErr, OnOk};
+ghost use Rattle.uni_small.specs.Belongs.{AreBuffers, HasRoom, IsKept, IsSeatOf, calls_made, calls_of, image_in};
+ghost use Rattle.uni_small.specs.Belongs.{invocation_width_of, object_of, process_of, processes_of, reply_width_of};
+ghost use Rattle.uni_small.specs.Belongs.{sizes_of, state_read, taken_calls, version_of, word_steps_of};
+ghost use Rattle.uni_small.specs.Final.{IsAnswerAt, IsVersion};
+ghost use Rattle.uni_small.specs.Image.{AreWidths, IsReached};
+ghost use Rattle.uni_small.specs.Invariant.{most_calls};
+ghost use Rattle.uni_small.specs.Plays.{stage_of};
+ghost use Rattle.uni_small.specs.Standing.{IsAnnounced, IsOf, ReadsWithin, local_of, read_steps};
+ghost use Rattle.uni_small.specs.View.Stage.{Idle};
+
+use crate::apply::{CallsSpent, MAX_CALLS};
+use crate::log::SmallShared;
+use crate::object::SmallObject;
+use crate::seat::{Buffers, Room, Seen, SmallSeat};
+use crate::view::View;
+use atomic_table::Seat;
+
+impl<O: SmallObject> SmallShared<O> {
+    /// Copies the present buffer: its version, or `None` where another one came meanwhile.
+    fn copy_present(
+        &self,
+        seat: &mut Seat<Seen, View<O>>,
+        p: u64,
+        own: &Buffers,
+        room: &mut Room,
+    ) -> Option<u64>
+        requires table { seat.old.table_id ≡ self.now.table.shared.table_id }
+        requires inside { p < self.now.setup.sizes.processes }
+        requires of { IsOf self.now.setup.object self.now.setup.sizes p seat.old.me }
+        requires stage { stage_of seat.old.me ≡ Idle [] }
+        requires untried { IsAnnounced seat.old.me }
+        requires calls { length (local_of seat.old.me).own + 1 ≤ most_calls }
+        requires own { AreBuffers self.now.setup.sizes (local_of seat.old.me) own.now }
+        requires room { HasRoom self.now.setup.sizes room.old }
+        requires kept { IsKept self.now.setup.sizes own.now room.old }
+        ensures same { (seat.new.table_id ≡ seat.old.table_id) × (seat.new.id ≡ seat.old.id) }
+        ensures ends { ReadsWithin (read_steps self.now.setup.sizes) seat.old.me result seat.new.me }
+        ensures later { IfSome result (λ version. (local_of seat.old.me).after ≤ version) }
+        ensures widths { IsSome result → AreWidths (O.meaning self.now.setup.object) self.now.setup.sizes }
+        ensures told { IfSome result (λ version. IsVersion (O.meaning self.now.setup.object).object
+            self.now.setup.sizes.processes (record { process = p; calls = (local_of seat.old.me).own } ∷ [])
+            version room.new.state.items) }
+        ensures room { HasRoom self.now.setup.sizes room.new }
+        ensures kept { IsKept self.now.setup.sizes own.now room.new }
+    {
+        let s = self.begin(seat, p);
+        self.copy(seat, p, 0, s, own, room);
+        let again = self.confirm(seat, p, s);
+        if again == s { Some(s / 128) } else { None }
+    }
+
+    /// What the object answers to an invocation at the state in the room, which stays as it is.
+    fn answer(&self, room: &mut Room, invocation: &[u64], reply: &mut [u64])
+        requires wide { (length invocation.now ≡ self.now.setup.sizes.invocation)
+            × (length reply.old ≡ self.now.setup.sizes.reply) }
+        requires widths { AreWidths (O.meaning self.now.setup.object) self.now.setup.sizes }
+        requires room { HasRoom self.now.setup.sizes room.old }
+        requires reached { IsReached (O.meaning self.now.setup.object).object room.old.state.items }
+        ensures reply { reply.new
+            ≡ (O.meaning self.now.setup.object).object.answer room.old.state.items invocation.now }
+        ensures same { (room.new.of ≡ room.old.of)
+            × (image_in self.now.setup.sizes room.new ≡ image_in self.now.setup.sizes room.old) }
+        ensures room { HasRoom self.now.setup.sizes room.new }
+    {
+        let touched = self.setup.object.touches(&room.state, invocation);
+        touched.copy(&room.state, &mut room.saved);
+        self.setup.object.apply(&mut room.state, invocation, reply);
+        touched.copy(&room.saved, &mut room.state);
+    }
+}
+
+impl<O: SmallObject> SmallSeat<O> {
+    /// Reads the present state, without a call: the answer is its version, and `state` shows it. Nothing is stored in a
+    /// shared word. Where no other process has made a call since this seat's last one, no word of the state is loaded.
+    ///
+    /// The version has the state after all calls that took effect in a history that the atomic object accepts, and all
+    /// calls of the seat are among them. The seat follows it: its later calls come after all calls that are in that
+    /// version, and their versions are greater.
+    ///
+    /// The answer is `None` where another version came while words were loaded; nothing is known of the state then. Ask
+    /// again, as often as you like: how often another version comes is up to the others. Who has to be answered within a
+    /// bound makes a call that changes nothing.
+    ///
+    /// It returns after at most `W + (1 + R) * n + 2` word steps. The error says that the seat has made all the calls
+    /// that it can make; nothing is changed then.
+    pub fn refresh(&mut self, shared: &SmallShared<O>) -> Result<Option<u64>, CallsSpent>
+        requires seat { IsSeatOf shared.now self.old }
+        ensures kept { IsSeatOf shared.now self.new × (process_of self.new ≡ process_of self.old) }
+        ensures spent { IsErr result ↔ (calls_made self.old ≡ most_calls) }
+        ensures unchanged { OnErr result (self.new ≡ self.old) }
+        ensures calls { (calls_of self.new ≡ calls_of self.old) × (taken_calls self.new ≡ taken_calls self.old) }
+        ensures told { IfOk result (λ found. IfSome found (λ version.
+            IsVersion (O.meaning (object_of shared.now)).object (processes_of shared.now) (calls_of self.new ∷ [])
+            version (state_read self.new))) }
+        ensures version { IfOk result (λ found. IfSome found (λ version. version_of self.new ≡ version)) }
+        ensures later { version_of self.old ≤ version_of self.new }
+        ensures same { IfOk result (λ found. found ≡ None → version_of self.new ≡ version_of self.old) }
+        ensures few_steps { OnOk result (word_steps_of self.new
+            ≤ word_steps_of self.old + read_steps (sizes_of shared.now)) }
+    {
+        if self.made == MAX_CALLS {
+            return Err(CallsSpent);
+        }
+        Ok(shared.copy_present(&mut self.seat, self.p, &self.own, &mut self.room))
+    }
+
+    /// The words of the state that `refresh` has read last. After a call of the seat, or where `refresh` has answered
+    /// `None`, they are of no use.
+    pub fn state(&self) -> &[u64]
+        ensures { result.now ≡ state_read self.now }
+    {
+        &self.room.state
+    }
+
+    /// What a call of this invocation would be answered at the present state: the reply is written, and the answer is the
+    /// version that has the state. No call is made. Of an invocation that changes nothing, as a read of a map, this is
+    /// what `apply` is for, and no other process waits for it or copies anything.
+    ///
+    /// The answer is `None` where another version came meanwhile; the reply stays as it was then. What the version is, and
+    /// what the seat follows, how many steps it takes and the error are as `refresh` has them.
+    pub fn read(
+        &mut self,
+        shared: &SmallShared<O>,
+        invocation: &[u64],
+        reply: &mut [u64],
+    ) -> Result<Option<u64>, CallsSpent>
+        requires seat { IsSeatOf shared.now self.old }
+        requires invocation { length invocation.now ≡ invocation_width_of shared.now }
+        requires reply { length reply.old ≡ reply_width_of shared.now }
+        ensures kept { IsSeatOf shared.now self.new × (process_of self.new ≡ process_of self.old) }
+        ensures spent { IsErr result ↔ (calls_made self.old ≡ most_calls) }
+        ensures unchanged { OnErr result ((self.new ≡ self.old) × (reply.new ≡ reply.old)) }
+        ensures calls { (calls_of self.new ≡ calls_of self.old) × (taken_calls self.new ≡ taken_calls self.old) }
+        ensures told { IfOk result (λ found. IfSome found (λ version.
+            IsAnswerAt (O.meaning (object_of shared.now)).object (processes_of shared.now) (calls_of self.new ∷ [])
+            version invocation.now reply.new)) }
+        ensures version { IfOk result (λ found. IfSome found (λ version. version_of self.new ≡ version)) }
+        ensures later { version_of self.old ≤ version_of self.new }
+        ensures none { IfOk result (λ found. found ≡ None
+            → (version_of self.new ≡ version_of self.old) × (reply.new ≡ reply.old)) }
+        ensures few_steps { OnOk result (word_steps_of self.new
+            ≤ word_steps_of self.old + read_steps (sizes_of shared.now)) }
+    {
+        if self.made == MAX_CALLS {
+            return Err(CallsSpent);
+        }
+        let found = shared.copy_present(&mut self.seat, self.p, &self.own, &mut self.room);
+        if found.is_some() {
+            shared.answer(&mut self.room, invocation, reply);
+        }
+        Ok(found)
+    }
+}
