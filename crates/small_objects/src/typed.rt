@@ -1,10 +1,12 @@
 //! Seats that are called with calls, and give replies.
 ghost use Rattle.std.specs.Prelude.{List, [], IfOk, IsErr, IsErrOf, ℕ, ◌+◌, ◌++◌, ◌<◌, ◌≡◌, ◌≢◌, ◌≤◌, ◌⊎◌, ◌↔◌, ◌∷◌};
-ghost use Rattle.std.specs.Prelude.{OnErr, OnOk};
+ghost use Rattle.std.specs.Prelude.{IfSome, OnErr, OnOk};
 ghost use Rattle.uni_small.specs.Invariant.{most_calls};
-ghost use Rattle.uni_small.specs.Belongs.{IsSeatOf, calls_made, invocation_width_of, own_calls, reply_width_of};
-ghost use Rattle.uni_small.specs.Belongs.{process_of, sizes_of, version_of, word_steps_of};
-ghost use Rattle.uni_small.specs.Standing.{call_steps};
+ghost use Rattle.uni_small.specs.Belongs.{IsSeatOf, calls_made, calls_of, invocation_width_of, known_calls, object_of};
+ghost use Rattle.uni_small.specs.Belongs.{own_calls, process_of, processes_of, reply_width_of, sizes_of, version_of};
+ghost use Rattle.uni_small.specs.Belongs.{word_steps_of};
+ghost use Rattle.uni_small.specs.Final.{IsAnswerAt};
+ghost use Rattle.uni_small.specs.Standing.{call_steps, read_steps};
 ghost use Rattle.small_objects.specs.Typed.{IsTypedSeatOf, seat_of};
 
 use crate::words::Words;
@@ -77,6 +79,38 @@ impl<O: SmallObject, C: Words, R: Words> TypedSeat<O, C, R> {
             reply: R::load(&self.reply),
             version,
         })
+    }
+
+    /// What this call would be answered at the present state, without making it, with the version that has the state: as
+    /// `read` of the seat, of which the call's words are the invocation. The answer is `None` where another version came
+    /// meanwhile.
+    pub fn read(
+        &mut self,
+        shared: &SmallShared<O>,
+        call: &C,
+    ) -> Result<Option<Told<R>>, CallsSpent>
+        requires { IsTypedSeatOf C.words R.words shared.now self.old }
+        ensures kept { IsTypedSeatOf C.words R.words shared.now self.new }
+        ensures spent { IsErr result ↔ (calls_made (seat_of self.old) ≡ most_calls) }
+        ensures unchanged { OnErr result (seat_of self.new ≡ seat_of self.old) }
+        ensures calls { known_calls (seat_of self.new) ≡ known_calls (seat_of self.old) }
+        ensures told { IfOk result (λ found. IfSome found (λ told. (words : List ℕ) × (told.reply ≡ R.decode words)
+            × IsAnswerAt (O.meaning (object_of shared.now)).object (processes_of shared.now)
+            (calls_of (seat_of self.new) ∷ []) told.version (C.encode call.now) words)) }
+        ensures version { IfOk result (λ found. IfSome found (λ told.
+            version_of (seat_of self.new) ≡ told.version)) }
+        ensures later { version_of (seat_of self.old) ≤ version_of (seat_of self.new) }
+        ensures few_steps { OnOk result (word_steps_of (seat_of self.new)
+            ≤ word_steps_of (seat_of self.old) + read_steps (sizes_of shared.now)) }
+    {
+        call.store(&mut self.invocation);
+        match self.seat.read(shared, &self.invocation, &mut self.reply)? {
+            Some(version) => Ok(Some(Told {
+                reply: R::load(&self.reply),
+                version,
+            })),
+            None => Ok(None),
+        }
     }
 
     /// The seat, to be followed, taken in or closed with.

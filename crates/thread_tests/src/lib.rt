@@ -18,6 +18,8 @@ mod left;
 #[cfg(test)]
 mod machines;
 #[cfg(test)]
+mod reads;
+#[cfg(test)]
 mod replays;
 #[cfg(test)]
 mod scripts;

@@ -106,7 +106,7 @@ fn told<O: SmallObject, C: Words, R: Words + Debug + PartialEq>(
 }
 
 /// The seat's next calls, each with its invocation and its reply.
-fn answers<O: SmallObject>(
+pub(crate) fn answers<O: SmallObject>(
     rt: &impl Abort,
     shared: &SmallShared<O>,
     seat: &mut SmallSeat<O>,
@@ -159,7 +159,7 @@ fn a_stack(rt: HostRuntime) {
 }
 
 /// A seat for calls of type `C`, which are answered with a value of type `R`.
-fn typed<O: SmallObject, C: Words, R: Words>(
+pub(crate) fn typed<O: SmallObject, C: Words, R: Words>(
     rt: &impl Abort,
     alloc: Global,
     shared: &SmallShared<O>,
