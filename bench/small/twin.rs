@@ -1,6 +1,6 @@
 // A plain twin of the wait-free form for objects of several words, and two locks round the same object, beside which
-// it is measured: `twin FORM OBJECT N T K R`, with FORM `small`, `mutex` or `ticket` and the rest as in program.txt. It
-// prints the nanoseconds that each round took.
+// it is measured: `twin FORM OBJECT N T K R`, with FORM `small`, `mutex` or `ticket` and the rest as in program.txt; a read
+// is a call that changes nothing. It prints the nanoseconds that each round took.
 //
 // The twin has the words of the proved form, in their order: S, the announcements, the arguments, and 2n buffers, each
 // with how many calls of each process are in, a reply for each, and the state. Each of its kinds of step is one
@@ -19,6 +19,10 @@ trait Object: Sync {
     fn apply(state: &mut [u64], inv: &[u64], reply: &mut [u64]);
     /// Writes the words of the call that a word stands for.
     fn fill(word: u64, inv: &mut [u64]);
+    /// A word that stands for a call which changes nothing.
+    fn reading(_word: u64) -> u64 {
+        0
+    }
 }
 
 struct Counter;
@@ -131,6 +135,9 @@ impl Object for Map {
     }
     fn fill(word: u64, inv: &mut [u64]) {
         inv.copy_from_slice(&[word % 3, word / 3 % 64, word / 192 % 1000]);
+    }
+    fn reading(word: u64) -> u64 {
+        word - word % 3
     }
 }
 
@@ -308,6 +315,7 @@ struct Plan {
     processes: usize,
     callers: usize,
     calls: usize,
+    reads: bool,
 }
 
 fn calls<O: Object>(form: &dyn Form, p: usize, plan: Plan, ready: &AtomicUsize, began: &Instant) -> (u128, u128) {
@@ -323,18 +331,24 @@ fn calls<O: Object>(form: &dyn Form, p: usize, plan: Plan, ready: &AtomicUsize, 
         held: [vec![0; n + n * r + w], vec![0; n + n * r + w]],
     };
     let (mut inv, mut reply) = (vec![0; i], vec![0; r]);
-    let mut word = 0x9e37_79b9_7f4a_7c15u64;
+    let mut make = |count: usize, reads: bool| {
+        let mut word = 0x9e37_79b9_7f4a_7c15u64;
+        for _ in 0..count {
+            word ^= word << 13;
+            word ^= word >> 7;
+            word ^= word << 17;
+            O::fill(if reads { O::reading(word) } else { word }, &mut inv);
+            form.apply(&mut seat, &inv, &mut reply);
+            black_box(&reply);
+        }
+    };
+    if plan.reads {
+        make(64, false);
+    }
     ready.fetch_add(1, SeqCst);
     while ready.load(SeqCst) < plan.callers {}
     let from = began.elapsed().as_nanos();
-    for _ in 0..plan.calls {
-        word ^= word << 13;
-        word ^= word >> 7;
-        word ^= word << 17;
-        O::fill(word, &mut inv);
-        form.apply(&mut seat, &inv, &mut reply);
-        black_box(&reply);
-    }
+    make(plan.calls, plan.reads);
     (from, began.elapsed().as_nanos())
 }
 
@@ -362,13 +376,14 @@ fn main() {
         processes: number(3),
         callers: number(4),
         calls: number(5),
+        reads: words[2].ends_with("_read"),
     };
     let form = words[1].as_str();
     for _ in 0..number(6) {
         let taken = match words[2].as_str() {
             "book" => round::<Book>(form, plan),
             "queue" => round::<Queue>(form, plan),
-            "map" => round::<Map>(form, plan),
+            "map" | "map_read" => round::<Map>(form, plan),
             _ => round::<Counter>(form, plan),
         };
         println!("{taken}");
