@@ -2,12 +2,14 @@
 // KILLS may stop for good at any step, and their seats be taken over. A step is one access of one shared word.
 //
 // The steps are those of crates/uni_small/specs/Execution.antt, written a second time: no prover reads this. Wherever
-// the rule lets a process choose, both are tried: a call may begin with a direct attempt, or be announced at once.
+// the rule lets a process choose, both are tried: a call may begin with a direct attempt, or be announced at once; and what
+// begins as a direct attempt may end as a read, once the buffer is copied.
 //
 // Beside the words it keeps what an atomic object would have: its state, how many calls of each process are in, and
 // their replies. It stops with a word where an exchange applies a call that isn't pending, a call twice, or one with
 // another invocation; where the current buffer isn't what these calls lead to; where an attempt goes on from a torn
-// copy; where a call returns that isn't in, or with another reply; and where one takes more steps than the bound.
+// copy; where a call returns that isn't in, or with another reply; where a read is told another state than the present one;
+// and where one takes more steps than the bound.
 //
 // PLANTED is 0, or one of the faults that it is to find (see `Planted`). bench/small/explore compiles and runs it.
 #include <algorithm>
@@ -32,6 +34,7 @@ constexpr int buffer_words = first_state + state_words;
 constexpr int attempt_steps = 2 * buffer_words + processes + processes * argument_words + 3;
 constexpr int call_steps = attempt_steps + 4 * state_words + (6 + 2 * argument_words + 4 * reply_words) * processes
                            + argument_words + reply_words + 8;
+constexpr int read_steps = buffer_words + 2;
 constexpr int resume_steps = 2 * buffer_words + 2 * attempt_steps + reply_words + 2;
 static_assert(2 * processes * (processes * calls + 1) < 256, "versions don't fit");
 
@@ -47,6 +50,7 @@ enum Planted {
     LostPart,          // the last word of a state isn't copied
     CurrentIsSpare,    // who takes a seat over writes the current buffer
     OneCallLess,       // who takes a seat over forgets its latest call
+    UnconfirmedRead,   // a read is told its copy also where S has changed
 };
 constexpr Planted planted = static_cast<Planted>(PLANTED);
 
@@ -248,6 +252,22 @@ void restarts(State &m, int p) {
     x.stage = Stage::Between;
 }
 
+bool can_confirm(const Process &x) { return x.stage == Stage::Looking && x.direct && x.other == 0; }
+
+// The load of S that ends a read: no call has begun.
+void confirms(State &m, int p) {
+    Process &x = m.process[p];
+    const bool is_told = m.s == x.s || planted == UnconfirmedRead;
+    if (is_told && (!has_value(m, x.copy) || !std::equal(m.in.begin(), m.in.end(), x.copy.begin())))
+        throw Found{"a read is told another state"};
+    if (x.steps + 1 > read_steps) throw Found{"a read takes more steps than the bound"};
+    forget(x);
+    x.begun--;
+    x.direct = 0;
+    x.steps = 0;
+    x.stage = Stage::Between;
+}
+
 // One step of a process: an access of one word, and all that the process does by itself after it.
 void steps(State &m, int p, bool directly) {
     Process &x = m.process[p];
@@ -357,6 +377,7 @@ int main() {
                     steps(next, p, directly);
                     add(next);
                 }
+                if (can_confirm(m.process[p])) { next = m; confirms(next, p); add(next); }
                 if (can_stop(m, p)) { next = m; stops(next, p); add(next); }
             }
         }
