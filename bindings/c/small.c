@@ -247,7 +247,7 @@ static void seats_end(void) {
 
     /* seats that were never given out */
     IS(universal_open_queue(64, 1, &object), UNIVERSAL_DONE);
-    closes(&object, (const uint64_t[]){0, 0}, 2);
+    closes(&object, (const uint64_t[]){0, 0, 0}, 3);
 }
 
 /* What is on a handle that has no small object, or no seat of one, is refused and changes nothing. */
