@@ -76,7 +76,8 @@ typedef enum universal_status {
     UNIVERSAL_NO_TARGET = 16,    /* it would go on past the end */
     UNIVERSAL_GOES_FORWARD = 17, /* its loop would go back to a later instruction */
     UNIVERSAL_NO_LOOP = 18,      /* its loop's number isn't below 16 */
-    UNIVERSAL_TOO_LONG = 19      /* a program has more than 4,096 instructions, or more than 2^32 steps in a call */
+    UNIVERSAL_TOO_LONG = 19,     /* a program has more than 4,096 instructions, or more than 2^32 steps in a call */
+    UNIVERSAL_CHANGED = 28       /* another version came while a read loaded the state (20 to 27 are of universal_shared.h) */
 } universal_status;
 
 /* What a status says, in words; "no status" of any other number. The text stays for good. */
@@ -102,6 +103,7 @@ static inline const char *universal_strerror(uint32_t status) {
     case UNIVERSAL_GOES_FORWARD: return "a loop goes back to a later instruction";
     case UNIVERSAL_NO_LOOP: return "a loop's number isn't below 16";
     case UNIVERSAL_TOO_LONG: return "a program has more than 4096 instructions, or more than 2^32 steps in a call";
+    case UNIVERSAL_CHANGED: return "another version came while the state was read";
     default: return "no status";
     }
 }
@@ -132,6 +134,9 @@ static inline const char *universal_strerror(uint32_t status) {
  * shared words. Where another process's call came since the process's own last one, it copies the whole state, also while the
  * object is empty: some 1.3 nanoseconds a word (docs/measured.md). Where none came, it takes the time of what it touches: one
  * counter, or a value; or, where a map takes or loses a key, as many words as the object holds.
+ *
+ * What a call would be answered can be read without making it: universal_small_read stores nothing, so no other process copies a
+ * state for it. It takes at most W + (1 + R)n + 2 steps, and may find that the state has changed meanwhile.
  * ------------------------------------------------------------------------------------------------------------------ */
 
 /* Opens a counter modulo 2^64, 0 at the start, for n processes. A call adds its number, and is answered the sum before.
@@ -304,6 +309,29 @@ uint32_t universal_small_seat(universal_handle *object, universal_handle *seat, 
 uint32_t universal_small_apply(universal_handle *seat, const uint64_t *invocation, size_t invocation_count, uint64_t *reply,
                                size_t reply_count, uint64_t *version);
 
+/* Reads the present state by a seat of a small object: the reply is what a call of this invocation would be answered there, and
+ * *version is the one that has that state. No call is made, nothing is stored in a shared word, and no lock and no memory is taken.
+ * The version is at least the one that the seat had, and all calls of the seat are in it. The seat has it then: its later calls come
+ * after all calls that are in it, and their versions are greater.
+ *
+ * UNIVERSAL_WRONG_HANDLE, UNIVERSAL_BAD_WIDTH, UNIVERSAL_SPENT: as of universal_small_apply; after each nothing is changed.
+ * UNIVERSAL_CHANGED: another version came meanwhile, and nothing is known of the state. The reply, *version and the version of the
+ * seat are as they were. Ask again, as often as you like; who has to be answered within a bound makes the call. In this order. */
+uint32_t universal_small_read(universal_handle *seat, const uint64_t *invocation, size_t invocation_count, uint64_t *reply,
+                              size_t reply_count, uint64_t *version);
+
+/* For an invocation that changes nothing: up to three reads, and where another version came each time the call. So it stores nothing
+ * where nobody else is at work, and ends within a bound in any case. It is C over the two, with their statuses but
+ * UNIVERSAL_CHANGED, and no part of the proof. */
+static inline uint32_t universal_small_read_or_apply(universal_handle *seat, const uint64_t *invocation, size_t invocation_count,
+                                                     uint64_t *reply, size_t reply_count, uint64_t *version) {
+    for (int i = 0; i < 3; i++) {
+        uint32_t status = universal_small_read(seat, invocation, invocation_count, reply, reply_count, version);
+        if (status != UNIVERSAL_CHANGED) return status;
+    }
+    return universal_small_apply(seat, invocation, invocation_count, reply, reply_count, version);
+}
+
 /* The calls of the objects by name, which know how many words each has; the version isn't told. They are C over
  * universal_small_apply, with its statuses, and no part of the proof. What a call is answered is written where it is
  * UNIVERSAL_DONE. */
@@ -314,7 +342,6 @@ uint32_t universal_small_apply(universal_handle *seat, const uint64_t *invocatio
         return universal_small_apply(seat, words, sizeof words / sizeof *words, reply, replies, &version); \
     }
 UNIVERSAL_NAMED(universal_counter_add, 1, before, UNIVERSAL_COUNTER_ADD(number), uint64_t number, uint64_t *before)
-UNIVERSAL_NAMED(universal_register64_read, 1, value, UNIVERSAL_REGISTER64_READ, uint64_t *value)
 UNIVERSAL_NAMED(universal_register64_write, 1, before, UNIVERSAL_REGISTER64_WRITE(value), uint64_t value, uint64_t *before)
 UNIVERSAL_NAMED(universal_register64_compare_exchange, 1, before, UNIVERSAL_REGISTER64_COMPARE_EXCHANGE(expected, value),
                 uint64_t expected, uint64_t value, uint64_t *before)
@@ -327,9 +354,20 @@ UNIVERSAL_NAMED(universal_stack_push, 1, is_in, UNIVERSAL_STACK_PUSH(number), ui
 UNIVERSAL_NAMED(universal_queue_take, 1, number, UNIVERSAL_QUEUE_TAKE, uint64_t *number)
 UNIVERSAL_NAMED(universal_stack_pop, 1, number, UNIVERSAL_STACK_POP, uint64_t *number)
 /* the reply's two words */
-UNIVERSAL_NAMED(universal_map_get, 2, reply, UNIVERSAL_MAP_GET(key), uint64_t key, uint64_t reply[2])
 UNIVERSAL_NAMED(universal_map_insert, 2, reply, UNIVERSAL_MAP_INSERT(key, value), uint64_t key, uint64_t value, uint64_t reply[2])
 UNIVERSAL_NAMED(universal_map_remove, 2, reply, UNIVERSAL_MAP_REMOVE(key), uint64_t key, uint64_t reply[2])
+
+/* What only reads is answered by universal_small_read_or_apply. */
+static inline uint32_t universal_register64_read(universal_handle *seat, uint64_t *value) {
+    const uint64_t words[] = UNIVERSAL_REGISTER64_READ;
+    uint64_t version = 0;
+    return universal_small_read_or_apply(seat, words, 3, value, 1, &version);
+}
+static inline uint32_t universal_map_get(universal_handle *seat, uint64_t key, uint64_t reply[2]) {
+    const uint64_t words[] = UNIVERSAL_MAP_GET(key);
+    uint64_t version = 0;
+    return universal_small_read_or_apply(seat, words, 3, reply, 2, &version);
+}
 
 /* The next three are for who keeps objects in memory that outlives a process, as universal_shared.h does: a seat is taken over
  * after its owner's death. */

@@ -1,5 +1,6 @@
 /* Small objects: each call on its happy path, each refusal, and each misuse that has a status. */
 #include "universal.h"
+#include "universal_program.h"
 #include <stdio.h>
 #include <string.h>
 
@@ -49,11 +50,28 @@ static void closes(universal_handle *handle, const uint64_t *wanted, size_t coun
     IS(handle->at != NULL, 0);
 }
 
+/* What a call of these words would be answered, read without it: twice the same, and of the version that the seat has. */
+#define READ(seat, replies, ...) found(seat, (const uint64_t[])__VA_ARGS__, sizeof(uint64_t[])__VA_ARGS__ / 8, replies)
+
+static uint64_t found(universal_handle *seat, const uint64_t *invocation, size_t count, size_t replies) {
+    for (int i = 0; i < 2; i++) {
+        uint64_t present = NEVER, first = reply[0];
+        reply[0] = reply[1] = NEVER;
+        IS(universal_small_read(seat, invocation, count, reply, replies, &present), UNIVERSAL_DONE);
+        IS(present, version);
+        IS(reply[1] == NEVER, replies == 1);
+        IS(i == 1 && reply[0] != first, 0);
+    }
+    return reply[0];
+}
+
 static void numbers(void) {
     universal_handle object = UNIVERSAL_NONE, seat;
     IS(universal_open_counter(1, &object), UNIVERSAL_DONE);
     seat = only_seat(&object);
+    IS(READ(&seat, 1, UNIVERSAL_COUNTER_ADD(3)), 0);
     IS(CALL(&seat, 1, UNIVERSAL_COUNTER_ADD(5)), 0);
+    IS(READ(&seat, 1, UNIVERSAL_COUNTER_ADD(3)), 5);
     IS(CALL(&seat, 1, UNIVERSAL_COUNTER_ADD(-1)), 5);
     IS(CALL(&seat, 1, UNIVERSAL_COUNTER_ADD(0)), 4);
     closes(&seat, (const uint64_t[]){4}, 1);
@@ -61,6 +79,8 @@ static void numbers(void) {
     IS(universal_open_register64(1, &object), UNIVERSAL_DONE);
     seat = only_seat(&object);
     IS(CALL(&seat, 1, UNIVERSAL_REGISTER64_WRITE(-1)), 0);
+    IS(READ(&seat, 1, UNIVERSAL_REGISTER64_READ), UINT64_MAX);
+    IS(READ(&seat, 1, UNIVERSAL_REGISTER64_COMPARE_EXCHANGE(-1, 9)), UINT64_MAX);
     IS(CALL(&seat, 1, UNIVERSAL_REGISTER64_COMPARE_EXCHANGE(3, 9)), UINT64_MAX);
     IS(CALL(&seat, 1, UNIVERSAL_REGISTER64_COMPARE_EXCHANGE(-1, 9)), UINT64_MAX);
     IS(CALL(&seat, 1, UNIVERSAL_REGISTER64_READ), 9);
@@ -71,6 +91,8 @@ static void numbers(void) {
     seat = only_seat(&object);
     IS(CALL(&seat, 1, UNIVERSAL_COUNTERS_ADD(2, 8)), 0);
     IS(CALL(&seat, 1, UNIVERSAL_COUNTERS_ADD(2, 1)), 8);
+    IS(READ(&seat, 1, UNIVERSAL_COUNTERS_ADD(2, 1)), 9);
+    IS(READ(&seat, 1, UNIVERSAL_COUNTERS_ADD(1, 1)), 0);
     IS(CALL(&seat, 1, UNIVERSAL_COUNTERS_ADD(3, 1)), 0);
     closes(&seat, (const uint64_t[]){0, 0, 9}, 3);
 }
@@ -81,7 +103,11 @@ static void rows(void) {
     seat = only_seat(&object);
     IS(CALL(&seat, 1, UNIVERSAL_QUEUE_TAKE), 0);
     IS(CALL(&seat, 1, UNIVERSAL_QUEUE_PUT(8)), 1);
+    IS(READ(&seat, 1, UNIVERSAL_QUEUE_PUT(9)), 1);
+    IS(READ(&seat, 1, UNIVERSAL_QUEUE_TAKE), 8);
     IS(CALL(&seat, 1, UNIVERSAL_QUEUE_PUT(9)), 1);
+    IS(READ(&seat, 1, UNIVERSAL_QUEUE_PUT(7)), 0);
+    IS(READ(&seat, 1, UNIVERSAL_QUEUE_TAKE), 8);
     IS(CALL(&seat, 1, UNIVERSAL_QUEUE_PUT(7)), 0);
     IS(CALL(&seat, 1, UNIVERSAL_QUEUE_TAKE), 8);
     closes(&seat, (const uint64_t[]){1, 1, 0, 9}, 4);
@@ -90,7 +116,10 @@ static void rows(void) {
     seat = only_seat(&object);
     IS(CALL(&seat, 1, UNIVERSAL_STACK_POP), 0);
     IS(CALL(&seat, 1, UNIVERSAL_STACK_PUSH(8)), 1);
+    IS(READ(&seat, 1, UNIVERSAL_STACK_POP), 8);
     IS(CALL(&seat, 1, UNIVERSAL_STACK_PUSH(9)), 1);
+    IS(READ(&seat, 1, UNIVERSAL_STACK_PUSH(7)), 0);
+    IS(READ(&seat, 1, UNIVERSAL_STACK_POP), 9);
     IS(CALL(&seat, 1, UNIVERSAL_STACK_PUSH(7)), 0);
     IS(CALL(&seat, 1, UNIVERSAL_STACK_POP), 9);
     closes(&seat, (const uint64_t[]){1, 8, 0}, 3);
@@ -105,6 +134,13 @@ static void map(void) {
     IS(CALL(&seat, 2, UNIVERSAL_MAP_INSERT(7, 71)), UNIVERSAL_MAP_VALUE);
     IS(reply[1], 70);
     IS(CALL(&seat, 2, UNIVERSAL_MAP_INSERT(0, -1)), UNIVERSAL_MAP_ABSENT);
+    IS(READ(&seat, 2, UNIVERSAL_MAP_GET(7)), UNIVERSAL_MAP_VALUE);
+    IS(reply[1], 71);
+    IS(READ(&seat, 2, UNIVERSAL_MAP_GET(9)), UNIVERSAL_MAP_ABSENT);
+    IS(reply[1], 0);
+    IS(READ(&seat, 2, UNIVERSAL_MAP_INSERT(9, 90)), UNIVERSAL_MAP_FULL);
+    IS(READ(&seat, 2, UNIVERSAL_MAP_REMOVE(7)), UNIVERSAL_MAP_VALUE);
+    IS(reply[1], 71);
     IS(CALL(&seat, 2, UNIVERSAL_MAP_INSERT(9, 90)), UNIVERSAL_MAP_FULL);
     IS(CALL(&seat, 2, UNIVERSAL_MAP_GET(9)), UNIVERSAL_MAP_ABSENT);
     IS(CALL(&seat, 2, UNIVERSAL_MAP_GET(0)), UNIVERSAL_MAP_VALUE);
@@ -128,6 +164,11 @@ static void book(void) {
     IS(CALL(&seat, 2, UNIVERSAL_BOOK_MOVE(3, 15, 4)), UNIVERSAL_BOOK_MOVED);
     IS(CALL(&seat, 2, UNIVERSAL_BOOK_TOTAL), UNIVERSAL_BOOK_SUM);
     IS(reply[1], 9);
+    IS(READ(&seat, 2, UNIVERSAL_BOOK_TOTAL), UNIVERSAL_BOOK_SUM);
+    IS(reply[1], 9);
+    IS(READ(&seat, 2, UNIVERSAL_BOOK_DEPOSIT(3, 0)), UNIVERSAL_BOOK_BALANCE);
+    IS(reply[1], 5);
+    IS(READ(&seat, 2, UNIVERSAL_BOOK_WITHDRAW(3, 6)), UNIVERSAL_BOOK_SHORT);
     IS(CALL(&seat, 2, UNIVERSAL_BOOK_DEPOSIT(16, 1)), UNIVERSAL_BOOK_SUM);
     state[3] = 5, state[15] = 4;
     closes(&seat, state, 16);
@@ -152,10 +193,32 @@ static void machine(void) {
     seat = only_seat(&object);
     IS(CALL(&seat, 1, UNIVERSAL_MACHINE_CALL(0)), 0);
     IS(CALL(&seat, 1, UNIVERSAL_MACHINE_CALL(-1)), 0);
+    IS(READ(&seat, 1, UNIVERSAL_MACHINE_CALL(1)), 1);
     IS(CALL(&seat, 1, UNIVERSAL_MACHINE_CALL(0)), 1);
     IS(CALL(&seat, 1, UNIVERSAL_MACHINE_CALL(1)), 1);
+    IS(READ(&seat, 1, UNIVERSAL_MACHINE_CALL(0)), 0);
     IS(CALL(&seat, 1, UNIVERSAL_MACHINE_CALL(2)), 0);
     closes(&seat, (const uint64_t[]){1}, 1);
+}
+
+/* A program: each call adds its word, and is answered the sum. */
+static void program(void) {
+    universal_instruction code[8];
+    up_program p = UP_PROGRAM(code);
+    enum { sum, number };
+    universal_handle object = UNIVERSAL_NONE, seat;
+    uint64_t place = NEVER;
+    up_load(&p, sum, UP_STATE, 0);
+    up_load(&p, number, UP_INVOCATION, 0);
+    up_add(&p, sum, sum, number, UP_END);
+    up_store(&p, 0, sum);
+    up_answer(&p, 0, sum);
+    IS(up_open(&p, 1, (const uint64_t[]){40}, 1, 1, 1, &place, &object), UNIVERSAL_DONE);
+    seat = only_seat(&object);
+    IS(READ(&seat, 1, {2}), 42);
+    IS(CALL(&seat, 1, {3}), 43);
+    IS(READ(&seat, 1, {2}), 45);
+    closes(&seat, (const uint64_t[]){43}, 1);
 }
 
 static void bad_sizes(void) {
@@ -199,8 +262,10 @@ static void widths(void) {
     reply[0] = reply[1] = NEVER;
     for (size_t count = 0; count <= 4; count++)
         for (size_t replies = 0; replies <= 2; replies++)
-            if (count != 3 || replies != 2)
+            if (count != 3 || replies != 2) {
                 IS(universal_small_apply(&seat, insert, count, reply, replies, &version), UNIVERSAL_BAD_WIDTH);
+                IS(universal_small_read(&seat, insert, count, reply, replies, &version), UNIVERSAL_BAD_WIDTH);
+            }
     IS(reply[0] != NEVER || reply[1] != NEVER || version != NEVER, 0);
     for (size_t count = 0; count <= 6; count++)
         if (count != 5)
@@ -234,6 +299,16 @@ static void seats_end(void) {
     IS(CALL(&second, 1, UNIVERSAL_COUNTER_ADD(2)), 5);
     IS(version > told, 1);
 
+    /* what one seat's call made, the other reads and follows; its next call has a later version */
+    const uint64_t add[] = UNIVERSAL_COUNTER_ADD(0);
+    uint64_t present = NEVER;
+    told = version;
+    IS(universal_small_read(&first, add, 1, reply, 1, &present), UNIVERSAL_DONE);
+    IS(reply[0], 7);
+    IS(present, told);
+    IS(CALL(&first, 1, UNIVERSAL_COUNTER_ADD(0)), 7);
+    IS(version > told, 1);
+
     /* each handle is busy as long as another has the object; then the object's own one closes it with no seat */
     IS(universal_small_close(&first, &state, 1), UNIVERSAL_BUSY);
     universal_drop(&second);
@@ -259,6 +334,8 @@ static void refuses(universal_handle *handle) {
     IS(universal_small_seat(handle, &seat, &process), UNIVERSAL_WRONG_HANDLE);
     IS(universal_small_apply(handle, add, 1, reply, 1, &version), UNIVERSAL_WRONG_HANDLE);
     IS(universal_small_apply(handle, add, 0, reply, 0, &version), UNIVERSAL_WRONG_HANDLE);
+    IS(universal_small_read(handle, add, 1, reply, 1, &version), UNIVERSAL_WRONG_HANDLE);
+    IS(universal_small_read(handle, add, 0, reply, 0, &version), UNIVERSAL_WRONG_HANDLE);
     IS(universal_small_follows(handle, 0, &has_come), UNIVERSAL_WRONG_HANDLE);
     IS(universal_small_close(handle, &state, 1), UNIVERSAL_WRONG_HANDLE);
     IS(universal_small_close(handle, &state, 0), UNIVERSAL_WRONG_HANDLE);
@@ -284,6 +361,7 @@ static void misuse(void) {
     IS(universal_open_counter(1, &object), UNIVERSAL_DONE);
     const uint64_t add[] = UNIVERSAL_COUNTER_ADD(1);
     IS(universal_small_apply(&object, add, 1, reply, 1, &version), UNIVERSAL_WRONG_HANDLE);
+    IS(universal_small_read(&object, add, 1, reply, 1, &version), UNIVERSAL_WRONG_HANDLE);
     IS(universal_small_follows(&object, 0, &has_come), UNIVERSAL_WRONG_HANDLE);
     IS(universal_small_seat(&object, &seat, &process), UNIVERSAL_DONE);
     IS(universal_small_seat(&seat, &none, &process), UNIVERSAL_WRONG_HANDLE);
@@ -371,6 +449,7 @@ int main(void) {
     map();
     book();
     machine();
+    program();
     bad_sizes();
     widths();
     seats_end();
@@ -378,6 +457,7 @@ int main(void) {
     for (uint32_t status = 0; status <= 19; status++)
         IS(strcmp(universal_strerror(status), "no status") == 0, 0);
     IS(strcmp(universal_strerror(20), "no status"), 0);
+    IS(strcmp(universal_strerror(UNIVERSAL_CHANGED), "no status") == 0, 0);
     if (wrong == 0)
         printf("small: as the header says\n");
     return wrong != 0;

@@ -1,5 +1,5 @@
 /* Threads over one counter, one map and one queue: the calls' order is legal, and agrees with what the threads told each
- * other and followed. The arguments are how many calls each thread makes, and how many threads there are, once or more. */
+ * other and followed; and so do reads of a counter without a call. The arguments are how many calls each thread makes, and how many threads there are, once or more. */
 #include "universal.h"
 #include <pthread.h>
 #include <stdatomic.h>
@@ -100,6 +100,54 @@ static void counter(void) {
     shared(&object, count_up, &sum, 1);
     expect(sum == threads * calls, "the last sum is the number of calls");
     free(has_been);
+}
+
+/* All processes but 0 add 1 in each call, and 0 reads what they have come to, until they are over: in every other turn by a read
+ * that may find nothing, and else by one that ends as a call. */
+static atomic_uint_fast64_t over;
+
+static void *watch(void *it) {
+    worker *me = it;
+    const uint64_t add[] = UNIVERSAL_COUNTER_ADD(1), ask[] = UNIVERSAL_COUNTER_ADD(0);
+    uint64_t most = (threads - 1) * calls, sum = 0;
+    if (me->process != 0) {
+        for (uint64_t i = 0; i < calls; i++) {
+            uint64_t earlier = follow(me, i);
+            call(me, add, 1, 1);
+            expect(me->reply[0] >= earlier, "a call stands after what its thread followed, be it a read");
+            tell(me, me->reply[0] + 1);
+        }
+        atomic_fetch_add(&over, 1);
+        return NULL;
+    }
+    bool is_over = false;
+    for (uint64_t i = 0; !is_over; i++) {
+        is_over = atomic_load(&over) == threads - 1;
+        uint64_t earlier = follow(me, i), version = me->version;
+        uint32_t status = i % 2 == 0 ? universal_small_read(&me->seat, ask, 1, me->reply, 1, &version)
+                                     : universal_small_read_or_apply(&me->seat, ask, 1, me->reply, 1, &version);
+        bool may_miss = i % 2 == 0 && !is_over;
+        expect(status == UNIVERSAL_DONE || (status == UNIVERSAL_CHANGED && may_miss), "a read is done, or others are at work");
+        expect(version >= me->version, "a read's version is at least the seat's own");
+        if (status == UNIVERSAL_DONE) {
+            expect(me->reply[0] >= sum, "what is read never goes down");
+            expect(me->reply[0] >= earlier, "a read comes after what its thread followed");
+            expect(me->reply[0] <= most, "what is read never passes the end");
+            sum = me->reply[0], me->version = version;
+            tell(me, sum);
+        }
+    }
+    expect(sum == most, "once the others are over, one read is the sum");
+    return NULL;
+}
+
+static void reads(void) {
+    universal_handle object = UNIVERSAL_NONE;
+    uint64_t sum = 0;
+    atomic_store(&over, 0);
+    expect(universal_open_counter(threads, &object) == UNIVERSAL_DONE, "a counter opens");
+    shared(&object, watch, &sum, 1);
+    expect(sum == (threads - 1) * calls, "no read is a call");
 }
 
 /* Each call gives a key a value that no other call gives, 1 + its number, and is answered the value before. So these tell
@@ -215,6 +263,7 @@ int main(int count, char **arguments) {
         threads = strtoull(arguments[i], NULL, 10);
         expect(threads >= 1 && threads <= MOST, "there are from 1 to 64 threads");
         counter();
+        reads();
         map();
         queue();
         printf("%llu threads, %llu calls each: legal\n", (unsigned long long)threads, (unsigned long long)calls);

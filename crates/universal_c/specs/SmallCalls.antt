@@ -4,9 +4,9 @@ use Rattle.std.specs.declared.option.Option.{Option}
 use Rattle.std.specs.declared.option.Option.TheVariants.{None, Some}
 use Rattle.uni_small.specs.Belongs.{calls_made, calls_of, invocation_width_of, known_calls, object_of, own_calls, process_of, processes_of}
 use Rattle.uni_small.specs.Belongs.{reply_width_of, sizes_of, taken_calls, version_of, width_of, word_steps_of}
-use Rattle.uni_small.specs.Final.{IsFinal}
+use Rattle.uni_small.specs.Final.{IsAnswerAt, IsFinal}
 use Rattle.uni_small.specs.Invariant.{most_calls}
-use Rattle.uni_small.specs.Standing.{call_steps}
+use Rattle.uni_small.specs.Standing.{call_steps, read_steps}
 use Rattle.uni_small.specs.View.{ProcessReturned}
 use Rattle.uni_small.specs.declared.log.SmallShared.{SmallShared}
 use Rattle.uni_small.specs.declared.seat.SmallSeat.{SmallSeat}
@@ -74,6 +74,33 @@ pub record MakesCall (shared : SmallShared SmallKind) (s t : SmallSeat SmallKind
 abbrev pub HasCalledSmall : (old new : Option Held) (invocation reply : List ℕ) (version : ℕ) → Type 0
 HasCalledSmall old new invocation reply version = IsSomeAnd (shared_in old) (λ shared. IsSomeAnd (place_in old) (λ s. IsSomeAnd (place_in new) (λ t.
     MakesCall shared s t invocation reply version)))
+
+-- the same seat after it has loaded words of the present state, by at most so many word steps, and made no call
+pub record LoadsState (shared : SmallShared SmallKind) (s t : SmallSeat SmallKind) : Type 0 where
+  pub process : process_of t ≡ process_of s
+  pub calls : calls_of t ≡ calls_of s
+  pub made : calls_made t ≡ calls_made s
+  pub taken : taken_calls t ≡ taken_calls s
+  pub steps : word_steps_of t ≤ word_steps_of s + read_steps (sizes_of shared)
+
+-- The same seat after it has read the present state: the object answers this reply to the invocation at this version, which the seat has then.
+pub record ReadsSmall (shared : SmallShared SmallKind) (s t : SmallSeat SmallKind) (invocation reply : List ℕ) (version : ℕ) : Type 0 where
+  pub loads : LoadsState shared s t
+  pub told : IsAnswerAt (small_meaning (object_of shared)).object (processes_of shared) (calls_of t ∷ []) version invocation reply
+  pub later : version_of s ≤ version
+  pub present : version_of t ≡ version
+
+abbrev pub HasReadSmall : (old new : Option Held) (invocation reply : List ℕ) (version : ℕ) → Type 0
+HasReadSmall old new invocation reply version = IsSomeAnd (shared_in old) (λ shared. IsSomeAnd (place_in old) (λ s. IsSomeAnd (place_in new) (λ t.
+    ReadsSmall shared s t invocation reply version)))
+
+-- The same seat after it has tried to read, and another version came: it has the version that it had.
+pub record MissesState (shared : SmallShared SmallKind) (s t : SmallSeat SmallKind) : Type 0 where
+  pub loads : LoadsState shared s t
+  pub present : version_of t ≡ version_of s
+
+abbrev pub HasMissedState : (old new : Option Held) → Type 0
+HasMissedState old new = IsSomeAnd (shared_in old) (λ shared. IsSomeAnd (place_in old) (λ s. IsSomeAnd (place_in new) (λ t. MissesState shared s t)))
 
 -- The same seat after it asked whether a version has come, by one word step. It has the version that it found then, and the number is 1
 -- exactly where that is at least the one that was asked for.

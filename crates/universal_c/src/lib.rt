@@ -14,6 +14,7 @@ mod small_close;
 mod small_kind;
 mod small_left;
 mod small_open;
+mod small_read;
 mod small_turn;
 mod status;
 mod turn;

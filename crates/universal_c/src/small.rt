@@ -1,6 +1,6 @@
 //! What a handle holds of a small object: the object with its seats, or a seat.
 ghost use Rattle.std.specs.Prelude.{◌≡◌, ◌≢◌, ◌==◌, ◌+◌, ◌<◌, ◌≤◌, ◌↔◌, ◌⊎◌};
-ghost use Rattle.std.specs.Prelude.{[], IfOk, IfErr, IsErrOf, OnErr, OnOk, length, vec_len};
+ghost use Rattle.std.specs.Prelude.{[], None, IfOk, IfErr, IfSome, IsErrOf, OnErr, OnOk, length, vec_len};
 ghost use Rattle.uni_small.specs.Belongs.{AreFirstSeats, IsSeatOf, calls_made, invocation_width_of, known_calls};
 ghost use Rattle.uni_small.specs.Belongs.{object_of, own_calls, process_of, processes_of, reply_width_of, sizes_of};
 ghost use Rattle.uni_small.specs.Belongs.{announced_by, version_of, width_of, word_steps_of};
@@ -157,7 +157,7 @@ impl SmallOpened {
 }
 
 impl SmallPlace {
-    ghost use Rattle.universal_c.specs.SmallCalls.{AsksVersion, MakesCall};
+    ghost use Rattle.universal_c.specs.SmallCalls.{AsksVersion, MakesCall, MissesState, ReadsSmall};
 
     /// Applies an invocation, and writes the reply: a version in which the call is.
     /// Errors, in this order: the invocation or the reply hasn't as many words as those of the object; the seat
@@ -193,6 +193,41 @@ impl SmallPlace {
         };
         match called {
             Ok(version) => Ok(version),
+            Err(_) => Err(CallFault::Spent),
+        }
+    }
+
+    /// What a call of this invocation would be answered at the present state: the reply is written, and the answer is the
+    /// version that has the state. No call is made. The answer is `None` where another version came meanwhile; the reply
+    /// stays as it was then.
+    /// Errors, in this order: the invocation or the reply hasn't as many words as those of the object; the seat
+    /// has made 2^50 calls. After either nothing is changed.
+    pub(crate) fn read(
+        &mut self,
+        invocation: &[u64],
+        reply: &mut [u64],
+    ) -> Result<Option<u64>, CallFault>
+        ensures shared { self.new.shared ≡ self.old.shared }
+        ensures width { let shared = self.old.shared.value in IsErrOf result CallFault.Width
+            ↔ ((length invocation.now ≢ invocation_width_of shared)
+            ⊎ (length reply.old ≢ reply_width_of shared)) }
+        ensures spent { let shared = self.old.shared.value in IsErrOf result CallFault.Spent
+            ↔ ((length invocation.now ≡ invocation_width_of shared) × (length reply.old ≡ reply_width_of shared)
+            × (calls_made self.old.seat ≡ most_calls)) }
+        ensures unchanged { OnErr result ((self.new.seat ≡ self.old.seat) × (reply.new ≡ reply.old)) }
+        ensures read { IfOk result (λ found. IfSome found
+            (ReadsSmall self.old.shared.value self.old.seat self.new.seat invocation.now reply.new)) }
+        ensures missed { IfOk result (λ found. found ≡ None
+            → MissesState self.old.shared.value self.old.seat self.new.seat × (reply.new ≡ reply.old)) }
+    {
+        let shared = &*self.shared;
+        if invocation.len() as u64 != shared.invocation_width()
+            || reply.len() as u64 != shared.reply_width()
+        {
+            return Err(CallFault::Width);
+        }
+        match self.seat.read(&self.shared, invocation, reply) {
+            Ok(found) => Ok(found),
             Err(_) => Err(CallFault::Spent),
         }
     }
