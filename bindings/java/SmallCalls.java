@@ -1,9 +1,12 @@
 import java.util.Arrays;
 import java.util.List;
+import java.util.Optional;
 import java.util.OptionalLong;
 import java.util.concurrent.ExecutionException;
+import java.util.concurrent.atomic.AtomicInteger;
 import java.util.concurrent.atomic.AtomicLongArray;
 import fednayup.universal.Fault;
+import fednayup.universal.Program;
 import fednayup.universal.Refused;
 import fednayup.universal.Small;
 
@@ -64,6 +67,119 @@ public final class SmallCalls extends Checks {
         refuses(Fault.BAD_TABLE, () -> Small.Machine.open(0, next, new int[][] {{0, 0}}));
         refuses(Fault.BAD_TABLE, () -> Small.Machine.open(0, new int[][] {{0, 1}, {1, 0, 1}}, reply));
         refuses(Fault.BAD_COUNT, () -> Small.Machine.open(65, next, reply));
+    }
+
+    /** What a call would be answered, at rest: twice the same, and of the version that the seat has. */
+    private static void atRest(Small.Seat seat, List<Long> words, Long... answer) throws Exception {
+        long version = seat.version();
+        long[] asked = words.stream().mapToLong(word -> word).toArray();
+        for (int i = 0; i < 2; i++) {
+            is(Arrays.toString(seat.tryRead(asked).orElseThrow()), Arrays.toString(answer));
+            is(seat.version(), version);
+        }
+    }
+
+    private static void reads() throws Exception {
+        Small.Counter counter = only(Small.Counter.open(1));
+        atRest(counter, List.of(3L), 0L);
+        counter.add(5);
+        atRest(counter, List.of(3L), 5L);
+        state(counter.finish(), 5);
+        Small.Register register = only(Small.Register.open(1));
+        register.write(7);
+        atRest(register, List.of(0L, 0L, 0L), 7L);
+        atRest(register, List.of(1L, 9L, 0L), 7L);
+        long written = register.version();
+        is(List.of(register.read(), register.version()), List.of(7L, written));
+        state(register.finish(), 7);
+        Small.Counters counters = only(Small.Counters.open(1, 3));
+        counters.add(2, 8);
+        atRest(counters, List.of(2L, 1L), 8L);
+        atRest(counters, List.of(1L, 1L), 0L);
+        state(counters.finish(), 0, 0, 8);
+        Small.Queue queue = only(Small.Queue.open(1, 2));
+        queue.put(8);
+        atRest(queue, List.of(9L), 1L);
+        queue.put(9);
+        atRest(queue, List.of(7L), 0L);
+        atRest(queue, List.of(0L), 8L);
+        state(queue.finish(), 2, 0, 8, 9);
+        Small.Stack stack = only(Small.Stack.open(1, 2));
+        stack.push(8);
+        stack.push(9);
+        atRest(stack, List.of(0L), 9L);
+        state(stack.finish(), 2, 8, 9);
+        Small.Map map = only(Small.Map.open(1, 1));
+        map.insert(7, 70);
+        atRest(map, List.of(0L, 7L, 0L), 1L, 70L);
+        atRest(map, List.of(2L, 7L, 0L), 1L, 70L);
+        atRest(map, List.of(1L, 9L, 90L), 2L, 0L);
+        long version = map.version();
+        is(List.of(map.get(7), map.get(9)), List.of(OptionalLong.of(70), OptionalLong.empty()));
+        is(map.version(), version);
+        state(map.finish(), 1, 7, 70);
+        Small.Book book = only(Small.Book.open(1));
+        book.deposit(3, 10);
+        atRest(book, List.of(3L, 0L, 0L, 0L), 4L, 10L);
+        atRest(book, List.of(1L, 3L, 0L, 4L), 0L, 6L);
+        atRest(book, List.of(1L, 3L, 0L, 11L), 2L, 0L);
+        version = book.version();
+        is(List.of(book.total(), book.version()), List.of(10L, version));
+        state(book.finish(), 0, 0, 0, 10, 0, 0, 0, 0, 0, 0, 0, 0, 0, 0, 0, 0);
+        Small.Machine machine = only(Small.Machine.open(1, new int[][] {{0, 1}, {1, 0}}, new int[][] {{0, 0}, {1, 1}}));
+        machine.call(1);
+        atRest(machine, List.of(1L), 1L);
+        state(machine.finish(), 1);
+        Program p = new Program(new long[] {40}, 1, 1);
+        Program.Register total = p.add(p.state(0), p.invocation(0));
+        p.store(0, total);
+        p.answer(0, total);
+        Small.Own own = only(p.open(1));
+        atRest(own, List.of(2L), 42L);
+        state(own.call(3), 43);
+        atRest(own, List.of(2L), 45L);
+        state(own.finish(), 43);
+        // by the other seat, which follows what it has read
+        List<Small.Counter> seats;
+        try (Small<Small.Counter> object = Small.Counter.open(2)) {
+            seats = object.seats();
+        }
+        Small.Counter first = seats.get(0), second = seats.get(1);
+        first.add(5);
+        is(List.of(second.tryRead(0).orElseThrow()[0], second.version()), List.of(5L, first.version()));
+        is(second.add(0), 5L);
+        is(second.version() > first.version(), true);
+        refuses(Fault.BAD_WIDTH, () -> first.tryRead());
+        refuses(Fault.BAD_WIDTH, () -> first.tryRead(0, 0));
+        refuses(Fault.BAD_WIDTH, () -> first.tryRead(0, 0, 0, 0, 0));
+        first.close();
+        throwsA(IllegalStateException.class, () -> first.tryRead(0));
+    }
+
+    /** All threads but one add, and that one reads: it never goes down, and at the end it is the sum. */
+    private static void reader(int n, int calls) throws Exception {
+        AtomicInteger over = new AtomicInteger();
+        long most = (n - 1L) * calls;
+        state(shared(Small.Counter.open(n), seat -> {
+            for (int i = 0; seat.process != 0 && i < calls; i++) {
+                seat.add(1);
+            }
+            long sum = 0;
+            for (boolean isOver = seat.process != 0; !isOver;) {
+                isOver = over.get() == n - 1;
+                long version = seat.version();
+                Optional<long[]> found = seat.tryRead(1);
+                is(found.isPresent() || !isOver, true);
+                is(seat.version() >= version, true);
+                long read = found.isPresent() ? found.get()[0] : sum;
+                is(sum <= read && read <= most, true);
+                sum = read;
+            }
+            if (seat.process == 0) {
+                is(sum, most);
+            }
+            over.getAndIncrement();
+        }), most);
     }
 
     private static void refusals() throws Exception {
@@ -199,12 +315,14 @@ public final class SmallCalls extends Checks {
     public static void main(String[] arguments) throws Exception {
         objects();
         machine();
+        reads();
         refusals();
         seats();
         forgotten();
         thrown();
         for (int i = 1; i < arguments.length; i++) {
             threads(Integer.parseInt(arguments[i]), Integer.parseInt(arguments[0]));
+            reader(Integer.parseInt(arguments[i]), Integer.parseInt(arguments[0]));
         }
         System.out.println("small: each call and each refusal");
     }

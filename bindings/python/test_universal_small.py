@@ -6,6 +6,7 @@ import threading
 import unittest
 
 from universal import Fault, Log, Refused
+from universal.program import Program
 from universal.small import Book, Counter, Counters, Full, Machine, Map, Over, Queue, Register, Short, Stack, in_threads
 
 MOST = (1 << 64) - 1
@@ -106,6 +107,88 @@ class Calls(unittest.TestCase):
             self.refuses(Fault.BAD_TABLE, lambda: Machine.open(0, *bad))
         self.refuses(Fault.BAD_COUNT, lambda: Machine.open(65, next, reply))
 
+    def test_reads_without_a_call(self):
+        """What a call would be answered, at rest: twice the same, and of the version that the seat has."""
+
+        def at_rest(seat, words, answer):
+            version = seat.version
+            self.assertEqual([seat.try_read(*words), seat.try_read(*words)], [answer, answer])
+            self.assertEqual(seat.version, version)
+
+        counter = only_seat(Counter.open(1))
+        at_rest(counter, [3], (0,))
+        counter.add(5)
+        at_rest(counter, [3], (5,))
+        self.assertEqual([counter.add(1), counter.finish()], [5, 6])
+        counters = only_seat(Counters.open(1, 3))
+        counters.add(2, 8)
+        at_rest(counters, [2, 1], (8,))
+        at_rest(counters, [1, 1], (0,))
+        self.assertEqual(counters.finish(), [0, 0, 8])
+        register = only_seat(Register.open(1))
+        register.write(7)
+        at_rest(register, [0, 0, 0], (7,))
+        at_rest(register, [1, 9, 0], (7,))
+        version = register.version
+        self.assertEqual([register.read(), register.version], [7, version])
+        self.assertEqual(register.finish(), 7)
+        row = only_seat(Queue.open(1, 2))
+        row.put(8)
+        at_rest(row, [9], (1,))
+        row.put(9)
+        at_rest(row, [7], (0,))
+        at_rest(row, [0], (8,))
+        self.assertEqual(row.finish(), [8, 9])
+        stack = only_seat(Stack.open(1, 2))
+        stack.push(8)
+        stack.push(9)
+        at_rest(stack, [0], (9,))
+        self.assertEqual(stack.finish(), [8, 9])
+        numbers = only_seat(Map.open(1, 1))
+        numbers.insert(7, 70)
+        at_rest(numbers, [0, 7, 0], (1, 70))
+        at_rest(numbers, [2, 7, 0], (1, 70))
+        at_rest(numbers, [1, 9, 90], (2, 0))
+        version = numbers.version
+        self.assertEqual([numbers.get(7), numbers.get(9), numbers.version], [70, None, version])
+        numbers.try_read = lambda *words: None  # as where others are at work each time
+        self.assertEqual([numbers.get(7), numbers.get(9)], [70, None])
+        self.assertGreater(numbers.version, version)
+        self.assertEqual(numbers.finish(), {7: 70})
+        book = only_seat(Book.open(1))
+        book.deposit(3, 10)
+        at_rest(book, [3, 0, 0, 0], (4, 10))
+        at_rest(book, [1, 3, 0, 4], (0, 6))
+        at_rest(book, [1, 3, 0, 11], (2, 0))
+        version = book.version
+        self.assertEqual([book.total(), book.version], [10, version])
+        self.assertEqual(book.finish(), [0, 0, 0, 10, *[0] * 12])
+        switch = only_seat(Machine.open(1, [[0, 1], [1, 0]], [[0, 0], [1, 1]]))
+        switch.call(1)
+        at_rest(switch, [1], (1,))
+        self.assertEqual(switch.finish(), 1)
+        p = Program([40], invocation=1, reply=1)
+        total = p.state[0] + p.invocation[0]
+        p.state[0] = total
+        p.reply[0] = total
+        own = only_seat(p.open(1))
+        at_rest(own, [2], (42,))
+        self.assertEqual(own.call(3), (43,))
+        at_rest(own, [2], (45,))
+        self.assertEqual(own.finish(), [43])
+        # by the other seat, which follows what it has read
+        with Counter.open(2) as opened:
+            first, second = opened.seats()
+        first.add(5)
+        self.assertEqual([second.try_read(0), second.version], [(5,), first.version])
+        self.assertEqual(second.add(0), 5)
+        self.assertGreater(second.version, first.version)
+        for words in [(), (0, 0)]:
+            self.refuses(Fault.BAD_WIDTH, lambda: first.try_read(*words))
+        self.assertRaises(ValueError, lambda: first.try_read(-1))
+        first.close()
+        self.refuses(Fault.WRONG_HANDLE, lambda: first.try_read(0))
+
     def test_bad_sizes(self):
         self.refuses(Fault.BAD_COUNT, lambda: Counter.open(0))
         self.refuses(Fault.BAD_COUNT, lambda: Book.open(65))
@@ -174,6 +257,31 @@ class Threads(unittest.TestCase):
 
             self.assertEqual(in_threads(self.seats(Counter.open(n)), work), n * self.CALLS)
             self.assertEqual(sorted(places), list(range(n * self.CALLS)))
+
+    def test_reads(self):
+        """Two threads add, and a third one reads: it never goes down, and at the end it is the sum."""
+        over, told = threading.Semaphore(0), []
+
+        def work(seat):
+            if seat.process != 0:
+                for _ in range(self.CALLS):
+                    seat.add(1)
+                over.release()
+                return
+            added, sums = 0, [0]
+            while added < 2:
+                added += over.acquire(blocking=False)
+                version, found = seat.version, seat.try_read(1)
+                if found is not None:
+                    sums.append(found[0])
+                self.assertTrue(found is not None or added < 2, "nobody else is at work")
+                self.assertGreaterEqual(seat.version, version)
+            self.assertEqual(sums, sorted(sums))
+            self.assertLessEqual(sums[-1], 2 * self.CALLS)
+            told.append(seat.try_read(1))
+
+        self.assertEqual(in_threads(self.seats(Counter.open(3)), work), 2 * self.CALLS)
+        self.assertEqual(told, [(2 * self.CALLS,)])
 
     def test_map(self):
         for n in self.COUNTS:

@@ -25,6 +25,10 @@ class Calls:
     def _apply(self, *words: int) -> Sequence[int]:
         raise NotImplementedError
 
+    def _look(self, *words: int) -> Sequence[int]:
+        """A call that changes nothing."""
+        return self._apply(*words)
+
 
 class CounterCalls(Calls):
     """The calls of a counter."""
@@ -39,7 +43,7 @@ class RegisterCalls(Calls):
 
     def read(self) -> int:
         """The value."""
-        return self._apply(0, 0, 0)[0]
+        return self._look(0, 0, 0)[0]
 
     def write(self, value: int) -> int:
         """Writes a value: the one before."""
@@ -113,7 +117,8 @@ class MapCalls(Calls):
 
     def get(self, key: int) -> int | None:
         """The value of a key."""
-        return self._before(0, key, 0)
+        kind, value = self._look(0, _number(key, 64), 0)
+        return value if kind == 1 else None
 
     def insert(self, key: int, value: int) -> int | None:
         """Gives a key a value: the value before. Raises `Full`, which is `queue.Full`: a new key has no room."""
@@ -153,7 +158,7 @@ class BookCalls(Calls):
 
     def total(self) -> int:
         """The sum of all balances."""
-        return self._number_of(3, 0, 0, 0)
+        return self._look(3, 0, 0, 0)[1]
 
 
 class MachineCalls(Calls):

@@ -9,7 +9,8 @@
 
 A call comes with a version: a number of the object's state, in which the call is. A seat has that of its latest call in
 `version`. Who is told a version, by whatever means, can follow it. A seat makes up to 2^50 calls; a further one raises
-`Refused`, with `SPENT`.
+`Refused`, with `SPENT`. What only reads, as `Map.get`, first tries to read the present state without a call (`try_read`); then
+`version` is the one that was read, which may be that before.
 
 Where another process's call came since the process's own last one, a call copies the whole state, also while the object is
 empty: some 1.3 nanoseconds a word of capacity (docs/measured.md). Where none came, it takes the time of what it touches. To either
@@ -34,8 +35,12 @@ __all__ += ["Stack", "in_threads"]
 _State = TypeVar("_State")
 
 
+_CHANGED = 28
+
+
 class _Seat(Calls, _Held, Generic[_State]):
-    """A process of a small object, which makes its calls. `process` is which it is, and `version` that of its latest call."""
+    """A process of a small object, which makes its calls. `process` is which it is, and `version` that of its latest call, or
+    the one that it has read since."""
 
     def __init__(self, object_: Small[Any, Any]) -> None:
         super().__init__()
@@ -52,6 +57,33 @@ class _Seat(Calls, _Held, Generic[_State]):
         self._call(_LIBRARY.universal_small_apply, invocation, len(words), reply, self._replies, byref(version))
         self.version = version.value
         return list(reply)
+
+    def _look(self, *words: int) -> Sequence[int]:
+        for _ in range(3):
+            found = self.try_read(*words)
+            if found is not None:
+                return found
+        return self._apply(*words)
+
+    def try_read(self, *words: int) -> tuple[int, ...] | None:
+        """What a call with the words of an invocation would be answered at the present state, without the call: the words of
+        the reply. `None`: another version came meanwhile; ask again. Who has to be answered within a bound makes a call.
+
+        Nothing is stored in a shared word. The state is that of `version` then: all calls of this seat are in it, and all later
+        calls of this seat come after all calls that are in it. The words are those of the macros of `universal.h`, as 0 of a
+        counter, whose number is the answer. Raises `Refused`: these aren't as many words as those of the object; the seat is spent.
+        """
+        invocation, version = (c_uint64 * len(words))(*(_number(word, 64) for word in words)), c_uint64()
+        reply = (c_uint64 * self._replies)()
+        status = self._alone(
+            _LIBRARY.universal_small_read, invocation, len(words), reply, self._replies, byref(version)
+        )
+        if status == _CHANGED:
+            return None
+        if status != 0:
+            raise Refused(Fault(status))
+        self.version = version.value
+        return tuple(reply)
 
     def follows(self, version: int) -> bool:
         """Whether a version has come: all later calls of this seat come after all calls that are in it then.

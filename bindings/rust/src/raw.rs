@@ -111,6 +111,14 @@ extern "C" {
         reply_count: usize,
         version: &mut u64,
     ) -> u32;
+    fn universal_small_read(
+        seat: &mut Handle,
+        invocation: *const u64,
+        invocation_count: usize,
+        reply: *mut u64,
+        reply_count: usize,
+        version: &mut u64,
+    ) -> u32;
     fn universal_small_follows(seat: &mut Handle, version: u64, has_come: &mut u32) -> u32;
     fn universal_small_close(handle: &mut Handle, state: *mut u64, state_count: usize) -> u32;
     fn universal_seat(log: &mut Handle, seat: &mut Handle, process: &mut u64) -> u32;
@@ -250,6 +258,29 @@ impl Handle {
             )
         })?;
         Ok(version)
+    }
+
+    /// What a call of a small object would be answered, which is written: the version that has the state. `None` where
+    /// another one came meanwhile; the reply stays then.
+    pub(crate) fn small_read(&mut self, invocation: &[u64], reply: &mut [u64]) -> Result<Option<u64>, Fault> {
+        const CHANGED: u32 = 28;
+        let mut version = 0;
+        // SAFETY: both slices are borrowed for the call.
+        let status = unsafe {
+            universal_small_read(
+                self,
+                invocation.as_ptr(),
+                invocation.len(),
+                reply.as_mut_ptr(),
+                reply.len(),
+                &mut version,
+            )
+        };
+        if status == CHANGED {
+            return Ok(None);
+        }
+        Fault::of(status)?;
+        Ok(Some(version))
     }
 
     pub(crate) fn small_follows(&mut self, version: u64) -> Result<bool, Fault> {

@@ -286,7 +286,7 @@ impl<K> Drop for SharedSeat<K> {
     }
 }
 
-calls!(SharedSeat);
+calls!(SharedSeat, apply);
 
 macro_rules! made {
     ($($name:ident $object:literal $text:literal ($($size:ident)?);)*) => {$(

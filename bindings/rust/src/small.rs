@@ -3,6 +3,8 @@
 //! [`Counter`], [`Register`], [`Counters`], [`Queue`], [`Stack`], [`Map`], [`Book`] and [`Machine`] are seats. `open`
 //! gives a [`Small`], the object with its seats. A call comes with a version: a number of the object's state, in which the
 //! call is ([`SmallSeat::version`]). Who is told a version, by whatever means, can follow it ([`SmallSeat::follows`]).
+//! What only reads, as [`Map::get`](SmallSeat::get), first tries to read the present state without a call
+//! ([`SmallSeat::try_read`]).
 //!
 //! Where another process's call came since the process's own last one, a call copies the whole state, also while the object is
 //! empty: some 1.3 nanoseconds a word of capacity (docs/measured.md). Where none came, it takes the time of what it touches.
@@ -323,7 +325,7 @@ impl<K: Kind> SmallSeat<K> {
     }
 
     /// The version that the latest call of this seat was answered: one that the call is in, greater than each before.
-    /// 0 where there was none.
+    /// After a read without a call it is the one that was read, which may be that before. 0 where there was neither.
     pub fn version(&self) -> u64 {
         self.version
     }
@@ -332,6 +334,29 @@ impl<K: Kind> SmallSeat<K> {
     /// one that a call was answered has come, but no clause of this call says so: be ready for `false`.
     pub fn follows(&mut self, version: u64) -> bool {
         self.held.handle.small_follows(version).expect("a seat's handle has a seat")
+    }
+
+    /// What a call with the words of an invocation would be answered at the present state, without the call: the words of
+    /// the reply are written, and the answer is the version that has the state. Nothing is stored in a shared word, and all
+    /// calls of the seat are in that version. All later calls of the seat come after all calls that are in it.
+    ///
+    /// `None`: another version came meanwhile, and the reply is as it was. Ask again; who has to be answered within a bound
+    /// makes a call. The words are those of the macros of `universal.h`, as 0 of a counter, whose number is the answer.
+    ///
+    /// Errors: `BadWidth`: these aren't as many words as those of the object; `Spent`.
+    ///
+    /// ```
+    /// let mut seat = universal::small::Counter::open(1)?.seat()?;
+    /// seat.add(5).unwrap();
+    /// let mut number = [0];
+    /// assert_eq!(seat.try_read(&[0], &mut number)?, Some(seat.version()));
+    /// assert_eq!(number, [5]);
+    /// # Ok::<(), universal::Fault>(())
+    /// ```
+    pub fn try_read(&mut self, invocation: &[u64], reply: &mut [u64]) -> Result<Option<u64>, Fault> {
+        let found = self.held.handle.small_read(invocation, reply)?;
+        self.version = found.unwrap_or(self.version);
+        Ok(found)
     }
 
     /// Closes the object, if this is the last handle that has it: the last state.
@@ -353,6 +378,17 @@ impl<K: Kind> SmallSeat<K> {
         let (reply, version) = self.held.handle.small_apply(invocation).map_err(|_| Spent)?;
         self.version = version;
         Ok(reply)
+    }
+
+    /// A call that changes nothing: up to three reads, and where another version came each time the call.
+    fn look<const REPLY: usize>(&mut self, invocation: &[u64]) -> Result<[u64; REPLY], Spent> {
+        let mut reply = [0; REPLY];
+        for _ in 0..3 {
+            if self.try_read(invocation, &mut reply).map_err(|_| Spent)?.is_some() {
+                return Ok(reply);
+            }
+        }
+        self.apply(invocation)
     }
 }
 
@@ -416,8 +452,9 @@ impl Machine {
 }
 
 /// The calls of each kind of object, by the words of invocations and replies: of the seats of a thread, and of a process.
+/// What changes nothing goes by a method of its own.
 macro_rules! calls {
-    ($seat:ident) => {
+    ($seat:ident, $look:ident) => {
         impl<K: Kind> $seat<K> {
             fn ask(&mut self, invocation: &[u64]) -> Result<u64, Spent> {
                 let [reply] = self.apply(invocation)?;
@@ -442,7 +479,8 @@ macro_rules! calls {
         impl $seat<kinds::Register> {
             /// The value.
             pub fn read(&mut self) -> Result<u64, Spent> {
-                self.ask(&[0, 0, 0])
+                let [value] = self.$look(&[0, 0, 0])?;
+                Ok(value)
             }
 
             /// Writes a value: the one before.
@@ -494,7 +532,7 @@ macro_rules! calls {
         impl $seat<kinds::Map> {
             /// The value of a key.
             pub fn get(&mut self, key: u64) -> Result<Option<u64>, Spent> {
-                let [kind, value] = self.apply(&[0, key, 0])?;
+                let [kind, value] = self.$look(&[0, key, 0])?;
                 Ok((kind == 1).then_some(value))
             }
 
@@ -547,7 +585,7 @@ macro_rules! calls {
 
             /// The sum of all balances.
             pub fn total(&mut self) -> Result<u64, Spent> {
-                let [_, sum] = self.apply(&[3, 0, 0, 0])?;
+                let [_, sum] = self.$look(&[3, 0, 0, 0])?;
                 Ok(sum)
             }
         }
@@ -562,4 +600,4 @@ macro_rules! calls {
 }
 
 pub(crate) use calls;
-calls!(SmallSeat);
+calls!(SmallSeat, look);

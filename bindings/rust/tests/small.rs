@@ -1,8 +1,10 @@
 //! Small objects: each call on its happy path, each refusal, and what its types keep.
 use std::num::NonZeroU64;
+use std::sync::atomic::{AtomicU64, Ordering::SeqCst};
+use universal::program::Program;
 use universal::small::{
-    Book, BookFault, Busy, Counter, CounterFault, Counters, Machine, Map, PutFault, Queue, Register, Small, SmallSeat,
-    Stack,
+    Book, BookFault, Busy, Counter, CounterFault, Counters, Kind, Machine, Map, PutFault, Queue, Register, Small,
+    SmallSeat, Stack,
 };
 use universal::{Fault, Machine as Tables};
 
@@ -90,6 +92,120 @@ fn a_machine_goes_by_its_tables() {
         assert_eq!(Machine::open(0, tables).unwrap_err(), Fault::BadTable, "{tables:?}");
     }
     assert_eq!(Machine::open(65, tables).unwrap_err(), Fault::BadCount);
+}
+
+/// What a call would be answered, at rest: twice the same, and of the version that the seat has.
+fn at_rest<K: Kind, const REPLY: usize>(seat: &mut SmallSeat<K>, words: &[u64], answer: [u64; REPLY]) {
+    for _ in 0..2 {
+        let mut reply = [12345; REPLY];
+        assert_eq!(seat.try_read(words, &mut reply), Ok(Some(seat.version())), "{words:?}");
+        assert_eq!(reply, answer, "{words:?}");
+    }
+}
+
+#[test]
+fn reads_without_a_call_answer_what_a_call_would_be() {
+    let mut counter = only_seat!(Counter::open(1));
+    at_rest(&mut counter, &[3], [0]);
+    counter.add(5).unwrap();
+    at_rest(&mut counter, &[3], [5]);
+    assert_eq!(counter.close().unwrap(), 5);
+    let mut counters = only_seat!(Counters::open(1, 3));
+    counters.add(2, 8).unwrap();
+    at_rest(&mut counters, &[2, 1], [8]);
+    at_rest(&mut counters, &[1, 1], [0]);
+    assert_eq!(counters.close().unwrap(), [0, 0, 8]);
+    let mut register = only_seat!(Register::open(1));
+    register.write(7).unwrap();
+    at_rest(&mut register, &[0, 0, 0], [7]);
+    at_rest(&mut register, &[1, 9, 0], [7]);
+    let version = register.version();
+    assert_eq!((register.read(), register.version()), (Ok(7), version));
+    assert_eq!(register.close().unwrap(), 7);
+    let mut queue = only_seat!(Queue::open(1, 2));
+    queue.put(number(8)).unwrap();
+    at_rest(&mut queue, &[9], [1]);
+    queue.put(number(9)).unwrap();
+    at_rest(&mut queue, &[7], [0]);
+    at_rest(&mut queue, &[0], [8]);
+    assert_eq!(queue.close().unwrap(), [8, 9]);
+    let mut stack = only_seat!(Stack::open(1, 2));
+    [8, 9].map(|it| stack.push(number(it)).unwrap());
+    at_rest(&mut stack, &[0], [9]);
+    assert_eq!(stack.close().unwrap(), [8, 9]);
+    let mut map = only_seat!(Map::open(1, 1));
+    map.insert(7, 70).unwrap();
+    at_rest(&mut map, &[0, 7, 0], [1, 70]);
+    at_rest(&mut map, &[2, 7, 0], [1, 70]);
+    at_rest(&mut map, &[1, 9, 90], [2, 0]);
+    let version = map.version();
+    assert_eq!((map.get(7), map.get(9), map.version()), (Ok(Some(70)), Ok(None), version));
+    assert_eq!(map.close().unwrap(), [(7, 70)]);
+    let mut book = only_seat!(Book::open(1));
+    book.deposit(3, 10).unwrap();
+    at_rest(&mut book, &[3, 0, 0, 0], [4, 10]);
+    at_rest(&mut book, &[1, 3, 0, 4], [0, 6]);
+    at_rest(&mut book, &[1, 3, 0, 11], [2, 0]);
+    let version = book.version();
+    assert_eq!((book.total(), book.version()), (Ok(10), version));
+    assert_eq!(book.close().unwrap()[3], 10);
+    let tables = Tables { states: 2, invocations: 2, next: &[0, 1, 1, 0], reply: &[0, 0, 1, 1] };
+    let mut switch = only_seat!(Machine::open(1, tables));
+    switch.call(1).unwrap();
+    at_rest(&mut switch, &[1], [1]);
+    assert_eq!(switch.close().unwrap(), 1);
+    let mut p = Program::new(&[40], 1, 1);
+    let (sum, number) = (p.state(0), p.invocation(0));
+    let total = p.add(sum, number);
+    p.store(0, total);
+    p.answer(0, total);
+    let mut own = only_seat!(p.open(1));
+    at_rest(&mut own, &[2], [42]);
+    own.call(&[3], &mut [0]).unwrap();
+    at_rest(&mut own, &[2], [45]);
+    assert_eq!(own.close().unwrap(), [43]);
+}
+
+#[test]
+fn a_seat_follows_what_it_has_read() {
+    let mut seats = Counter::open(2).unwrap().into_seats().unwrap();
+    let [first, second] = &mut seats[..] else { panic!("there are two seats") };
+    first.add(5).unwrap();
+    let mut reply = [12345, 12345];
+    assert_eq!(second.try_read(&[0], &mut reply[..1]), Ok(Some(first.version())));
+    assert_eq!((reply, second.add(0)), ([5, 12345], Ok(5)));
+    assert!(second.version() > first.version());
+    assert_eq!(first.try_read(&[], &mut reply[..1]), Err(Fault::BadWidth));
+    assert_eq!(first.try_read(&[0], &mut reply), Err(Fault::BadWidth));
+    assert_eq!(reply, [5, 12345]);
+}
+
+/// Two threads add, and a third one reads: it never goes down, and at the end it is the sum.
+#[test]
+fn what_is_read_never_goes_down() {
+    const CALLS: u64 = 100_000;
+    let over = AtomicU64::new(0);
+    let mut seats = Counter::open(3).unwrap().into_seats().unwrap();
+    let (reader, adders) = seats.split_first_mut().unwrap();
+    std::thread::scope(|threads| {
+        for seat in adders {
+            threads.spawn(|| {
+                (0..CALLS).for_each(|_| drop(seat.add(1).unwrap()));
+                over.fetch_add(1, SeqCst);
+            });
+        }
+        let mut sum = [0];
+        loop {
+            let (is_over, [before], version) = (over.load(SeqCst) == 2, sum, reader.version());
+            let found = reader.try_read(&[1], &mut sum).unwrap();
+            assert!(before <= sum[0] && sum[0] <= 2 * CALLS && version <= reader.version());
+            assert!(found.is_some() || !is_over, "nobody else is at work");
+            if is_over {
+                break;
+            }
+        }
+        assert_eq!(sum, [2 * CALLS]);
+    });
 }
 
 #[test]

@@ -225,6 +225,16 @@ public final class Shared<S extends Small.Seat> implements AutoCloseable {
         }
 
         @Override
+        public boolean read(MemorySegment words, long count, MemorySegment reply, long replies, MemorySegment version) {
+            throw new UnsupportedOperationException("a seat among processes reads by calls");
+        }
+
+        @Override
+        public int reads() {
+            return 0;
+        }
+
+        @Override
         public void follows(long version, MemorySegment answer) {
             throw new UnsupportedOperationException("a seat among processes doesn't follow versions");
         }

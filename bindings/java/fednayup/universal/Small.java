@@ -9,6 +9,7 @@ import java.lang.invoke.MethodHandle;
 import java.util.ArrayList;
 import java.util.List;
 import java.util.Objects;
+import java.util.Optional;
 import java.util.OptionalLong;
 import java.util.concurrent.Callable;
 import java.util.concurrent.ExecutionException;
@@ -22,7 +23,8 @@ import fednayup.universal.Universal.Handle;
  * the class of its seats gives one, as {@code Small.Queue.open(4, 100)}. A seat makes 2^50 calls at most.
  *
  * <p>A call takes no lock of the library and no memory. It comes with a version: a number of the object's state, in which the
- * call is. Who is told a version, by whatever means, can follow it.
+ * call is. Who is told a version, by whatever means, can follow it. What only reads, as {@code get} of a map, first tries to read
+ * the present state without a call.
  *
  * <p>Where another process's call came since the process's own last one, a call copies the whole state, also while the object is
  * empty: some 1.3 nanoseconds a word of capacity (docs/measured.md). Where none came, it takes the time of what it touches.
@@ -41,6 +43,12 @@ public final class Small<S extends Small.Seat> implements AutoCloseable {
     interface Place {
         void apply(MemorySegment words, long count, MemorySegment reply, long replies, MemorySegment version) throws Refused;
 
+        /** Reads without a call: whether no other version came meanwhile. */
+        boolean read(MemorySegment words, long count, MemorySegment reply, long replies, MemorySegment version) throws Refused;
+
+        /** How many reads are tried before a call. */
+        int reads();
+
         void follows(long version, MemorySegment answer) throws Refused;
 
         long[] finish(int width) throws Refused;
@@ -49,9 +57,26 @@ public final class Small<S extends Small.Seat> implements AutoCloseable {
     }
 
     private record AmongThreads(Handle handle) implements Place {
+        private static final int CHANGED = 28;
+
         @Override
         public void apply(MemorySegment words, long count, MemorySegment reply, long replies, MemorySegment version) throws Refused {
             handle.call(at -> (int) Universal.SMALL_APPLY.invokeExact(at, words, count, reply, replies, version));
+        }
+
+        @Override
+        public boolean read(MemorySegment words, long count, MemorySegment reply, long replies, MemorySegment version) throws Refused {
+            int[] status = {0};
+            handle.call(at -> {
+                status[0] = (int) Universal.SMALL_READ.invokeExact(at, words, count, reply, replies, version);
+                return status[0] == CHANGED ? 0 : status[0];
+            });
+            return status[0] == 0;
+        }
+
+        @Override
+        public int reads() {
+            return 3;
         }
 
         @Override
@@ -176,7 +201,7 @@ public final class Small<S extends Small.Seat> implements AutoCloseable {
     /** A process of a small object, which makes its calls: from any thread, one at a time. */
     public abstract static sealed class Seat implements AutoCloseable {
         private final Place place;
-        private final int width;
+        private final int width, replies;
         private final MemorySegment invocation, reply, answer;
         private long version;
 
@@ -184,20 +209,24 @@ public final class Small<S extends Small.Seat> implements AutoCloseable {
         public final long process;
 
         private Seat(Place place, long process, int width) {
-            this(place, process, width, 4, 2);
+            this(place, process, width, 4, 1);
         }
 
-        private Seat(Place place, long process, int width, int mostAsked, int mostAnswered) {
+        private Seat(Place place, long process, int width, int mostAsked, int replies) {
             Arena arena = Arena.ofAuto();
             this.place = place;
             this.process = process;
             this.width = width;
+            this.replies = replies;
             invocation = arena.allocate(JAVA_LONG, Math.max(1, mostAsked));
-            reply = arena.allocate(JAVA_LONG, mostAnswered);
+            reply = arena.allocate(JAVA_LONG, replies);
             answer = arena.allocate(JAVA_LONG);
         }
 
-        /** The version that the latest call was answered: one that the call is in, greater than each before. 0: there was none. */
+        /**
+         * The version that the latest call was answered: one that the call is in, greater than each before. After a read without a
+         * call it is the one that was read, which may be that before. 0: there was neither.
+         */
         public final synchronized long version() {
             return version;
         }
@@ -211,6 +240,28 @@ public final class Small<S extends Small.Seat> implements AutoCloseable {
         public final synchronized boolean follows(long version) throws Refused {
             place.follows(version, answer);
             return answer.get(JAVA_INT, 0) != 0;
+        }
+
+        /**
+         * What a call with the words of an invocation would be answered at the present state, without the call: the words of the
+         * reply. It is empty where another version came meanwhile: ask again. Who has to be answered within a bound makes a call.
+         *
+         * <p>Nothing is stored in a shared word. The state is that of {@link #version()} then: all calls of this seat are in it,
+         * and all later calls of this seat come after all calls that are in it. The words are those of the macros of
+         * {@code universal.h}, as 0 of a counter, whose number is the answer. Refused: these aren't so many words.
+         *
+         * @throws UnsupportedOperationException it is a seat of a {@link Shared}
+         */
+        public final synchronized Optional<long[]> tryRead(long... words) throws Refused {
+            if (8L * words.length > invocation.byteSize()) {
+                throw new Refused(Fault.BAD_WIDTH);
+            }
+            MemorySegment.copy(words, 0, invocation, JAVA_LONG, 0, words.length);
+            if (!place.read(invocation, words.length, reply, replies, answer)) {
+                return Optional.empty();
+            }
+            version = answer.get(JAVA_LONG, 0);
+            return Optional.of(reply.toArray(JAVA_LONG));
         }
 
         /**
@@ -231,7 +282,7 @@ public final class Small<S extends Small.Seat> implements AutoCloseable {
         }
 
         /** A call: the words of its reply. */
-        final synchronized long[] apply(int replies, long... words) throws Refused {
+        final synchronized long[] apply(long... words) throws Refused {
             MemorySegment.copy(words, 0, invocation, JAVA_LONG, 0, words.length);
             place.apply(invocation, words.length, reply, replies, answer);
             version = answer.get(JAVA_LONG, 0);
@@ -239,7 +290,18 @@ public final class Small<S extends Small.Seat> implements AutoCloseable {
         }
 
         final long ask(long... words) throws Refused {
-            return apply(1, words)[0];
+            return apply(words)[0];
+        }
+
+        /** A call that changes nothing: reads, and where another version came each time the call. */
+        final synchronized long[] look(long... words) throws Refused {
+            for (int i = 0; i < place.reads(); i++) {
+                Optional<long[]> found = tryRead(words);
+                if (found.isPresent()) {
+                    return found.get();
+                }
+            }
+            return apply(words);
         }
     }
 
@@ -273,7 +335,7 @@ public final class Small<S extends Small.Seat> implements AutoCloseable {
 
         /** The value. */
         public long read() throws Refused {
-            return ask(0, 0, 0);
+            return look(0, 0, 0)[0];
         }
 
         /** Writes a value: the one before. */
@@ -364,7 +426,7 @@ public final class Small<S extends Small.Seat> implements AutoCloseable {
     /** A seat of a map. A state is how many keys there are, and then each with its value, the oldest key first. */
     public static final class Map extends Seat {
         Map(Place place, long process, int width) {
-            super(place, process, width);
+            super(place, process, width, 3, 2);
         }
 
         /**
@@ -377,21 +439,20 @@ public final class Small<S extends Small.Seat> implements AutoCloseable {
 
         /** The value of a key. */
         public OptionalLong get(long key) throws Refused {
-            return before(0, key, 0);
+            return value(look(0, key, 0));
         }
 
         /** Gives a key a value: the value before. Refused: there is no room for a new key. */
         public OptionalLong insert(long key, long value) throws Refused {
-            return before(1, key, value);
+            return value(apply(1, key, value));
         }
 
         /** Takes a key out: its value. */
         public OptionalLong remove(long key) throws Refused {
-            return before(2, key, 0);
+            return value(apply(2, key, 0));
         }
 
-        private OptionalLong before(long operation, long key, long value) throws Refused {
-            long[] reply = apply(2, operation, key, value);
+        private static OptionalLong value(long[] reply) throws Refused {
             if (reply[0] == 2) {
                 throw new Refused(Fault.NO_ROOM);
             }
@@ -402,7 +463,7 @@ public final class Small<S extends Small.Seat> implements AutoCloseable {
     /** A seat of a book of sixteen accounts, each with a balance up to 999,999,999,999. A state is the balances. */
     public static final class Book extends Seat {
         Book(Place place, long process, int width) {
-            super(place, process, width);
+            super(place, process, width, 4, 2);
         }
 
         /** A book for n processes. */
@@ -427,14 +488,14 @@ public final class Small<S extends Small.Seat> implements AutoCloseable {
 
         /** The sum of all balances. */
         public long total() throws Refused {
-            return number(3, 0, 0, 0);
+            return look(3, 0, 0, 0)[1];
         }
 
         private long number(long operation, int from, int to, long amount) throws Refused {
             if (from < 0 || from > 15 || to < 0 || to > 15 || amount < 0 || amount > 999_999_999_999L) {
                 throw new IllegalArgumentException("an account isn't from 0 to 15, or an amount isn't from 0 to 999999999999");
             }
-            long[] reply = apply(2, operation, from, to, amount);
+            long[] reply = apply(operation, from, to, amount);
             if (reply[0] == 1 || reply[0] == 2) {
                 throw new Refused(reply[0] == 1 ? Fault.OVER : Fault.SHORT);
             }
@@ -464,12 +525,11 @@ public final class Small<S extends Small.Seat> implements AutoCloseable {
 
     /** A seat of a {@link Program}'s object. A state is its words. */
     public static final class Own extends Seat {
-        private final int asks, answers;
+        private final int asks;
 
         Own(Place place, long process, int width, int asks, int answers) {
             super(place, process, width, asks, answers);
             this.asks = asks;
-            this.answers = answers;
         }
 
         static Small<Own> open(long n, MemorySegment code, long count, MemorySegment start, int words, int asks, int answers,
@@ -484,7 +544,7 @@ public final class Small<S extends Small.Seat> implements AutoCloseable {
             if (invocation.length != asks) {
                 throw new Refused(Fault.BAD_WIDTH);
             }
-            return apply(answers, invocation);
+            return apply(invocation);
         }
     }
 

@@ -42,6 +42,7 @@ final class Universal {
             JAVA_LONG, JAVA_LONG, ADDRESS, ADDRESS);
     static final MethodHandle SMALL_SEAT = status("universal_small_seat", ADDRESS, ADDRESS, ADDRESS);
     static final MethodHandle SMALL_APPLY = status("universal_small_apply", ADDRESS, ADDRESS, JAVA_LONG, ADDRESS, JAVA_LONG, ADDRESS);
+    static final MethodHandle SMALL_READ = status("universal_small_read", ADDRESS, ADDRESS, JAVA_LONG, ADDRESS, JAVA_LONG, ADDRESS);
     static final MethodHandle SMALL_FOLLOWS = status("universal_small_follows", ADDRESS, JAVA_LONG, ADDRESS);
     static final MethodHandle SMALL_CLOSE = status("universal_small_close", ADDRESS, ADDRESS, JAVA_LONG);
     static final MethodHandle SEAT = status("universal_seat", ADDRESS, ADDRESS, ADDRESS);
