@@ -5,7 +5,7 @@ ghost use Rattle.uni_small.specs.Belongs.{IsSeatOf, invocation_width_of, reply_w
 ghost use Rattle.small_objects.specs.Typed.{IsTypedSeatOf};
 
 use crate::small::{answers, last_two, opened, typed};
-use small_objects::{MapCall, MapReply, SmallCounter, SmallMap, Told, TypedSeat};
+use small_objects::{MapCall, MapReply, SmallCounter, SmallMap, Told, TypedSeat, Words};
 use std::process::Abort;
 use std::thread::{Threads, join};
 use uni_small::{SmallObject, SmallSeat, SmallShared};
@@ -52,40 +52,36 @@ fn state(
 #[test]
 fn a_read_changes_nothing(rt: HostRuntime) {
     let (shared, mut seats) = opened(&rt, rt.alloc(), SmallCounter, 2);
-    assert!(rt; state(&rt, &shared, &mut seats[0]) == (0, 0));
-    answers(&rt, &shared, &mut seats[0], &[(5, 0), (3, 5)]);
-    for inv in [7, 0] {
-        let told = read(&rt, &shared, &mut seats[1], inv);
-        assert!(rt;
-            told == Told {
-                reply: 8,
-                version: 2
-            }
-        );
-    }
-    answers(&rt, &shared, &mut seats[1], &[(1, 8)]);
-    for p in 0..2usize {
-        let told = read(&rt, &shared, &mut seats[p], 4);
-        assert!(rt;
-            told == Told {
-                reply: 9,
-                version: 3
-            }
-        );
-        assert!(rt; state(&rt, &shared, &mut seats[p]) == (9, 3));
-    }
-    assert!(rt; seats[0].made() == 2 && seats[1].made() == 1);
+    let (mut first, mut second) = last_two(&rt, &shared, &mut seats);
+    assert!(rt; state(&rt, &shared, &mut first) == (0, 0));
+    answers(&rt, &shared, &mut first, &[(5, 0), (3, 5)]);
+    let eight = Told {
+        reply: 8,
+        version: 2,
+    };
+    assert!(rt; read(&rt, &shared, &mut second, 7) == eight);
+    assert!(rt; read(&rt, &shared, &mut second, 0) == eight);
+    answers(&rt, &shared, &mut second, &[(1, 8)]);
+    let nine = Told {
+        reply: 9,
+        version: 3,
+    };
+    assert!(rt; read(&rt, &shared, &mut first, 4) == nine);
+    assert!(rt; read(&rt, &shared, &mut second, 4) == nine);
+    assert!(rt; state(&rt, &shared, &mut first) == (9, 3));
+    assert!(rt; state(&rt, &shared, &mut second) == (9, 3));
+    assert!(rt; first.made() == 2 && second.made() == 1);
 }
 
 /// What a seat of a map reads: what the call would be answered, and the version.
-fn told(
+fn told<C: Words, R: Words>(
     rt: &impl Abort,
     shared: &SmallShared<SmallMap>,
-    seat: &mut TypedSeat<SmallMap, MapCall, MapReply>,
-    call: MapCall,
-) -> Told<MapReply>
-    requires { IsTypedSeatOf MapCall.words MapReply.words shared.now seat.old }
-    ensures { IsTypedSeatOf MapCall.words MapReply.words shared.now seat.new }
+    seat: &mut TypedSeat<SmallMap, C, R>,
+    call: C,
+) -> Told<R>
+    requires { IsTypedSeatOf C.words R.words shared.now seat.old }
+    ensures { IsTypedSeatOf C.words R.words shared.now seat.new }
 {
     let Ok(Some(told)) = seat.read(shared, &call) else {
         panic!(rt; "nothing is read")
@@ -182,10 +178,17 @@ fn a_reader_beside_a_writer(rt: HostRuntime) {
 fn a_map_is_read(rt: HostRuntime) {
     let (shared, mut seats) = opened(&rt, rt.alloc(), SmallMap { capacity: 2 }, 2);
     let (first, second) = last_two(&rt, &shared, &mut seats);
-    let mut writer = typed(&rt, rt.alloc(), &shared, first);
-    let mut reader = typed(&rt, rt.alloc(), &shared, second);
-    assert!(rt; told(&rt, &shared, &mut reader, MapCall::Insert(4, 40)).reply == MapReply::Absent);
-    assert!(rt; told(&rt, &shared, &mut reader, MapCall::Get(4)).reply == MapReply::Absent);
+    let mut writer: TypedSeat<SmallMap, MapCall, MapReply> = typed(&rt, rt.alloc(), &shared, first);
+    let mut reader: TypedSeat<SmallMap, MapCall, MapReply> = typed(
+        &rt,
+        rt.alloc(),
+        &shared,
+        second,
+    );
+    let put = told(&rt, &shared, &mut reader, MapCall::Insert(4, 40));
+    assert!(rt; put.reply == MapReply::Absent);
+    let none = told(&rt, &shared, &mut reader, MapCall::Get(4));
+    assert!(rt; none.reply == MapReply::Absent);
     assert!(rt; writer.call(&shared, &MapCall::Insert(4, 41)).is_ok());
     let four = Told {
         reply: MapReply::Value(41),
