@@ -130,7 +130,9 @@ fn reads_without_a_call_answer_what_a_call_would_be() {
     at_rest(&mut queue, &[0], [8]);
     assert_eq!(queue.close().unwrap(), [8, 9]);
     let mut stack = only_seat!(Stack::open(1, 2));
-    [8, 9].map(|it| stack.push(number(it)).unwrap());
+    for it in [8, 9] {
+        stack.push(number(it)).unwrap();
+    }
     at_rest(&mut stack, &[0], [9]);
     assert_eq!(stack.close().unwrap(), [8, 9]);
     let mut map = only_seat!(Map::open(1, 1));
@@ -190,7 +192,9 @@ fn what_is_read_never_goes_down() {
     std::thread::scope(|threads| {
         for seat in adders {
             threads.spawn(|| {
-                (0..CALLS).for_each(|_| drop(seat.add(1).unwrap()));
+                for _ in 0..CALLS {
+                    seat.add(1).unwrap();
+                }
                 over.fetch_add(1, SeqCst);
             });
         }
