@@ -172,9 +172,9 @@ impl SmallObject for SmallScriptQueue {
 }
 
 /// The queue on words is the plain one of that capacity: after invocations in words the values in the ring are its
-/// values, and the next reply is its reply. The words are the ring's, with 0 in each slot without a value. With room for
-/// 1,000 values it is the queue of scripts, call by call; with less room it is so as long as fewer values are in it than
-/// fit. The call does nothing: it tells what holds of each queue.
+/// values, and the next reply is its reply. The words are the ring's, with 0 in each slot without a value. With room
+/// for 1,000 values it is the queue of scripts, call by call; with less room it is so as long as fewer values are in
+/// it than fit. The call does nothing: it tells what holds of each queue.
 pub fn small_queue_follows_plain()
     ensures values { (capacity : ℕ) (is : List (List ℕ)) → let words = (spelled capacity).object in
         (ring_in (state_after words words.initial is)).values

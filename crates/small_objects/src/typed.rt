@@ -81,9 +81,9 @@ impl<O: SmallObject, C: Words, R: Words> TypedSeat<O, C, R> {
         })
     }
 
-    /// What this call would be answered at the present state, without making it, with the version that has the state: as
-    /// `read` of the seat, of which the call's words are the invocation. The answer is `None` where another version came
-    /// meanwhile.
+    /// What this call would be answered at the present state, without making it, with the version that has the state:
+    /// as `read` of the seat, of which the call's words are the invocation. The answer is `None` where another version
+    /// came meanwhile.
     pub fn read(&mut self, shared: &SmallShared<O>, call: &C) -> Result<Option<Told<R>>, CallsSpent>
         requires { IsTypedSeatOf C.words R.words shared.now self.old }
         ensures kept { IsTypedSeatOf C.words R.words shared.now self.new }

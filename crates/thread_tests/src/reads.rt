@@ -117,7 +117,8 @@ struct Found {
     last: u64,
 }
 
-/// Reads until the other thread must have ended. Each version has one call more than the one before, as one thread calls.
+/// Reads until the other thread must have ended. Each version has one call more than the one before, as one thread
+/// calls.
 fn reads(shared: &SmallShared<SmallCounter>, mut seat: SmallSeat<SmallCounter>) -> Found
     requires seat { IsSeatOf shared.now seat }
     requires call { invocation_width_of shared.now ≡ 1 }

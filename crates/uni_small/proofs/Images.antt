@@ -128,6 +128,22 @@ module _ (object : Sequential (List ℕ) (List ℕ) (List ℕ)) where
   applied-later image r None q later = refl
   applied-later image r (Some inv) q later = get_or-set_other image.applied r q (slice_index image.applied r + 1) 0 (λ e. omega (arith, e, later))
 
+  -- where nothing to apply was seen, nothing changes
+  pub seen-quiet : (image : Image) (r : ℕ) (seen : List (Option (List ℕ))) → ((j : ℕ) → due_at seen j ≡ 0) → with_seen object image r seen ≡ image
+  seen-quiet image r [] quiet = refl
+  seen-quiet image r (None ∷ seen) quiet = seen-quiet image (r + 1) seen (λ j. quiet (suc j))
+  seen-quiet image r (Some inv ∷ seen) quiet = absurd (let q : 1 ≡ 0 = quiet zero in omega arith)
+
+  -- nor of the first processes
+  pub seen-later : (k : ℕ) (image : Image) (r : ℕ) (seen : List (Option (List ℕ))) → ((j : ℕ) → j < k → due_at seen j ≡ 0)
+      → with_seen object image (r + k) (drop k seen) ≡ with_seen object image r seen
+  seen-later zero image r seen quiet = ap (λ i. with_seen object image i seen) (let e : r + zero ≡ r = omega arith in e)
+  seen-later (suc k) image r [] quiet = refl
+  seen-later (suc k) image r (None ∷ seen) quiet =
+      ap (λ i. with_seen object image i (drop k seen)) (let e : r + suc k ≡ r + 1 + k = omega arith in e)
+      ∙ seen-later k image (r + 1) seen (λ j below. quiet (suc j) (omega arith))
+  seen-later (suc k) image r (Some inv ∷ seen) quiet = absurd (let q : 1 ≡ 0 = quiet zero (omega arith) in omega arith)
+
 -- a state that calls lead to has as many words as the start state
 pub reached_length : (object : Sequential (List ℕ) (List ℕ) (List ℕ)) (reply : ℕ) → IsSteady object reply → (s : List ℕ) (is : List (List ℕ)) → length s ≡ length object.initial → length (state_after object s is) ≡ length object.initial
 reached_length object reply steady s [] long = long

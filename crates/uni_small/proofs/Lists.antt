@@ -1,5 +1,5 @@
 -- Lists with one more element, and two lists with the same elements.
-use Rattle.uni_small.proofs.Vocabulary.{Contains, List, None, Option, Some, [], ap, arith, due_at, fold, get_elem?, get_or_from_slice_get, inl, inr, length, refl, slice_get, slice_get_within, slice_index, slice_index_or, slice_set, some, some-injective, some-ne-none, suc, suc-mul, sum, sym, zero, ℕ, ◌*◌, ◌++◌, ◌+◌, ◌<◌, ◌∷◌, ◌≡◌, ◌≢◌, ◌≤◌, ◌⊎◌}
+use Rattle.uni_small.proofs.Vocabulary.{Contains, List, None, Option, Some, [], ap, arith, drop, due_at, fold, get_elem?, get_or_from_slice_get, inl, inr, length, refl, slice_get, slice_get_within, slice_index, slice_index_or, slice_set, some, some-injective, some-ne-none, suc, suc-mul, sum, sym, zero, ℕ, ◌*◌, ◌++◌, ◌+◌, ◌<◌, ◌∙◌, ◌∷◌, ◌≡◌, ◌≢◌, ◌≤◌, ◌⊎◌}
 
 pub index_snoc : (xs : List ℕ) (x j : ℕ) → j < length xs → slice_index (xs ++ x ∷ []) j ≡ slice_index xs j
 index_snoc [] x j h = absurd (omega arith)
@@ -117,3 +117,32 @@ get-set (z ∷ xs) zero zero x y e = inl (refl, cc)
 get-set (z ∷ xs) zero (suc r) x y e = inr ((λ same. omega arith), e)
 get-set (z ∷ xs) (suc p) zero x y e = inr ((λ same. omega arith), e)
 get-set (z ∷ xs) (suc p) (suc r) x y e = elim (get-set xs p r x y e) [ inl h ↦ inl (ap suc h.0, h.1) | inr h ↦ inr ((λ same. h.0 (omega arith)), h.1) ]
+
+-- what was seen of a process, from one on
+pub due-later : (x : Option (List ℕ)) (seen : List (Option (List ℕ))) (j : ℕ) → due_at (x ∷ seen) (suc j) ≡ due_at seen j
+due-later None seen j = refl
+due-later (Some i) seen j = refl
+
+pub due-drop : (k : ℕ) (seen : List (Option (List ℕ))) (j : ℕ) → due_at (drop k seen) j ≡ due_at seen (k + j)
+due-drop zero seen j = ap (due_at seen) (let e : j ≡ zero + j = omega arith in e)
+due-drop (suc k) [] j = refl
+due-drop (suc k) (x ∷ seen) j = due-drop k seen j ∙ sym (due-later x seen (k + j)) ∙ ap (due_at (x ∷ seen)) (let e : suc (k + j) ≡ suc k + j = omega arith in e)
+
+-- nothing to apply was seen of one more process
+pub due-none : (seen : List (Option (List ℕ))) (j : ℕ) → due_at (seen ++ None ∷ []) j ≡ due_at seen j
+due-none [] zero = refl
+due-none [] (suc j) = refl
+due-none (None ∷ seen) zero = refl
+due-none (Some i ∷ seen) zero = refl
+due-none (None ∷ seen) (suc j) = due-none seen j
+due-none (Some i ∷ seen) (suc j) = due-none seen j
+
+-- a call of one more process was
+pub due-elsewhere : (seen : List (Option (List ℕ))) (o : Option (List ℕ)) (j : ℕ) → j ≢ length seen → due_at (seen ++ o ∷ []) j ≡ due_at seen j
+due-elsewhere [] o zero apart = absurd (apart refl)
+due-elsewhere [] None (suc j) apart = refl
+due-elsewhere [] (Some i) (suc j) apart = refl
+due-elsewhere (None ∷ seen) o zero apart = refl
+due-elsewhere (Some i ∷ seen) o zero apart = refl
+due-elsewhere (None ∷ seen) o (suc j) apart = due-elsewhere seen o j (λ same. apart (ap suc same))
+due-elsewhere (Some i ∷ seen) o (suc j) apart = due-elsewhere seen o j (λ same. apart (ap suc same))

@@ -1,6 +1,6 @@
 -- Rows of words, and the first words of a list.
-use Rattle.uni_small.proofs.Vocabulary.{IsBeginning, List, [], ap, append_assoc, arith, drop, drop-append-le, drop-drop, drop-take, drop_at, get_or-append-add, get_or-set_other, get_or-set_same, get_or_append_left, joined, length, length-append, length-drop, length-set, lt_cases, mul-le-mul_right, nil_from_length, inl, inr, put_mid, refl, rows, set-get_or, slice_index, slice_index_or, slice_set, suc, suc-mul, sym, take, take-append-drop, take_all, take_at, take_more, take_more_set, with_row, zero, ℕ, ◌*◌, ◌++◌, ◌+◌, ◌<◌, ◌∙◌, ◌∷◌, ◌≡◌, ◌≤◌}
-use Rattle.std.proofs.lemmas.List.{length-take-le}
+use Rattle.uni_small.proofs.Vocabulary.{IsBeginning, List, [], ap, append_assoc, arith, drop, drop-append-le, drop-drop, drop-take, drop_at, get_or-append-add, get_or-set_other, get_or-set_same, get_or_append_left, joined, length, length-append, length-drop, length-set, lt_cases, mul-le-mul_right, nil_from_length, inl, inr, put_mid, refl, rows, set-get_or, slice_index, slice_index_or, slice_set, suc, suc-mul, sym, take, take-append-drop, take_all, take_at, take_more, take_more_set, with_row, zero, ℕ, ◌*◌, ◌++◌, ◌+◌, ◌-◌, ◌<◌, ◌∙◌, ◌∷◌, ◌≡◌, ◌≤◌, ◌⊎◌}
+use Rattle.std.proofs.lemmas.List.{get_or-drop, get_or-take, length-take-le}
 use Rattle.std.proofs.lemmas.Slice.{take-put_mid_below}
 
 -- each of the rows has so many words
@@ -88,6 +88,19 @@ rows-set (suc count) wide (suc r) words row below long full =
     = ap (drop wide) at ∙ drop-append-le wide (take (wide + r * wide) words) (row ++ drop wide (drop (wide + r * wide) words)) (omega arith)
     ∙ (λ i. drop-take wide (r * wide) words i ++ (row ++ drop wide (sym (drop-drop (r * wide) wide words) i))) in
     (λ i. first i ∷ rows count wide (d i)) ∙ ap (λ l. take wide words ∷ l) (rows-set count wide r (drop wide words) row (omega arith) (let k = length-drop wide words in omega arith) full)
+
+-- where words are put in the place of so many, those beside them stay
+pub put_mid-beside : (a k : ℕ) (words row : List ℕ) → a + k ≤ length words → length row ≡ k → (i : ℕ) → (i < a) ⊎ (a + k ≤ i)
+    → slice_index (put_mid a k words row) i ≡ slice_index words i
+put_mid-beside a k words row room long i (inl sooner) =
+    let l = length-take-le a words (omega arith) in
+    get_or_append_left (take a words) (row ++ drop k (drop a words)) 0 i (omega arith) ∙ get_or-take a words i 0 sooner
+put_mid-beside a k words row room long i (inr later) =
+    let l = length-take-le a words (omega arith) in
+    let j = i - (a + k) in
+    ap (slice_index (put_mid a k words row)) (let e : i ≡ length (take a words) + (length row + j) = omega arith in e)
+    ∙ get_or-append-add (take a words) (row ++ drop k (drop a words)) (length row + j) 0 ∙ get_or-append-add row (drop k (drop a words)) j 0
+    ∙ get_or-drop k (drop a words) j 0 ∙ get_or-drop a words (k + j) 0 ∙ ap (slice_index words) (let e : a + (k + j) ≡ i = omega arith in e)
 
 module _ (part whole : List ℕ) (begins : IsBeginning part whole) (room : length part < length whole) where
   -- one more of the first words

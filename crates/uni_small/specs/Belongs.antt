@@ -1,7 +1,7 @@
 -- Which seats are an object's, and what they have.
-use Rattle.std.specs.Prelude.{All, None, Option, Some, if◌then◌else◌, ◌≡◌, ℕ, ◌*◌, ◌<◌, ◌≤◌, List, [], ◌∷◌, length, map, slice_get}
+use Rattle.std.specs.Prelude.{All, None, Option, Some, if◌then◌else◌, ◌≡◌, ℕ, ◌*◌, ◌+◌, ◌<◌, ◌≤◌, ◌⊎◌, List, [], ◌∷◌, length, map, slice_get}
 use Rattle.std.specs.Prelude.{slice_index}
-use Rattle.uni_small.specs.Image.{Image, buffer_words, held_place, rows, spell, state_place}
+use Rattle.uni_small.specs.Image.{Image, buffer_words, due_at, held_place, rows, spell}
 use Rattle.uni_small.specs.Plays.{words_held}
 use Rattle.uni_small.specs.Touched.{IsUntouched}
 use Rattle.uni_small.specs.View.{Local, Returned, ProcessReturned}
@@ -11,6 +11,8 @@ use Rattle.uni_small.specs.declared.seat.Buffers.{Buffers}
 use Rattle.uni_small.specs.declared.seat.Room.{Room}
 use Rattle.uni_small.specs.declared.seat.Seen.{Seen}
 use Rattle.uni_small.specs.declared.sizes.Sizes.{Sizes}
+use Rattle.uni_small.specs.declared.span.Span.{Span}
+use Rattle.uni_small.specs.declared.touched.Touched.{Touched}
 
 abbrev pub object_of : {O : Type 0} → SmallShared O → O
 object_of shared = shared.setup.object
@@ -64,6 +66,22 @@ pub record AreBuffers (sizes : Sizes) (l : Local) (own : Buffers) : Type 0 where
 abbrev pub HasInvocation : Sizes → Seen → Type 0
 HasInvocation sizes seen = length seen.invocation.items ≡ sizes.invocation
 
+-- what is seen of a process
+abbrev pub seen_in : Seen → Option (List ℕ)
+seen_in seen = if seen.due then Some seen.invocation.items else None
+
+-- what is seen of all of them
+abbrev pub all_seen : Room → List (Option (List ℕ))
+all_seen room = map seen_in room.seen.items
+
+-- process q is none of these
+abbrev pub IsBeside : Span → (q : ℕ) → Type 0
+IsBeside span q = (q < span.from) ⊎ (span.to ≤ q)
+
+-- nothing to apply was seen of a process beside these
+abbrev pub IsQuietBeside : Span → List (Option (List ℕ)) → Type 0
+IsQuietBeside span seen = (q : ℕ) → IsBeside span q → due_at seen q ≡ 0
+
 -- room for an image, and for what is seen of the processes
 pub record HasRoom (sizes : Sizes) (room : Room) : Type 0 where
   pub applied : length room.applied.items ≡ sizes.processes
@@ -72,6 +90,9 @@ pub record HasRoom (sizes : Sizes) (room : Room) : Type 0 where
   pub seen : length room.seen.items ≡ sizes.processes
   pub invocations : All (HasInvocation sizes) room.seen.items
   pub saved : length room.saved.items ≡ sizes.state
+  pub ordered : room.busy.from ≤ room.busy.to
+  pub busy : room.busy.to ≤ sizes.processes
+  pub quiet : IsQuietBeside room.busy (all_seen room)
 
 -- an image with its replies in words, one after another
 abbrev pub image_of_rows : Sizes → (applied replies state : List ℕ) → Image
@@ -82,23 +103,27 @@ image_of_rows sizes applied replies state =
 abbrev pub image_in : Sizes → Room → Image
 image_in sizes room = image_of_rows sizes room.applied.items room.reply.items room.state.items
 
--- word i of the state that the first or second one of a process's buffers has
-abbrev pub state_held : Sizes → Buffers → (which i : ℕ) → ℕ
-state_held sizes own which i = slice_index own.held.items (held_place sizes which (state_place sizes i))
+-- word i of the first or second one of a process's buffers
+abbrev pub word_held : Sizes → Buffers → (which i : ℕ) → ℕ
+word_held sizes own which i = slice_index own.held.items (held_place sizes which i)
+
+-- both buffers of a process have the same words, of so many from one on, but for those that may be apart
+abbrev pub AreAlike : Sizes → Buffers → (from count : ℕ) → (apart : Touched) → Type 0
+AreAlike sizes own from count apart =
+    (i : ℕ) → i < count → IsUntouched apart i → word_held sizes own 0 (from + i) ≡ word_held sizes own 1 (from + i)
+
+-- the spare buffer has the words of a row already, from this one on, but for those that may be apart and those that are touched
+abbrev pub HasAlready : Sizes → Buffers → (from : ℕ) → (row : List ℕ) → (apart touched : Touched) → Type 0
+HasAlready sizes own from row apart touched =
+    (i : ℕ) → i < length row → IsUntouched apart i → IsUntouched touched i → word_held sizes own own.spare (from + i) ≡ slice_index row i
 
 -- What a process keeps is as it is told: its copy is that of the one of its buffers that `of` names, and its two buffers have the
--- same words of the state but for those that may be apart.
+-- same words of each row but for those that may be apart.
 pub record IsKept (sizes : Sizes) (own : Buffers) (room : Room) : Type 0 where
   pub copy : room.of ≤ 1 → spell (image_in sizes room) ≡ words_held sizes own.held.items room.of
-  pub apart : (i : ℕ) → i < sizes.state → IsUntouched own.apart i → state_held sizes own 0 i ≡ state_held sizes own 1 i
-
--- what is seen of a process
-abbrev pub seen_in : Seen → Option (List ℕ)
-seen_in seen = if seen.due then Some seen.invocation.items else None
-
--- what is seen of all of them
-abbrev pub all_seen : Room → List (Option (List ℕ))
-all_seen room = map seen_in room.seen.items
+  pub applied : AreAlike sizes own 0 sizes.processes own.apart.applied
+  pub reply : AreAlike sizes own sizes.processes (sizes.processes * sizes.reply) own.apart.reply
+  pub state : AreAlike sizes own (sizes.processes + sizes.processes * sizes.reply) sizes.state own.apart.state
 
 -- The seat is one of this object's.
 pub record IsSeatOf {O : Type 0} (shared : SmallShared O) (seat : SmallSeat O) : Type 0 where

@@ -1,6 +1,7 @@
 -- Which words of a state a call may change.
 use Rattle.std.specs.Prelude.{◌≡◌, ◌⊎◌, ℕ, ◌<◌, ◌≤◌, List, length, slice_index}
 use Rattle.uni_small.specs.declared.touched.Touched.{Touched}
+use Rattle.uni_small.specs.declared.touched.TouchedRows.{TouchedRows}
 
 -- word i is none of these
 abbrev pub IsUntouched : Touched → (i : ℕ) → Type 0
@@ -14,3 +15,7 @@ AreAlikeBeside touched state other =
 -- all words
 abbrev pub everything : Touched
 everything = record { head = 18446744073709551615; from = 0; to = 0 }
+
+-- all words of all rows
+abbrev pub all_rows : TouchedRows
+all_rows = record { applied = everything; reply = everything; state = everything }

@@ -1,5 +1,5 @@
 //! An attempt at a call: copy the current buffer, apply what was announced, and bring the copy in.
-ghost use Rattle.std.specs.Prelude.{ℕ, ◌*◌, ◌+◌, ◌++◌, ◌<◌, ◌≡◌, ◌≤◌};
+ghost use Rattle.std.specs.Prelude.{ℕ, ◌*◌, ◌+◌, ◌++◌, ◌<◌, ◌≡◌, ◌≢◌, ◌≤◌, ◌⊎◌};
 ghost use Rattle.std.specs.Prelude.{All, List, Option, Some, [], ◌∷◌, length, map, slice_index};
 ghost use Rattle.std.specs.Prelude.{slice_index_or, slice_set};
 ghost use Rattle.uni_small.specs.Image.{AreWidths, IsReached, buffer_words, held_place, spell, with_row, with_seen};
@@ -10,15 +10,17 @@ ghost use Rattle.uni_small.specs.Plays.{stage_of, IsNamed, IsGood, begun, words_
 ghost use Rattle.uni_small.specs.Standing.{GoesBy, GoesWithin, IsAsking, IsCopying, IsLooking, IsOf};
 ghost use Rattle.uni_small.specs.Standing.{EndsWithin, HasCopy, HasRow, IsAnnounced, IsDirect, TriesWithin};
 ghost use Rattle.uni_small.specs.Standing.{WritesWithin, attempt_steps, local_of};
-ghost use Rattle.uni_small.specs.Belongs.{AreBuffers, HasInvocation, HasRoom, IsKept};
-ghost use Rattle.uni_small.specs.Touched.{AreAlikeBeside, IsUntouched};
+ghost use Rattle.uni_small.specs.Belongs.{AreBuffers, HasAlready, HasInvocation, HasRoom};
+ghost use Rattle.uni_small.specs.Belongs.{IsBeside, IsKept, IsQuietBeside};
+ghost use Rattle.uni_small.specs.Touched.{AreAlikeBeside};
 ghost use Rattle.uni_small.specs.declared.seat.Seen.{Seen};
-ghost use Rattle.uni_small.specs.Belongs.{all_seen, image_in, image_of_rows, seen_in, state_held};
+ghost use Rattle.uni_small.specs.Belongs.{all_seen, image_in, image_of_rows, seen_in};
 
 use crate::log::SmallShared;
 use crate::object::SmallObject;
 use crate::seat::{Buffers, Room, Seen};
-use crate::touched::Touched;
+use crate::span::Span;
+use crate::touched::{Touched, TouchedRows};
 use crate::view::View;
 use atomic_table::Seat;
 
@@ -85,7 +87,7 @@ impl<O: SmallObject> SmallShared<O> {
         r: u64,
         known: u64,
         seen: &mut Seen,
-    )
+    ) -> bool
         requires table { seat.old.table_id ≡ self.now.table.shared.table_id }
         requires inside { (p < self.now.setup.sizes.processes) × (r < self.now.setup.sizes.processes) }
         requires of { IsOf self.now.setup.object self.now.setup.sizes p seat.old.me }
@@ -99,15 +101,19 @@ impl<O: SmallObject> SmallShared<O> {
             → GoesWithin seat.old.me (1 + self.now.setup.sizes.invocation)
             (Reading tries s copy (before ++ seen_in seen.new ∷ [])) seat.new.me }
         ensures room { HasInvocation self.now.setup.sizes seen.new }
+        ensures due { seen.new.due ≡ result }
     {
         let announced = self.look(seat, p, tries, s, r);
-        seen.due = announced > known;
-        if announced > known {
+        let due = announced > known;
+        seen.due = due;
+        if due {
             self.ask_all(seat, p, tries, s, r, &mut seen.invocation);
         }
+        due
     }
 
-    /// Looks at all processes: a call that isn't in the copy is seen.
+    /// Looks at all processes: a call that isn't in the copy is seen. The answer are processes beside which nobody has
+    /// one.
     fn scan(
         &self,
         seat: &mut Seat<Seen, View<O>>,
@@ -116,7 +122,7 @@ impl<O: SmallObject> SmallShared<O> {
         s: u64,
         applied: &[u64],
         seen: &mut [Seen],
-    )
+    ) -> Span
         requires table { seat.old.table_id ≡ self.now.table.shared.table_id }
         requires inside { (p < self.now.setup.sizes.processes)
             × (length applied.now ≡ self.now.setup.sizes.processes)
@@ -130,9 +136,12 @@ impl<O: SmallObject> SmallShared<O> {
             (self.now.setup.sizes.processes + self.now.setup.sizes.processes * self.now.setup.sizes.invocation)
             (Reading tries s copy (map seen_in seen.new)) seat.new.me }
         ensures room { All (HasInvocation self.now.setup.sizes) seen.new }
+        ensures busy { (result.from ≤ result.to) × (result.to ≤ self.now.setup.sizes.processes) }
+        ensures quiet { IsQuietBeside result (map seen_in seen.new) }
     {
+        let mut busy = Span::NONE;
         for r in 0..self.setup.sizes.processes {
-            self.see(
+            let due = self.see(
                 seat,
                 p,
                 tries,
@@ -141,7 +150,11 @@ impl<O: SmallObject> SmallShared<O> {
                 applied[r as usize],
                 &mut seen[r as usize],
             );
+            if due {
+                busy = busy.with(r);
+            }
         }
+        busy
     }
 
     /// Applies what was seen of process r to the copy, and adds the words that this may change to those before.
@@ -164,6 +177,10 @@ impl<O: SmallObject> SmallShared<O> {
             ≡ with_seen (O.meaning self.now.setup.object).object
             (image_of_rows self.now.setup.sizes applied.old reply.old state.old) r (seen_in seen.now ∷ []) }
         ensures reached { IsReached (O.meaning self.now.setup.object).object state.new }
+        ensures applied { (q : ℕ) → q ≢ r → slice_index applied.new q ≡ slice_index applied.old q }
+        ensures reply { (i : ℕ) → (i < r * self.now.setup.sizes.reply)
+            ⊎ (r * self.now.setup.sizes.reply + self.now.setup.sizes.reply ≤ i)
+            → slice_index reply.new i ≡ slice_index reply.old i }
         ensures touched { (first : List ℕ) → length first ≡ length state.old
             → AreAlikeBeside touched.old first state.old → AreAlikeBeside touched.new first state.new }
     {
@@ -180,13 +197,15 @@ impl<O: SmallObject> SmallShared<O> {
             .apply(state, &seen.invocation, &mut reply[from..from + words]);
     }
 
-    /// Applies what was seen to the copy: which words of the state this may change.
+    /// Applies what was seen to the copy, of these processes and nobody beside them: which words of the state this may
+    /// change.
     fn apply_seen(
         &self,
         applied: &mut [u64],
         reply: &mut [u64],
         state: &mut [u64],
         seen: &[Seen],
+        busy: Span,
     ) -> Touched
         requires rows { (length applied.old ≡ self.now.setup.sizes.processes)
             × (length reply.old ≡ self.now.setup.sizes.processes * self.now.setup.sizes.reply)
@@ -194,13 +213,18 @@ impl<O: SmallObject> SmallShared<O> {
         requires room { All (HasInvocation self.now.setup.sizes) seen.now }
         requires good { IsGood (O.meaning self.now.setup.object) self.now.setup.sizes
             (image_of_rows self.now.setup.sizes applied.old reply.old state.old) }
+        requires busy { (busy.from ≤ busy.to) × (busy.to ≤ self.now.setup.sizes.processes) }
+        requires quiet { IsQuietBeside busy (map seen_in seen.now) }
         ensures image { image_of_rows self.now.setup.sizes applied.new reply.new state.new
             ≡ with_seen (O.meaning self.now.setup.object).object
             (image_of_rows self.now.setup.sizes applied.old reply.old state.old) 0 (map seen_in seen.now) }
+        ensures applied { (q : ℕ) → IsBeside busy q → slice_index applied.new q ≡ slice_index applied.old q }
+        ensures reply { (i : ℕ) → (i < busy.from * self.now.setup.sizes.reply)
+            ⊎ (busy.to * self.now.setup.sizes.reply ≤ i) → slice_index reply.new i ≡ slice_index reply.old i }
         ensures touched { AreAlikeBeside result state.old state.new }
     {
         let mut touched = Touched::NONE;
-        for r in 0..self.setup.sizes.processes as usize {
+        for r in busy.from as usize..busy.to as usize {
             self.apply_one(applied, reply, state, r, &seen[r], &mut touched);
         }
         touched
@@ -224,9 +248,7 @@ impl<O: SmallObject> SmallShared<O> {
         requires of { IsOf self.now.setup.object self.now.setup.sizes p seat.old.me }
         requires stage { HasRow (O.meaning self.now.setup.object).object self.now.setup.sizes from row.now seat.old.me }
         requires own { AreBuffers self.now.setup.sizes (local_of seat.old.me) own.old }
-        requires alike { (i : ℕ) → i < length row.now → IsUntouched apart i → IsUntouched touched i
-            → slice_index own.old.held.items (held_place self.now.setup.sizes own.old.spare (from + i))
-            ≡ slice_index row.now i }
+        requires alike { HasAlready self.now.setup.sizes own.old from row.now apart touched }
         ensures same { (seat.new.table_id ≡ seat.old.table_id) × (seat.new.id ≡ seat.old.id) }
         ensures goes { WritesWithin seat.old.me from (length row.now) own.new.held.items seat.new.me }
         ensures spare { own.new.spare ≡ own.old.spare }
@@ -354,7 +376,7 @@ impl<O: SmallObject> SmallShared<O> {
         ensures kept { IsKept self.now.setup.sizes own.now room.new }
     {
         self.copy(seat, p, tries, s, own, room);
-        self.scan(seat, p, tries, s, &room.applied, &mut room.seen);
+        room.busy = self.scan(seat, p, tries, s, &room.applied, &mut room.seen);
     }
 
     /// Begins an attempt: loads S, copies the buffer that it names, and looks at all processes.
@@ -388,14 +410,14 @@ impl<O: SmallObject> SmallShared<O> {
         s
     }
 
-    /// Writes an image to the spare buffer, whose state differs from it in these words or those at most.
+    /// Writes an image to the spare buffer, whose rows differ from it in these words, or where both buffers may differ.
     fn write(
         &self,
         seat: &mut Seat<Seen, View<O>>,
         p: u64,
         own: &mut Buffers,
         room: &Room,
-        touched: Touched,
+        touched: TouchedRows,
     )
         requires table { seat.old.table_id ≡ self.now.table.shared.table_id }
         requires inside { p < self.now.setup.sizes.processes }
@@ -404,8 +426,13 @@ impl<O: SmallObject> SmallShared<O> {
             (spell (image_in self.now.setup.sizes room.now)) seat.old.me }
         requires own { AreBuffers self.now.setup.sizes (local_of seat.old.me) own.old }
         requires room { HasRoom self.now.setup.sizes room.now }
-        requires alike { (i : ℕ) → i < self.now.setup.sizes.state → IsUntouched own.old.apart i → IsUntouched touched i
-            → state_held self.now.setup.sizes own.old own.old.spare i ≡ slice_index room.now.state.items i }
+        requires applied { HasAlready self.now.setup.sizes own.old 0 room.now.applied.items
+            own.old.apart.applied touched.applied }
+        requires reply { HasAlready self.now.setup.sizes own.old self.now.setup.sizes.processes room.now.reply.items
+            own.old.apart.reply touched.reply }
+        requires state { HasAlready self.now.setup.sizes own.old
+            (self.now.setup.sizes.processes + self.now.setup.sizes.processes * self.now.setup.sizes.reply)
+            room.now.state.items own.old.apart.state touched.state }
         ensures same { (seat.new.table_id ≡ seat.old.table_id) × (seat.new.id ≡ seat.old.id) }
         ensures goes { WritesWithin seat.old.me 0 (buffer_words self.now.setup.sizes) own.new.held.items seat.new.me }
         ensures spare { own.new.spare ≡ own.old.spare }
@@ -416,9 +443,46 @@ impl<O: SmallObject> SmallShared<O> {
         let n = sizes.processes;
         let at_state = n + n * sizes.reply;
         let apart = own.apart;
-        self.write_row(seat, p, own, 0, &room.applied, Touched::ALL, Touched::ALL);
-        self.write_row(seat, p, own, n, &room.reply, Touched::ALL, Touched::ALL);
-        self.write_row(seat, p, own, at_state, &room.state, apart, touched);
+        self.write_row(
+            seat,
+            p,
+            own,
+            0,
+            &room.applied,
+            apart.applied,
+            touched.applied,
+        );
+        self.write_row(seat, p, own, n, &room.reply, apart.reply, touched.reply);
+        self.write_row(
+            seat,
+            p,
+            own,
+            at_state,
+            &room.state,
+            apart.state,
+            touched.state,
+        );
+    }
+
+    /// Which words of each row calls of these processes may change that change these words of the state.
+    fn touched_rows(&self, busy: Span, state: Touched) -> TouchedRows
+        requires busy { (busy.from ≤ busy.to) × (busy.to ≤ self.now.setup.sizes.processes) }
+        ensures { result ≡ record {
+          applied = record { head = 0; from = busy.from; to = busy.to };
+          reply = record {
+            head = 0;
+            from = busy.from * self.now.setup.sizes.reply;
+            to = busy.to * self.now.setup.sizes.reply;
+          };
+          state = state;
+        } }
+    {
+        let words = self.setup.sizes.reply;
+        TouchedRows {
+            applied: Touched::between(busy.from, busy.to),
+            reply: Touched::between(busy.from * words, busy.to * words),
+            state,
+        }
     }
 
     /// Applies what was seen to the copy, and writes it to the spare buffer.
@@ -447,13 +511,19 @@ impl<O: SmallObject> SmallShared<O> {
         ensures kept { IsKept self.now.setup.sizes own.new room.new }
     {
         let is_from_other = room.of == 1 - own.spare;
-        let touched = self.apply_seen(
+        let busy = room.busy;
+        let state = self.apply_seen(
             &mut room.applied,
             &mut room.reply,
             &mut room.state,
             &room.seen,
+            busy,
         );
-        let touched = if is_from_other { touched } else { Touched::ALL };
+        let touched = if is_from_other {
+            self.touched_rows(busy, state)
+        } else {
+            TouchedRows::ALL
+        };
         self.write(seat, p, own, room, touched);
         own.apart = touched;
         room.of = own.spare;
@@ -586,6 +656,7 @@ impl<O: SmallObject> SmallShared<O> {
         ensures kept { IsKept self.now.setup.sizes own.new room.new }
     {
         self.see_own(&mut room.seen, p, invocation);
+        room.busy = room.busy.with(p);
         self.fill(seat, p, own, room);
         let new = 128 * (s / 128 + 1) + (2 * p + own.spare);
         let found = self.bring_in_own(seat, p, s, own.spare, new, &room.seen[p as usize]);

@@ -12,6 +12,7 @@ mod resume;
 mod rule;
 mod seat;
 mod sizes;
+mod span;
 mod touched;
 mod view;
 

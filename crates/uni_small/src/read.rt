@@ -80,9 +80,9 @@ impl<O: SmallObject> SmallSeat<O> {
     /// calls of the seat are among them. The seat follows it: its later calls come after all calls that are in that
     /// version, and their versions are greater.
     ///
-    /// The answer is `None` where another version came while words were loaded; nothing is known of the state then. Ask
-    /// again, as often as you like: how often another version comes is up to the others. Who has to be answered within a
-    /// bound makes a call that changes nothing.
+    /// The answer is `None` where another version came while words were loaded; nothing is known of the state then.
+    /// Ask again, as often as you like: how often another version comes is up to the others. Who has to be answered
+    /// within a bound makes a call that changes nothing.
     ///
     /// It returns after at most `W + (1 + R) * n + 2` word steps. The error says that the seat has made all the calls
     /// that it can make; nothing is changed then.
@@ -115,12 +115,12 @@ impl<O: SmallObject> SmallSeat<O> {
         &self.room.state
     }
 
-    /// What a call of this invocation would be answered at the present state: the reply is written, and the answer is the
-    /// version that has the state. No call is made. Of an invocation that changes nothing, as a read of a map, this is
-    /// what `apply` is for, and no other process waits for it or copies anything.
+    /// What a call of this invocation would be answered at the present state: the reply is written, and the answer is
+    /// the version that has the state. No call is made, so nothing changes, whatever the invocation is. One that only
+    /// asks, as for the value of a key of a map, needs no call but this, and no other process waits for it.
     ///
-    /// The answer is `None` where another version came meanwhile; the reply stays as it was then. What the version is, and
-    /// what the seat follows, how many steps it takes and the error are as `refresh` has them.
+    /// The answer is `None` where another version came meanwhile; the reply stays as it was then. What the version is,
+    /// and what the seat follows, how many steps it takes and the error are as `refresh` has them.
     pub fn read(
         &mut self,
         shared: &SmallShared<O>,

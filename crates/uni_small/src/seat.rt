@@ -3,7 +3,8 @@ ghost use Rattle.std.specs.Prelude.{[], false, ◌≡◌, ◌≤◌, length};
 ghost use Rattle.uni_small.specs.View.Stage.{Idle};
 ghost use Rattle.uni_small.specs.Invariant.{most_calls};
 
-use crate::touched::Touched;
+use crate::span::Span;
+use crate::touched::TouchedRows;
 use crate::view::View;
 use atomic_table::Seat;
 
@@ -23,6 +24,8 @@ pub(crate) struct Room {
     pub reply: Vec<u64>,
     pub state: Vec<u64>,
     pub seen: Vec<Seen>,
+    /// Of these processes alone a call to apply has been seen.
+    pub busy: Span,
     /// Room for the words of the state that a read changes, and puts back.
     pub saved: Vec<u64>,
 }
@@ -33,8 +36,8 @@ pub(crate) struct Room {
 pub(crate) struct Buffers {
     pub spare: u64,
     pub held: Vec<u64>,
-    /// Of which words of the state the two may differ.
-    pub apart: Touched,
+    /// In which words of each row the two may differ.
+    pub apart: TouchedRows,
 }
 
 /// A process's place at the object.

@@ -42,6 +42,13 @@ impl Touched {
         to: 0,
     };
 
+    /// The words from one on that are before another one.
+    pub(crate) fn between(from: u64, to: u64) -> Touched
+        ensures { result ≡ record { head = 0; from = from; to = to } }
+    {
+        Touched { head: 0, from, to }
+    }
+
     /// These words and those, and perhaps some between them.
     pub(crate) fn with(self, more: Touched) -> Touched
         ensures { (i : ℕ) → IsUntouched result i → IsUntouched self i × IsUntouched more i }
@@ -94,4 +101,21 @@ impl Touched {
         let (first, second) = (self.next(i), other.next(i));
         if first < second { first } else { second }
     }
+}
+
+/// Which words of each row of a buffer a batch of calls may change.
+#[derive(Clone, Copy)]
+pub(crate) struct TouchedRows {
+    pub applied: Touched,
+    pub reply: Touched,
+    pub state: Touched,
+}
+
+impl TouchedRows {
+    /// All words of all rows.
+    pub const ALL: TouchedRows = TouchedRows {
+        applied: Touched::ALL,
+        reply: Touched::ALL,
+        state: Touched::ALL,
+    };
 }

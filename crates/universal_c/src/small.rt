@@ -197,9 +197,9 @@ impl SmallPlace {
         }
     }
 
-    /// What a call of this invocation would be answered at the present state: the reply is written, and the answer is the
-    /// version that has the state. No call is made. The answer is `None` where another version came meanwhile; the reply
-    /// stays as it was then.
+    /// What a call of this invocation would be answered at the present state: the reply is written, and the answer is
+    /// the version that has the state. No call is made. The answer is `None` where another version came meanwhile; the
+    /// reply stays as it was then.
     /// Errors, in this order: the invocation or the reply hasn't as many words as those of the object; the seat
     /// has made 2^50 calls. After either nothing is changed.
     pub(crate) fn read(

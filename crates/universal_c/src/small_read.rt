@@ -38,13 +38,13 @@ fn read_by(held: &mut Held, invocation: &[u64], reply: &mut [u64], version: &mut
     }
 }
 
-/// Reads the present state of a small object by a seat, without a call: what a call of this invocation would be answered
-/// there. It stores nothing in a shared word, and takes no lock and no memory; no clause says so.
-/// 0: the reply is written, and the version is the one that has that state; the seat has it then, and all calls of the
-/// seat are in it. 7: the handle has no seat of a small object. 11: the invocation or the reply hasn't as many words as
-/// those of the object. 4: the seat has made 2^50 calls. 28: another version came meanwhile, and nothing is known of the
-/// state; ask again. In this order; after 7, 11 and 4 nothing is changed, after 28 the reply, the version, and the calls
-/// of the seat and its version stay, and there is no other status.
+/// Reads the present state of a small object by a seat, without a call: what a call of this invocation would be
+/// answered there. It stores nothing in a shared word, and takes no lock and no memory; no clause says so. 0: the
+/// reply is written, and the version is the one that has that state; the seat has it then, and all calls of the seat
+/// are in it. 7: the handle has no seat of a small object. 11: the invocation or the reply hasn't as many words as
+/// those of the object. 4: the seat has made 2^50 calls. 28: another version came meanwhile, and nothing is known of
+/// the state; ask again. In this order; after 7, 11 and 4 nothing is changed, after 28 the reply, the version, and the
+/// calls of the seat and its version stay, and there is no other status.
 #[unsafe(no_mangle)]
 pub extern "C" fn universal_small_read(
     alloc: Global,

@@ -60,6 +60,6 @@ pub const NO_LOOP: u32 = 18;
 /// There are more than 4,096 instructions, or more than 2^32 steps in a call.
 pub const TOO_LONG: u32 = 19;
 
-/// Another version came while a read loaded the state. The statuses from 20 to 27 are those of shared memory, which are no
-/// part of this crate.
+/// Another version came while a read loaded the state. The statuses from 20 to 27 are those of shared memory, which
+/// are no part of this crate.
 pub const CHANGED: u32 = 28;

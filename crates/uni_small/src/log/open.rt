@@ -1,21 +1,22 @@
 //! Opening an object.
 ghost use Rattle.std.specs.Prelude.{All, IfOk, IsErrOf, [], ◌<◌, ◌≡◌, ◌≤◌, ◌⊎◌, ◌↔◌};
-ghost use Rattle.std.specs.Prelude.{length};
+ghost use Rattle.std.specs.Prelude.{ℕ, length, map};
 ghost use Rattle.uni_small.specs.Plays.{first_view};
 ghost use Rattle.uni_small.specs.Board.{AreFew};
 ghost use Rattle.uni_small.specs.TooWide.{IsTooWide};
-ghost use Rattle.uni_small.specs.Image.{first_held};
-ghost use Rattle.uni_small.specs.Touched.{everything};
+ghost use Rattle.uni_small.specs.Image.{due_at, first_held};
+ghost use Rattle.uni_small.specs.Touched.{all_rows};
 ghost use Rattle.uni_small.specs.View.{at_rest};
 ghost use Rattle.uni_small.specs.Belongs.{AreBuffers, AreFirstSeats, HasInvocation, HasRoom, IsSeatOf};
-ghost use Rattle.uni_small.specs.Belongs.{object_of, sizes_of};
+ghost use Rattle.uni_small.specs.Belongs.{object_of, seen_in, sizes_of};
 
 use crate::log::{MAX_PROCESSES, SmallOpenFault, SmallShared, first_words};
 use crate::object::SmallObject;
 use crate::rule::First;
 use crate::seat::{Buffers, Room, Seen, SmallSeat};
 use crate::sizes::Sizes;
-use crate::touched::Touched;
+use crate::span::Span;
+use crate::touched::TouchedRows;
 use crate::view::View;
 use atomic_table::Seat;
 use std::alloc::{AllocError, Global};
@@ -24,6 +25,7 @@ use std::alloc::{AllocError, Global};
 fn seen_room(alloc: Global, sizes: &Sizes) -> Result<Vec<Seen>, AllocError>
     ensures long { IfOk result (λ seen. length seen.items ≡ sizes.now.processes) }
     ensures each { IfOk result (λ seen. All (HasInvocation sizes.now) seen.items) }
+    ensures none { IfOk result (λ seen. (q : ℕ) → due_at (map seen_in seen.items) q ≡ 0) }
 {
     let mut seen = Vec::new(alloc);
     for _ in 0..sizes.processes {
@@ -49,6 +51,7 @@ pub(crate) fn room(alloc: Global, sizes: &Sizes) -> Result<Room, AllocError>
         reply: vec![in alloc; 0u64; (n * sizes.reply) as usize]?,
         state: vec![in alloc; 0u64; sizes.state as usize]?,
         seen: seen_room(alloc, sizes)?,
+        busy: Span::NONE,
         saved: vec![in alloc; 0u64; sizes.state as usize]?,
     })
 }
@@ -59,7 +62,7 @@ fn buffers<O: SmallObject>(alloc: Global, object: &O, sizes: &Sizes) -> Result<B
     requires wide { length (O.meaning object.now).object.initial ≡ sizes.now.state }
     ensures held { IfOk result (λ own.
         AreBuffers sizes.now (at_rest (first_held (O.meaning object.now).object sizes.now)) own) }
-    ensures apart { IfOk result (λ own. own.apart ≡ everything) }
+    ensures apart { IfOk result (λ own. own.apart ≡ all_rows) }
 {
     let first = first_words(alloc, object, sizes)?;
     let mut held = first_words(alloc, object, sizes)?;
@@ -67,7 +70,7 @@ fn buffers<O: SmallObject>(alloc: Global, object: &O, sizes: &Sizes) -> Result<B
     Ok(Buffers {
         spare: 1,
         held,
-        apart: Touched::ALL,
+        apart: TouchedRows::ALL,
     })
 }
 

@@ -1,6 +1,7 @@
-use Rattle.uni_small.proofs.Vocabulary.{List, [], ap, arith, length, refl, slice_index, state_after-append, sym, ℕ, ◌*◌, ◌++◌, ◌+◌, ◌-◌, ◌∙◌, ◌∷◌, ◌≡◌}
+use Rattle.uni_small.proofs.Vocabulary.{List, [], ap, arith, get_or-set_other, inl, inr, length, refl, slice_index, state_after-append, sym, ℕ, ◌*◌, ◌++◌, ◌+◌, ◌-◌, ◌∙◌, ◌∷◌, ◌≡◌}
 use Rattle.uni_small.proofs.Images.{reached_length}
 use Rattle.uni_small.proofs.Rooms.{applied_in_room}
+use Rattle.uni_small.proofs.Rows.{later, put_mid-beside}
 use Rattle.uni_small.proofs.log.SmallShared.apply_one.Goals as goal
 
 pub returns-clause-reached : goal.returns-clause-reached
@@ -41,3 +42,20 @@ returns-clause-touched g c =
     λ first long was i inside apart.
     let both = c.with.ensures i apart in
     ap (λ ws. slice_index ws i) (c.apply.ensures.state ∙ ap (object.next c.args.state.now) inv) ∙ c.touches-more.ensures i (let l = long in omega arith) both.1 ∙ was i inside both.0
+
+pub returns-clause-applied : goal.returns-clause-applied
+returns-clause-applied g c q apart = get_or-set_other c.args.applied.now c.args.r q (slice_index c.args.applied.now c.args.r + 1) 0 apart
+
+pub returns-clause-reply : goal.returns-clause-reply
+returns-clause-reply g c i beside =
+    let sizes = c.args.self.now.setup.sizes in
+    let meaning = g.O.SmallObject.meaning c.args.self.now.setup.object in
+    let was = c.requires.reached in
+    let steady = g.met.O.SmallObject.steady c.args.self.now.setup.object in
+    let wide : c.args.r * sizes.reply + sizes.reply - c.args.r * sizes.reply ≡ sizes.reply = omega arith in
+    let full : length c.apply.new.reply ≡ sizes.reply = ap (λ (ws : List ℕ). length ws) c.apply.ensures.reply
+    ∙ (steady c.args.state.now c.deref-2.result.now (ap (λ (s : List ℕ). length s) (sym was.1) ∙ reached_length meaning.object meaning.reply steady meaning.object.initial was.0 refl)).1 ∙ c.requires.widths.1 in
+    let room = later c.args.r sizes.processes sizes.reply c.requires.rows.0 in
+    let long = c.requires.rows.2 in
+    put_mid-beside (c.args.r * sizes.reply) (c.args.r * sizes.reply + sizes.reply - c.args.r * sizes.reply) c.args.reply.now c.apply.new.reply (omega (arith, room, long, wide)) (full ∙ sym wide) i
+    (elim beside [ inl sooner ↦ inl sooner | inr after ↦ inr (omega (arith, after, wide)) ])

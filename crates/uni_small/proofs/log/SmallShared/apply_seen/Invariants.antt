@@ -1,4 +1,4 @@
-use Rattle.uni_small.proofs.Vocabulary.{IsReached, drop, image_of_rows, length, map, most_calls, seen_in, slice_index, with_seen, ℕ, ◌<◌, ◌≡◌, ◌≤◌}
+use Rattle.uni_small.proofs.Vocabulary.{IsReached, drop, image_of_rows, length, map, most_calls, seen_in, slice_index, with_seen, ℕ, ◌*◌, ◌<◌, ◌≡◌, ◌≤◌, ◌⊎◌}
 use Rattle.uni_small.specs.Touched.{AreAlikeBeside}
 use Rattle.uni_small.proofs.log.SmallShared.apply_seen.Given as goal
 
@@ -12,3 +12,5 @@ invariant-loop-r g l =
     × ((q : ℕ) → l.r ≤ q → q < sizes.processes → slice_index l.applied q ≤ most_calls)
     × (length l.state ≡ length l.fn.state)
     × AreAlikeBeside l.touched l.fn.state l.state
+    × ((q : ℕ) → (q < l.fn.busy.from) ⊎ (l.r ≤ q) → slice_index l.applied q ≡ slice_index l.fn.applied q)
+    × ((i : ℕ) → (i < l.fn.busy.from * sizes.reply) ⊎ (l.r * sizes.reply ≤ i) → slice_index l.reply i ≡ slice_index l.fn.reply i)

@@ -1,8 +1,9 @@
-use Rattle.uni_small.proofs.Vocabulary.{AreBuffers, Buffers, List, Me, None, Returned, Seen, Some, TriesWithin, View, all_seen, ap, arith, buffer_words, held_place, image_in, inr, length, local_of, map, refl, seen_in, slice_index, slice_index_or, slice_set, spell, subst, sym, with_items_is, with_seen, ℕ, ◌*◌, ◌+◌, ◌-◌, ◌/◌, ◌∙◌, ◌≡◌, ◌≤◌}
+use Rattle.uni_small.proofs.Vocabulary.{All, AreBuffers, Buffers, HasInvocation, List, Me, None, Returned, Seen, Some, TriesWithin, View, all_seen, ap, arith, buffer_words, due_at, held_place, image_in, inr, length, local_of, map, refl, seen_in, slice_index, slice_index_or, slice_set, spell, subst, sym, with_items_is, with_seen, ℕ, ◌*◌, ◌+◌, ◌-◌, ◌/◌, ◌∙◌, ◌≡◌, ◌≤◌}
 use Rattle.std.specs.Vec.{with_items}
 use Rattle.std.specs.Prelude.{Vec}
 use Rattle.uni_small.proofs.Going.{writes_own, writes_direct, writes_stage, writes_of, writes_buffers}
 use Rattle.uni_small.proofs.Ending.{bring_own_fails, bring_own_hits, buffers_tried}
+use Rattle.uni_small.proofs.Lists.{due-set}
 use Rattle.uni_small.proofs.log.SmallShared.bring_own.Goals as goal
 
 pub fill-requires-clause-stage : goal.fill-requires-clause-stage
@@ -26,6 +27,27 @@ fill-requires-clause-stage g c =
       (λ i below. (λ k. slice_index (spell (with_seen object image 0 (all_is k))) i)
           ∙ ap (slice_index (spell (with_seen object image 0 (slice_set seen c.args.seat.now.me.0.known.first (Some c.args.invocation.now))))) (let e : i ≡ 0 + i = omega arith in e)),
     )
+
+pub fill-requires-clause-room : goal.fill-requires-clause-room
+fill-requires-clause-room g c =
+    let was = c.requires.room in
+    let room = c.args.room.now in
+    let items = with_items_is room.seen c.see_own.new.seen (c.see_own.auto.seen ∙ c.deref_mut.ensures.len) in
+    let seen : map seen_in (with_items room.seen c.see_own.new.seen).items ≡ slice_set (all_seen room) c.args.p (Some c.args.invocation.now)
+    = ap (map seen_in) items ∙ c.see_own.ensures.seen ∙ (λ i. slice_set (map seen_in (c.deref_mut.ensures.value i)) c.args.p (Some c.args.invocation.now)) in
+    record {
+      applied = was.applied;
+      reply = was.reply;
+      state = was.state;
+      seen = ap (λ (xs : List Seen). length xs) items ∙ c.see_own.auto.seen ∙ ap (λ (xs : List Seen). length xs) c.deref_mut.ensures.value ∙ was.seen;
+      invocations = subst (All (HasInvocation c.args.self.now.setup.sizes)) (sym items) c.see_own.ensures.room;
+      saved = was.saved;
+      ordered = c.with-room.ensures.ordered;
+      busy = c.with-room.ensures.last c.args.self.now.setup.sizes.processes was.busy c.requires.inside;
+      quiet = λ q beside.
+          let both = c.with-room.ensures.beside q beside in
+          ap (λ xs. due_at xs q) seen ∙ due-set (all_seen room) c.args.p q (Some c.args.invocation.now) both.1 ∙ was.quiet q both.0;
+    }
 
 pub bring_in_own-found-requires-clause-of : goal.bring_in_own-found-requires-clause-of
 bring_in_own-found-requires-clause-of g c =
@@ -156,4 +178,4 @@ returns-clause-own g c =
     buffers_tried sizes (buffer_words sizes + 1) c.args.invocation.now (Some new) own2 c.args.seat.now.me me2 ends (omega arith) (c.fill.ensures.long ∙ c.requires.own.long)
 
 pub returns-clause-kept : goal.returns-clause-kept
-returns-clause-kept g c = record { copy = c.fill.ensures.kept.copy; apart = c.fill.ensures.kept.apart }
+returns-clause-kept g c = record { copy = c.fill.ensures.kept.copy; applied = c.fill.ensures.kept.applied; reply = c.fill.ensures.kept.reply; state = c.fill.ensures.kept.state }

@@ -1,10 +1,11 @@
-use Rattle.uni_small.proofs.Vocabulary.{HasRoom, Image, List, Room, all_seen, ap, arith, buffer_words, held_place, image_in, image_of_rows, length, map, refl, seen_in, slice_index, spell, state_held, state_place, subst, sym, with_items_is, with_seen, words_held, ℕ, ◌*◌, ◌+◌, ◌-◌, ◌∙◌, ◌≡◌}
+use Rattle.uni_small.proofs.Vocabulary.{Buffers, HasAlready, HasRoom, Image, List, Room, Sizes, all_seen, ap, arith, buffer_words, held_place, image_in, image_of_rows, length, map, seen_in, slice_index, spell, subst, sym, with_items_is, with_seen, words_held, ℕ, ◌*◌, ◌+◌, ◌<◌, ◌∙◌, ◌≡◌}
 use Rattle.std.specs.Vec.{with_items}
-use Rattle.uni_small.specs.Touched.{IsUntouched}
+use Rattle.uni_small.specs.Touched.{IsUntouched, everything}
 use Rattle.uni_small.specs.declared.touched.Touched.{Touched}
-use Rattle.uni_small.proofs.Images.{spell-length}
-use Rattle.uni_small.proofs.Kept.{copied_state, first_and_second, one_and_other, other_stays, written_there, written_words}
-use Rattle.uni_small.proofs.Rooms.{room_rows, room_state}
+use Rattle.uni_small.specs.declared.touched.TouchedRows.{TouchedRows}
+use Rattle.uni_small.proofs.Images.{spell-applied, spell-length}
+use Rattle.uni_small.proofs.Kept.{applied_never, nothing_untouched, reply_never, row_alike, row_already, state_never, written_there, written_words}
+use Rattle.uni_small.proofs.Rooms.{room_reply, room_rows, room_state}
 use Rattle.uni_small.proofs.Rows.{with_row-length}
 use Rattle.uni_small.proofs.log.SmallShared.fill.Goals.{else-is_from_other, then-is_from_other}
 use Rattle.uni_small.proofs.log.SmallShared.fill.Goals as goal
@@ -12,27 +13,74 @@ use Rattle.uni_small.proofs.log.SmallShared.fill.Goals as goal
 abbrev size : List ℕ → ℕ
 size words = length words
 
-pub write-requires-clause-alike : goal.write-requires-clause-alike
-write-requires-clause-alike g c =
+-- the first row of a room is that of its image
+applied_is : (sizes : Sizes) (room : Room) → HasRoom sizes room → (i : ℕ) → i < sizes.processes → slice_index room.applied.items i ≡ slice_index (spell (image_in sizes room)) (0 + i)
+applied_is sizes room has i below =
+    sym (spell-applied sizes (image_in sizes room) (room_rows sizes room has) i below) ∙ ap (slice_index (spell (image_in sizes room))) (let e : i ≡ 0 + i = omega arith in e)
+
+-- where all words are touched, the buffer need have none of a row
+never : (sizes : Sizes) (own : Buffers) (from : ℕ) (row : List ℕ) (apart touched : Touched) → touched ≡ everything → length row < 18446744073709551616 → HasAlready sizes own from row apart touched
+never sizes own from row apart touched all long i within outside untouched = absurd (nothing_untouched touched all i (omega arith) untouched)
+
+pub write-requires-clause-applied : goal.write-requires-clause-applied
+write-requires-clause-applied g c =
     let sizes = c.args.self.now.setup.sizes in
-    let object = (g.O.SmallObject.meaning c.args.self.now.setup.object).object in
     let own = c.args.own.now in
     let room = c.args.room.now in
-    let new = c.apply_seen-touched.new in
-    let a = with_items_is room.applied new.applied (c.apply_seen-touched.auto.applied ∙ c.deref_mut.ensures.len) in
-    let b = with_items_is room.reply new.reply (c.apply_seen-touched.auto.reply ∙ c.deref_mut-2.ensures.len) in
-    let d = with_items_is room.state new.state (c.apply_seen-touched.auto.state ∙ c.deref_mut-3.ensures.len) in
-    let long : length c.deref_mut-3.result.now ≡ sizes.state = ap size c.deref_mut-3.ensures.value ∙ c.requires.room.state in
-    λ i inside apart touched. elim c.if-is_from_other.branch [
+    let new = c.apply_seen-state.new.applied in
+    let is = with_items_is room.applied new (c.apply_seen-state.auto.applied ∙ c.deref_mut.ensures.len) in
+    let old : length c.deref_mut.result.now ≡ sizes.processes = ap size c.deref_mut.ensures.value ∙ c.requires.room.applied in
+    let long : length new ≡ sizes.processes = c.apply_seen-state.auto.applied ∙ old in
+    let touched = c.if-is_from_other.touched.applied in
+    subst (λ row. HasAlready sizes own 0 row own.apart.applied touched) (sym is)
+    (elim c.if-is_from_other.branch [
       | then-is_from_other w ↦
-          let of : room.of ≡ 1 - own.spare = w.if-is_from_other.true in
-          let same : slice_index new.state i ≡ slice_index c.deref_mut-3.result.now i
-          = c.apply_seen-touched.ensures.touched i (omega arith) (subst (λ t. IsUntouched t i) w.touched-is touched) in
-          one_and_other (λ which. state_held sizes own which i) own.spare room.of c.requires.own.which of (c.requires.kept.apart i inside apart)
-          ∙ copied_state sizes own.held.items room c.requires.room room.of (c.requires.kept.copy (omega arith)) i inside
-          ∙ ap (λ (xs : List ℕ). slice_index xs i) (sym c.deref_mut-3.ensures.value) ∙ sym same ∙ ap (λ (xs : List ℕ). slice_index xs i) (sym d)
-      | else-is_from_other w ↦ (let all = ap (λ (t : Touched). t.head) w.touched-is in let h = touched.0 in let l = c.deref_mut-3.type_inv.0 in absurd (omega arith))
-    ]
+          row_already sizes own room c.requires.own.which w.if-is_from_other.true (c.requires.kept.copy (let o = w.if-is_from_other.true in omega arith)) 0 sizes.processes (omega arith) room.applied.items new touched
+          (applied_is sizes room c.requires.room)
+          (λ i below untouched. c.apply_seen-state.ensures.applied i (subst (λ (t : TouchedRows). IsUntouched t.applied i) (w.touched-is ∙ w.touched_rows-touched.ensures) untouched).1 ∙ ap (λ (xs : List ℕ). slice_index xs i) c.deref_mut.ensures.value)
+          own.apart.applied c.requires.kept.applied long
+      | else-is_from_other w ↦ never sizes own 0 new own.apart.applied touched (ap (λ (t : TouchedRows). t.applied) w.touched-is) (let l = c.deref_mut.type_inv.0 in omega arith)
+    ])
+
+pub write-requires-clause-reply : goal.write-requires-clause-reply
+write-requires-clause-reply g c =
+    let sizes = c.args.self.now.setup.sizes in
+    let own = c.args.own.now in
+    let room = c.args.room.now in
+    let new = c.apply_seen-state.new.reply in
+    let is = with_items_is room.reply new (c.apply_seen-state.auto.reply ∙ c.deref_mut-2.ensures.len) in
+    let old : length c.deref_mut-2.result.now ≡ (sizes.processes * sizes.reply) = ap size c.deref_mut-2.ensures.value ∙ c.requires.room.reply in
+    let long : length new ≡ (sizes.processes * sizes.reply) = c.apply_seen-state.auto.reply ∙ old in
+    let touched = c.if-is_from_other.touched.reply in
+    subst (λ row. HasAlready sizes own sizes.processes row own.apart.reply touched) (sym is)
+    (elim c.if-is_from_other.branch [
+      | then-is_from_other w ↦
+          row_already sizes own room c.requires.own.which w.if-is_from_other.true (c.requires.kept.copy (let o = w.if-is_from_other.true in omega arith)) sizes.processes (sizes.processes * sizes.reply) (omega arith) room.reply.items new touched
+          (λ i below. room_reply sizes room c.requires.room i below)
+          (λ i below untouched. c.apply_seen-state.ensures.reply i (subst (λ (t : TouchedRows). IsUntouched t.reply i) (w.touched-is ∙ w.touched_rows-touched.ensures) untouched).1 ∙ ap (λ (xs : List ℕ). slice_index xs i) c.deref_mut-2.ensures.value)
+          own.apart.reply c.requires.kept.reply long
+      | else-is_from_other w ↦ never sizes own sizes.processes new own.apart.reply touched (ap (λ (t : TouchedRows). t.reply) w.touched-is) (let l = c.deref_mut-2.type_inv.0 in omega arith)
+    ])
+
+pub write-requires-clause-state : goal.write-requires-clause-state
+write-requires-clause-state g c =
+    let sizes = c.args.self.now.setup.sizes in
+    let own = c.args.own.now in
+    let room = c.args.room.now in
+    let new = c.apply_seen-state.new.state in
+    let is = with_items_is room.state new (c.apply_seen-state.auto.state ∙ c.deref_mut-3.ensures.len) in
+    let old : length c.deref_mut-3.result.now ≡ sizes.state = ap size c.deref_mut-3.ensures.value ∙ c.requires.room.state in
+    let long : length new ≡ sizes.state = c.apply_seen-state.auto.state ∙ old in
+    let touched = c.if-is_from_other.touched.state in
+    subst (λ row. HasAlready sizes own (sizes.processes + sizes.processes * sizes.reply) row own.apart.state touched) (sym is)
+    (elim c.if-is_from_other.branch [
+      | then-is_from_other w ↦
+          row_already sizes own room c.requires.own.which w.if-is_from_other.true (c.requires.kept.copy (let o = w.if-is_from_other.true in omega arith)) (sizes.processes + sizes.processes * sizes.reply) sizes.state (omega arith) room.state.items new touched
+          (λ i below. room_state sizes room c.requires.room i)
+          (λ i below untouched. c.apply_seen-state.ensures.touched i (omega arith) (subst (λ (t : TouchedRows). IsUntouched t.state i) (w.touched-is ∙ w.touched_rows-touched.ensures) untouched) ∙ ap (λ (xs : List ℕ). slice_index xs i) c.deref_mut-3.ensures.value)
+          own.apart.state c.requires.kept.state long
+      | else-is_from_other w ↦ never sizes own (sizes.processes + sizes.processes * sizes.reply) new own.apart.state touched (ap (λ (t : TouchedRows). t.state) w.touched-is) (let l = c.deref_mut-3.type_inv.0 in omega arith)
+    ])
 
 pub returns-clause-long : goal.returns-clause-long
 returns-clause-long g c =
@@ -40,18 +88,21 @@ returns-clause-long g c =
     let object = (g.O.SmallObject.meaning c.args.self.now.setup.object).object in
     let own = c.args.own.now in
     let room = c.args.room.now in
-    let new = c.apply_seen-touched.new in
-    let a = with_items_is room.applied new.applied (c.apply_seen-touched.auto.applied ∙ c.deref_mut.ensures.len) in
-    let b = with_items_is room.reply new.reply (c.apply_seen-touched.auto.reply ∙ c.deref_mut-2.ensures.len) in
-    let d = with_items_is room.state new.state (c.apply_seen-touched.auto.state ∙ c.deref_mut-3.ensures.len) in
+    let new = c.apply_seen-state.new in
+    let a = with_items_is room.applied new.applied (c.apply_seen-state.auto.applied ∙ c.deref_mut.ensures.len) in
+    let b = with_items_is room.reply new.reply (c.apply_seen-state.auto.reply ∙ c.deref_mut-2.ensures.len) in
+    let d = with_items_is room.state new.state (c.apply_seen-state.auto.state ∙ c.deref_mut-3.ensures.len) in
     let room1 : Room = record room { applied = with_items room.applied new.applied; reply = with_items room.reply new.reply; state = with_items room.state new.state } in
     let has : HasRoom sizes room1 = record {
-      applied = ap size a ∙ c.apply_seen-touched.auto.applied ∙ ap size c.deref_mut.ensures.value ∙ c.requires.room.applied;
-      reply = ap size b ∙ c.apply_seen-touched.auto.reply ∙ ap size c.deref_mut-2.ensures.value ∙ c.requires.room.reply;
-      state = ap size d ∙ c.apply_seen-touched.auto.state ∙ ap size c.deref_mut-3.ensures.value ∙ c.requires.room.state;
+      applied = ap size a ∙ c.apply_seen-state.auto.applied ∙ ap size c.deref_mut.ensures.value ∙ c.requires.room.applied;
+      reply = ap size b ∙ c.apply_seen-state.auto.reply ∙ ap size c.deref_mut-2.ensures.value ∙ c.requires.room.reply;
+      state = ap size d ∙ c.apply_seen-state.auto.state ∙ ap size c.deref_mut-3.ensures.value ∙ c.requires.room.state;
       seen = c.requires.room.seen;
       invocations = c.requires.room.invocations;
       saved = c.requires.room.saved;
+      ordered = c.requires.room.ordered;
+      busy = c.requires.room.busy;
+      quiet = c.requires.room.quiet;
     } in
     let words = spell (image_in sizes room1) in
     let whole : length words ≡ buffer_words sizes = spell-length sizes (image_in sizes room1) (room_rows sizes room1 has) in
@@ -63,25 +114,28 @@ returns-clause-held g c =
     let object = (g.O.SmallObject.meaning c.args.self.now.setup.object).object in
     let own = c.args.own.now in
     let room = c.args.room.now in
-    let new = c.apply_seen-touched.new in
-    let a = with_items_is room.applied new.applied (c.apply_seen-touched.auto.applied ∙ c.deref_mut.ensures.len) in
-    let b = with_items_is room.reply new.reply (c.apply_seen-touched.auto.reply ∙ c.deref_mut-2.ensures.len) in
-    let d = with_items_is room.state new.state (c.apply_seen-touched.auto.state ∙ c.deref_mut-3.ensures.len) in
+    let new = c.apply_seen-state.new in
+    let a = with_items_is room.applied new.applied (c.apply_seen-state.auto.applied ∙ c.deref_mut.ensures.len) in
+    let b = with_items_is room.reply new.reply (c.apply_seen-state.auto.reply ∙ c.deref_mut-2.ensures.len) in
+    let d = with_items_is room.state new.state (c.apply_seen-state.auto.state ∙ c.deref_mut-3.ensures.len) in
     let room1 : Room = record room { applied = with_items room.applied new.applied; reply = with_items room.reply new.reply; state = with_items room.state new.state } in
     let has : HasRoom sizes room1 = record {
-      applied = ap size a ∙ c.apply_seen-touched.auto.applied ∙ ap size c.deref_mut.ensures.value ∙ c.requires.room.applied;
-      reply = ap size b ∙ c.apply_seen-touched.auto.reply ∙ ap size c.deref_mut-2.ensures.value ∙ c.requires.room.reply;
-      state = ap size d ∙ c.apply_seen-touched.auto.state ∙ ap size c.deref_mut-3.ensures.value ∙ c.requires.room.state;
+      applied = ap size a ∙ c.apply_seen-state.auto.applied ∙ ap size c.deref_mut.ensures.value ∙ c.requires.room.applied;
+      reply = ap size b ∙ c.apply_seen-state.auto.reply ∙ ap size c.deref_mut-2.ensures.value ∙ c.requires.room.reply;
+      state = ap size d ∙ c.apply_seen-state.auto.state ∙ ap size c.deref_mut-3.ensures.value ∙ c.requires.room.state;
       seen = c.requires.room.seen;
       invocations = c.requires.room.invocations;
       saved = c.requires.room.saved;
+      ordered = c.requires.room.ordered;
+      busy = c.requires.room.busy;
+      quiet = c.requires.room.quiet;
     } in
     let words = spell (image_in sizes room1) in
     let whole : length words ≡ buffer_words sizes = spell-length sizes (image_in sizes room1) (room_rows sizes room1 has) in
     let before : image_of_rows sizes c.deref_mut.result.now c.deref_mut-2.result.now c.deref_mut-3.result.now ≡ image_in sizes room
     = (λ i. image_of_rows sizes (c.deref_mut.ensures.value i) (c.deref_mut-2.ensures.value i) (c.deref_mut-3.ensures.value i)) in
     let same : image_in sizes room1 ≡ with_seen object (image_in sizes room) 0 (all_seen room)
-    = (λ i. image_of_rows sizes (a i) (b i) (d i)) ∙ c.apply_seen-touched.ensures.image ∙ (λ i. with_seen object (before i) 0 (map seen_in (c.deref.ensures.value i))) in
+    = (λ i. image_of_rows sizes (a i) (b i) (d i)) ∙ c.apply_seen-state.ensures.image ∙ (λ i. with_seen object (before i) 0 (map seen_in (c.deref.ensures.value i))) in
     λ i below.
     ap (λ (xs : List ℕ). slice_index xs (held_place sizes own.spare i)) c.write.ensures.written
     ∙ written_there sizes own.held.items words own.spare c.requires.own.which c.requires.own.long whole i below
@@ -93,45 +147,52 @@ returns-clause-kept g c =
     let object = (g.O.SmallObject.meaning c.args.self.now.setup.object).object in
     let own = c.args.own.now in
     let room = c.args.room.now in
-    let new = c.apply_seen-touched.new in
-    let a = with_items_is room.applied new.applied (c.apply_seen-touched.auto.applied ∙ c.deref_mut.ensures.len) in
-    let b = with_items_is room.reply new.reply (c.apply_seen-touched.auto.reply ∙ c.deref_mut-2.ensures.len) in
-    let d = with_items_is room.state new.state (c.apply_seen-touched.auto.state ∙ c.deref_mut-3.ensures.len) in
+    let new = c.apply_seen-state.new in
+    let a = with_items_is room.applied new.applied (c.apply_seen-state.auto.applied ∙ c.deref_mut.ensures.len) in
+    let b = with_items_is room.reply new.reply (c.apply_seen-state.auto.reply ∙ c.deref_mut-2.ensures.len) in
+    let d = with_items_is room.state new.state (c.apply_seen-state.auto.state ∙ c.deref_mut-3.ensures.len) in
     let room1 : Room = record room { applied = with_items room.applied new.applied; reply = with_items room.reply new.reply; state = with_items room.state new.state } in
     let has : HasRoom sizes room1 = record {
-      applied = ap size a ∙ c.apply_seen-touched.auto.applied ∙ ap size c.deref_mut.ensures.value ∙ c.requires.room.applied;
-      reply = ap size b ∙ c.apply_seen-touched.auto.reply ∙ ap size c.deref_mut-2.ensures.value ∙ c.requires.room.reply;
-      state = ap size d ∙ c.apply_seen-touched.auto.state ∙ ap size c.deref_mut-3.ensures.value ∙ c.requires.room.state;
+      applied = ap size a ∙ c.apply_seen-state.auto.applied ∙ ap size c.deref_mut.ensures.value ∙ c.requires.room.applied;
+      reply = ap size b ∙ c.apply_seen-state.auto.reply ∙ ap size c.deref_mut-2.ensures.value ∙ c.requires.room.reply;
+      state = ap size d ∙ c.apply_seen-state.auto.state ∙ ap size c.deref_mut-3.ensures.value ∙ c.requires.room.state;
       seen = c.requires.room.seen;
       invocations = c.requires.room.invocations;
       saved = c.requires.room.saved;
+      ordered = c.requires.room.ordered;
+      busy = c.requires.room.busy;
+      quiet = c.requires.room.quiet;
     } in
     let words = spell (image_in sizes room1) in
     let whole : length words ≡ buffer_words sizes = spell-length sizes (image_in sizes room1) (room_rows sizes room1 has) in
-    let long : length c.deref_mut-3.result.now ≡ sizes.state = ap size c.deref_mut-3.ensures.value ∙ c.requires.room.state in
-    let spare = c.write.ensures.spare in
-    let other = 1 - own.spare in
-    let held1 = c.write.new.own.held.items in
+    let touched = c.if-is_from_other.touched in
+    let own1 : Buffers = record c.write.new.own { apart = touched } in
     record {
       copy = λ few.
           written_words sizes own.held.items words own.spare c.requires.own.which c.requires.own.long whole
-          ∙ (λ k. words_held sizes (sym c.write.ensures.written k) (sym spare k));
-      apart = λ i inside touched. elim c.if-is_from_other.branch [
+          ∙ (λ k. words_held sizes (sym c.write.ensures.written k) (sym c.write.ensures.spare k));
+      applied = elim c.if-is_from_other.branch [
         | then-is_from_other w ↦
-            let of : room.of ≡ other = w.if-is_from_other.true in
-            let same : slice_index new.state i ≡ slice_index c.deref_mut-3.result.now i
-            = c.apply_seen-touched.ensures.touched i (omega arith) (subst (λ t. IsUntouched t i) w.touched-is touched) in
-            let one : slice_index held1 (held_place sizes own.spare (state_place sizes i)) ≡ slice_index room.state.items i
-            = ap (λ (xs : List ℕ). slice_index xs (held_place sizes own.spare (state_place sizes i))) c.write.ensures.written
-            ∙ written_there sizes own.held.items words own.spare c.requires.own.which c.requires.own.long whole (state_place sizes i) (omega arith)
-            ∙ ap (slice_index words) (let e : state_place sizes i ≡ sizes.processes + sizes.processes * sizes.reply + i = omega arith in e)
-            ∙ sym (room_state sizes room1 has i) ∙ ap (λ (xs : List ℕ). slice_index xs i) d ∙ same ∙ ap (λ (xs : List ℕ). slice_index xs i) c.deref_mut-3.ensures.value in
-            let two : slice_index held1 (held_place sizes other (state_place sizes i)) ≡ slice_index room.state.items i
-            = ap (λ (xs : List ℕ). slice_index xs (held_place sizes other (state_place sizes i))) c.write.ensures.written
-            ∙ other_stays sizes own.held.items words own.spare c.requires.own.which c.requires.own.long whole other (state_place sizes i) refl (omega arith)
-            ∙ (λ k. slice_index own.held.items (held_place sizes (sym of k) (state_place sizes i)))
-            ∙ copied_state sizes own.held.items room c.requires.room room.of (c.requires.kept.copy (omega arith)) i inside in
-            first_and_second (λ which. slice_index held1 (held_place sizes which (state_place sizes i))) own.spare other c.requires.own.which refl (one ∙ sym two)
-        | else-is_from_other w ↦ (let all = ap (λ (t : Touched). t.head) w.touched-is in let h = touched.0 in let l = c.deref_mut-3.type_inv.0 in absurd (omega arith))
+            row_alike sizes own room c.requires.own.which w.if-is_from_other.true (c.requires.kept.copy (let o = w.if-is_from_other.true in omega arith)) 0 sizes.processes (omega arith) room.applied.items new.applied touched.applied
+            (applied_is sizes room c.requires.room)
+            (λ i below untouched. c.apply_seen-state.ensures.applied i (subst (λ (t : TouchedRows). IsUntouched t.applied i) (w.touched-is ∙ w.touched_rows-touched.ensures) untouched).1 ∙ ap (λ (xs : List ℕ). slice_index xs i) c.deref_mut.ensures.value)
+            c.write.new.own words c.requires.own.long whole c.write.ensures.written (λ i below. sym (applied_is sizes room1 has i below) ∙ ap (λ (xs : List ℕ). slice_index xs i) a)
+        | else-is_from_other w ↦ applied_never sizes c.args.self.now.few own1 w.touched-is
+      ];
+      reply = elim c.if-is_from_other.branch [
+        | then-is_from_other w ↦
+            row_alike sizes own room c.requires.own.which w.if-is_from_other.true (c.requires.kept.copy (let o = w.if-is_from_other.true in omega arith)) sizes.processes (sizes.processes * sizes.reply) (omega arith) room.reply.items new.reply touched.reply
+            (λ i below. room_reply sizes room c.requires.room i below)
+            (λ i below untouched. c.apply_seen-state.ensures.reply i (subst (λ (t : TouchedRows). IsUntouched t.reply i) (w.touched-is ∙ w.touched_rows-touched.ensures) untouched).1 ∙ ap (λ (xs : List ℕ). slice_index xs i) c.deref_mut-2.ensures.value)
+            c.write.new.own words c.requires.own.long whole c.write.ensures.written (λ i below. sym (room_reply sizes room1 has i below) ∙ ap (λ (xs : List ℕ). slice_index xs i) b)
+        | else-is_from_other w ↦ reply_never sizes c.args.self.now.few own1 w.touched-is
+      ];
+      state = elim c.if-is_from_other.branch [
+        | then-is_from_other w ↦
+            row_alike sizes own room c.requires.own.which w.if-is_from_other.true (c.requires.kept.copy (let o = w.if-is_from_other.true in omega arith)) (sizes.processes + sizes.processes * sizes.reply) sizes.state (omega arith) room.state.items new.state touched.state
+            (λ i below. room_state sizes room c.requires.room i)
+            (λ i below untouched. c.apply_seen-state.ensures.touched i (let l = ap size c.deref_mut-3.ensures.value in let h = c.requires.room.state in omega arith) (subst (λ (t : TouchedRows). IsUntouched t.state i) (w.touched-is ∙ w.touched_rows-touched.ensures) untouched) ∙ ap (λ (xs : List ℕ). slice_index xs i) c.deref_mut-3.ensures.value)
+            c.write.new.own words c.requires.own.long whole c.write.ensures.written (λ i below. sym (room_state sizes room1 has i) ∙ ap (λ (xs : List ℕ). slice_index xs i) d)
+        | else-is_from_other w ↦ state_never sizes c.args.self.now.few own1 w.touched-is
       ];
     }

@@ -1,4 +1,4 @@
-use Rattle.uni_small.proofs.Vocabulary.{All, GoesWithin, HasInvocation, List, Reading, [], map, seen_in, stage_of, take, ℕ, ◌*◌, ◌+◌, ◌≡◌}
+use Rattle.uni_small.proofs.Vocabulary.{All, GoesWithin, HasInvocation, IsQuietBeside, List, Reading, [], map, seen_in, stage_of, take, ℕ, ◌*◌, ◌+◌, ◌≡◌, ◌≤◌}
 use Rattle.uni_small.proofs.log.SmallShared.scan.Given as goal
 
 abbrev pub invariant-loop-r : goal.invariant-loop-r
@@ -7,3 +7,4 @@ invariant-loop-r g l =
     × ((copy : List ℕ) → stage_of l.fn.seat.me ≡ Reading l.tries l.s copy []
     → GoesWithin l.fn.seat.me (l.r + l.r * l.fn.self.setup.sizes.invocation) (Reading l.tries l.s copy (map seen_in (take l.r l.seen))) l.seat.me)
     × All (HasInvocation l.fn.self.setup.sizes) l.seen
+    × (l.busy.from ≤ l.busy.to) × (l.busy.to ≤ l.r) × IsQuietBeside l.busy (map seen_in (take l.r l.seen))

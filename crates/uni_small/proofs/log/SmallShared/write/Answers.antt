@@ -1,8 +1,9 @@
-use Rattle.uni_small.proofs.Vocabulary.{state_place, AreBuffers, Buffers, HasComeTo, HasRoom, Image, Me, Option, Seen, Sequential, View, WritesWithin, local_of, subst, ◌≤◌, List, Room, Sizes, ap, arith, buffer_words, held_place, image_in, length, refl, slice_index, spell, sym, with_row, with_seen, ℕ, ◌*◌, ◌++◌, ◌+◌, ◌<◌, ◌∙◌, ◌≡◌}
+use Rattle.uni_small.proofs.Vocabulary.{AreBuffers, Buffers, HasAlready, HasComeTo, HasRoom, Image, Me, Option, Seen, Sequential, View, WritesWithin, local_of, subst, ◌≤◌, List, Room, Sizes, ap, arith, buffer_words, held_place, image_in, length, refl, slice_index, spell, sym, with_row, with_seen, ℕ, ◌*◌, ◌++◌, ◌+◌, ◌<◌, ◌∙◌, ◌≡◌}
 use Rattle.uni_small.proofs.Going.{writes_buffers, writes_come, writes_more, writes_of, writes_stage}
 use Rattle.uni_small.proofs.Images.{spell-applied, spell-length}
 use Rattle.uni_small.proofs.Rooms.{room_reply, room_rows, room_spelled, room_state}
-use Rattle.uni_small.proofs.Rows.{with_row-after, with_row-length, with_rows}
+use Rattle.uni_small.proofs.Kept.{already_later}
+use Rattle.uni_small.proofs.Rows.{with_row-length, with_rows}
 use Rattle.uni_small.proofs.Words.{held_room}
 use Rattle.uni_small.proofs.log.SmallShared.write.Goals as goal
 
@@ -163,30 +164,33 @@ returns-clause-goes g c =
     (subst (λ k. WritesWithin c.write_row-2.new.seat.me k (length d) c.write_row-3.new.own.held.items c.write_row-3.new.seat.me) at_third c.write_row-3.ensures.goes) in
     (all.0, (let few = all.1 in omega arith), all.2, (let to = all.3 in omega arith), all.4)
 
+pub write_row-requires-clause-alike : goal.write_row-requires-clause-alike
+write_row-requires-clause-alike g c =
+    subst (λ row. HasAlready c.args.self.now.setup.sizes c.args.own.now 0 row c.args.own.now.apart.applied c.args.touched.applied) (sym c.deref.ensures.value) c.requires.applied
+
+pub write_row-requires-2-clause-alike : goal.write_row-requires-2-clause-alike
+write_row-requires-2-clause-alike g c =
+    let sizes = c.args.self.now.setup.sizes in
+    let own = c.args.own.now in
+    let a = c.deref.result.now in
+    let la : length a ≡ sizes.processes = ap (λ (xs : List ℕ). length xs) c.deref.ensures.value ∙ c.requires.room.applied in
+    already_later sizes own c.write_row.new.own 0 a c.write_row.ensures.spare c.write_row.ensures.held sizes.processes c.deref-2.result.now own.apart.reply c.args.touched.reply (omega arith)
+    (subst (λ row. HasAlready sizes own sizes.processes row own.apart.reply c.args.touched.reply) (sym c.deref-2.ensures.value) c.requires.reply)
+
 pub write_row-requires-3-clause-alike : goal.write_row-requires-3-clause-alike
 write_row-requires-3-clause-alike g c =
     let sizes = c.args.self.now.setup.sizes in
     let own = c.args.own.now in
-    let room = c.args.room.now in
-    let w = buffer_words sizes in
+    let own1 = c.write_row.new.own in
     let a = c.deref.result.now in
     let b = c.deref-2.result.now in
+    let d = c.deref-3.result.now in
+    let at = sizes.processes + sizes.processes * sizes.reply in
     let la : length a ≡ sizes.processes = ap (λ (xs : List ℕ). length xs) c.deref.ensures.value ∙ c.requires.room.applied in
     let lb : length b ≡ sizes.processes * sizes.reply = ap (λ (xs : List ℕ). length xs) c.deref-2.ensures.value ∙ c.requires.room.reply in
-    let same1 : c.write_row.new.own.spare ≡ own.spare = c.write_row.ensures.spare in
-    let same2 : c.write_row-2.new.own.spare ≡ own.spare = c.write_row-2.ensures.spare ∙ same1 in
-    λ i within apart touched.
-    let inside : i < sizes.state = (let e : length c.deref-3.result.now ≡ length room.state.items = ap (λ (xs : List ℕ). length xs) c.deref-3.ensures.value in let r = c.requires.room.state in omega arith) in
-    let place = held_place sizes own.spare (state_place sizes i) in
-    let here : held_place sizes c.write_row-2.new.own.spare (sizes.processes + sizes.processes * sizes.reply + i) ≡ place
-    = ap (λ k. k * w + (sizes.processes + sizes.processes * sizes.reply + i)) same2 ∙ (let e : own.spare * w + (sizes.processes + sizes.processes * sizes.reply + i) ≡ place = omega arith in e) in
-    let second : held_place sizes c.write_row.new.own.spare sizes.processes ≡ own.spare * w + sizes.processes = ap (λ k. k * w + sizes.processes) same1 in
-    (λ k. slice_index (c.write_row-2.ensures.held k) (here k))
-    ∙ with_row-after c.write_row.new.own.held.items (held_place sizes c.write_row.new.own.spare sizes.processes) b place (omega (arith, second, lb))
-    ∙ ap (λ (xs : List ℕ). slice_index xs place) c.write_row.ensures.held
-    ∙ with_row-after own.held.items (held_place sizes own.spare 0) a place (omega (arith, la))
-    ∙ c.requires.alike i inside apart touched
-    ∙ ap (λ (xs : List ℕ). slice_index xs i) (sym c.deref-3.ensures.value)
+    already_later sizes own1 c.write_row-2.new.own sizes.processes b c.write_row-2.ensures.spare c.write_row-2.ensures.held at d own.apart.state c.args.touched.state (omega arith)
+    (already_later sizes own own1 0 a c.write_row.ensures.spare c.write_row.ensures.held at d own.apart.state c.args.touched.state (omega arith)
+    (subst (λ row. HasAlready sizes own at row own.apart.state c.args.touched.state) (sym c.deref-3.ensures.value) c.requires.state))
 
 pub returns-clause-written : goal.returns-clause-written
 returns-clause-written g c =
