@@ -146,3 +146,10 @@ due-elsewhere (None ∷ seen) o zero apart = refl
 due-elsewhere (Some i ∷ seen) o zero apart = refl
 due-elsewhere (None ∷ seen) o (suc j) apart = due-elsewhere seen o j (λ same. apart (ap suc same))
 due-elsewhere (Some i ∷ seen) o (suc j) apart = due-elsewhere seen o j (λ same. apart (ap suc same))
+
+-- and nothing more where it is forgotten
+pub due-cleared : (seen : List (Option (List ℕ))) (p : ℕ) → due_at (slice_set seen p None) p ≡ 0
+due-cleared [] p = refl
+due-cleared (x ∷ seen) zero = refl
+due-cleared (None ∷ seen) (suc p) = due-cleared seen p
+due-cleared (Some j ∷ seen) (suc p) = due-cleared seen p

@@ -1,5 +1,6 @@
 -- A room's image, and what it has of the processes that were seen.
-use Rattle.uni_small.proofs.Vocabulary.{All, AreWhole, Bool, HasInvocation, HasRoom, HasRows, List, None, Room, Seen, Sequential, Sizes, Some, [], ap, arith, false, get_or-append-add, get_or_append_left, if◌then◌else◌, image_in, image_of_rows, length, map, put_mid, refl, rows, seen_in, set, slice_index, slice_set, spell, subst, suc, sym, take, take-length, true, with_seen, zero, ℕ, ◌*◌, ◌++◌, ◌+◌, ◌<◌, ◌∙◌, ◌∷◌, ◌≡◌}
+use Rattle.uni_small.proofs.Vocabulary.{All, AreWhole, Bool, HasInvocation, HasRoom, HasRows, List, None, Option, Room, Seen, Sequential, Sizes, Some, [], ap, arith, due_at, false, get_or-append-add, get_or_append_left, if◌then◌else◌, image_in, image_of_rows, length, map, put_mid, refl, rows, seen_in, set, slice_index, slice_index_or, slice_set, spell, subst, suc, sym, take, take-length, true, with_seen, zero, ℕ, ◌*◌, ◌++◌, ◌+◌, ◌<◌, ◌∙◌, ◌∷◌, ◌≡◌}
+use Rattle.uni_small.proofs.Lists.{due-later}
 use Rattle.uni_small.proofs.Rows.{joined-rows, rows-even, rows-length, rows-set}
 
 module _ (sizes : Sizes) (room : Room) (has : HasRoom sizes room) where
@@ -71,3 +72,13 @@ pub map_set : {A B : Type 0} (f : A → B) (xs : List A) (p : ℕ) (x : A) → m
 map_set f [] p x = refl
 map_set f (y ∷ xs) zero x = refl
 map_set f (y ∷ xs) (suc p) x = ap (λ l. f y ∷ l) (map_set f xs p x)
+
+due_of_first : (due : Bool) (words : List ℕ) (seen : List (Option (List ℕ))) → due_at ((if due then Some words else None) ∷ seen) 0 ≡ 0 → due ≡ false
+due_of_first true words seen none = absurd (let z : 1 ≡ 0 = none in omega arith)
+due_of_first false words seen none = refl
+
+-- of whom nothing to apply was seen, nothing is due
+pub none_due : (seen : List Seen) (r : ℕ) (x : Seen) → r < length seen → due_at (map seen_in seen) r ≡ 0 → (slice_index_or seen r x).due ≡ false
+none_due [] r x below none = absurd (omega arith)
+none_due (y ∷ seen) zero x below none = due_of_first y.due y.invocation.items (map seen_in seen) none
+none_due (y ∷ seen) (suc r) x below none = none_due seen r x (omega arith) (sym (due-later (seen_in y) (map seen_in seen) r) ∙ none)

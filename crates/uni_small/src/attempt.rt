@@ -1,8 +1,9 @@
 //! An attempt at a call: copy the current buffer, apply what was announced, and bring the copy in.
 ghost use Rattle.std.specs.Prelude.{ℕ, ◌*◌, ◌+◌, ◌++◌, ◌<◌, ◌≡◌, ◌≢◌, ◌≤◌, ◌⊎◌};
-ghost use Rattle.std.specs.Prelude.{All, List, Option, Some, [], ◌∷◌, length, map, slice_index};
+ghost use Rattle.std.specs.Prelude.{All, List, Option, Some, [], ◌∷◌, false, length, map, slice_index};
 ghost use Rattle.std.specs.Prelude.{slice_index_or, slice_set};
-ghost use Rattle.uni_small.specs.Image.{AreWidths, IsReached, buffer_words, held_place, spell, with_row, with_seen};
+ghost use Rattle.uni_small.specs.Image.{AreWidths, IsReached, buffer_words, due_at, held_place, spell, with_row};
+ghost use Rattle.uni_small.specs.Image.{with_seen};
 ghost use Rattle.uni_small.specs.View.Stage.{Idle, Ready, Reading, Writing};
 ghost use Rattle.uni_small.specs.Board.{buffer_in};
 ghost use Rattle.uni_small.specs.Invariant.{most_calls};
@@ -12,7 +13,7 @@ ghost use Rattle.uni_small.specs.Standing.{EndsWithin, HasCopy, HasRow, IsAnnoun
 ghost use Rattle.uni_small.specs.Standing.{WritesWithin, attempt_steps, local_of};
 ghost use Rattle.uni_small.specs.Belongs.{AreBuffers, HasAlready, HasInvocation, HasRoom};
 ghost use Rattle.uni_small.specs.Belongs.{IsBeside, IsKept, IsQuietBeside};
-ghost use Rattle.uni_small.specs.Touched.{AreAlikeBeside};
+ghost use Rattle.uni_small.specs.Touched.{AreAlikeBeside, IsUntouched};
 ghost use Rattle.uni_small.specs.declared.seat.Seen.{Seen};
 ghost use Rattle.uni_small.specs.Belongs.{all_seen, image_in, image_of_rows, seen_in};
 
@@ -95,6 +96,7 @@ impl<O: SmallObject> SmallShared<O> {
         requires known { (copy : List ℕ) (seen : List (Option (List ℕ)))
             → stage_of seat.old.me ≡ Reading tries s copy seen → slice_index copy r ≡ known }
         requires room { HasInvocation self.now.setup.sizes seen.old }
+        requires none { seen.old.due ≡ false }
         ensures same { (seat.new.table_id ≡ seat.old.table_id) × (seat.new.id ≡ seat.old.id) }
         ensures goes { (copy : List ℕ) (before : List (Option (List ℕ)))
             → stage_of seat.old.me ≡ Reading tries s copy before
@@ -104,12 +106,25 @@ impl<O: SmallObject> SmallShared<O> {
         ensures due { seen.new.due ≡ result }
     {
         let announced = self.look(seat, p, tries, s, r);
-        let due = announced > known;
-        seen.due = due;
-        if due {
-            self.ask_all(seat, p, tries, s, r, &mut seen.invocation);
+        if announced <= known {
+            return false;
         }
-        due
+        seen.due = true;
+        self.ask_all(seat, p, tries, s, r, &mut seen.invocation);
+        true
+    }
+
+    /// Forgets what was seen of these processes.
+    fn forget(&self, seen: &mut [Seen], busy: Span)
+        requires busy { (busy.from ≤ busy.to) × (busy.to ≤ length seen.old) }
+        requires quiet { IsQuietBeside busy (map seen_in seen.old) }
+        requires room { All (HasInvocation self.now.setup.sizes) seen.old }
+        ensures none { (q : ℕ) → due_at (map seen_in seen.new) q ≡ 0 }
+        ensures room { All (HasInvocation self.now.setup.sizes) seen.new }
+    {
+        for r in busy.from as usize..busy.to as usize {
+            seen[r].due = false;
+        }
     }
 
     /// Looks at all processes: a call that isn't in the copy is seen. The answer are processes beside which nobody has
@@ -130,6 +145,7 @@ impl<O: SmallObject> SmallShared<O> {
         requires of { IsOf self.now.setup.object self.now.setup.sizes p seat.old.me }
         requires stage { HasCopy self.now.setup.sizes tries s applied.now seat.old.me }
         requires room { All (HasInvocation self.now.setup.sizes) seen.old }
+        requires none { (q : ℕ) → due_at (map seen_in seen.old) q ≡ 0 }
         ensures same { (seat.new.table_id ≡ seat.old.table_id) × (seat.new.id ≡ seat.old.id) }
         ensures goes { (copy : List ℕ) → stage_of seat.old.me ≡ Reading tries s copy []
             → GoesWithin seat.old.me
@@ -376,6 +392,7 @@ impl<O: SmallObject> SmallShared<O> {
         ensures kept { IsKept self.now.setup.sizes own.now room.new }
     {
         self.copy(seat, p, tries, s, own, room);
+        self.forget(&mut room.seen, room.busy);
         room.busy = self.scan(seat, p, tries, s, &room.applied, &mut room.seen);
     }
 
@@ -467,15 +484,10 @@ impl<O: SmallObject> SmallShared<O> {
     /// Which words of each row calls of these processes may change that change these words of the state.
     fn touched_rows(&self, busy: Span, state: Touched) -> TouchedRows
         requires busy { (busy.from ≤ busy.to) × (busy.to ≤ self.now.setup.sizes.processes) }
-        ensures { result ≡ record {
-          applied = record { head = 0; from = busy.from; to = busy.to };
-          reply = record {
-            head = 0;
-            from = busy.from * self.now.setup.sizes.reply;
-            to = busy.to * self.now.setup.sizes.reply;
-          };
-          state = state;
-        } }
+        ensures applied { (q : ℕ) → IsUntouched result.applied q → IsBeside busy q }
+        ensures reply { (i : ℕ) → IsUntouched result.reply i → (i < busy.from * self.now.setup.sizes.reply)
+            ⊎ (busy.to * self.now.setup.sizes.reply ≤ i) }
+        ensures state { result.state ≡ state }
     {
         let words = self.setup.sizes.reply;
         TouchedRows {

@@ -13,6 +13,9 @@ pub struct Touched {
     pub to: u64,
 }
 
+/// Up to how many words at the head are gone through rather than left out.
+const FEW: u64 = 4;
+
 /// Copies the words from the word `first` on that are before the word `end` of one state to another one.
 fn copy_between(from: &[u64], to: &mut [u64], first: u64, end: u64)
     requires { length from.now ≡ length to.old }
@@ -42,10 +45,18 @@ impl Touched {
         to: 0,
     };
 
-    /// The words from one on that are before another one.
+    /// The words from one on that are before another one, with the few before them where these are few: words at the
+    /// head are the quickest to find.
     pub(crate) fn between(from: u64, to: u64) -> Touched
-        ensures { result ≡ record { head = 0; from = from; to = to } }
+        ensures { (i : ℕ) → IsUntouched result i → (i < from) ⊎ (to ≤ i) }
     {
+        if to <= FEW {
+            return Touched {
+                head: to,
+                from: 0,
+                to: 0,
+            };
+        }
         Touched { head: 0, from, to }
     }
 

@@ -37,7 +37,7 @@ write-requires-clause-applied g c =
       | then-is_from_other w ↦
           row_already sizes own room c.requires.own.which w.if-is_from_other.true (c.requires.kept.copy (let o = w.if-is_from_other.true in omega arith)) 0 sizes.processes (omega arith) room.applied.items new touched
           (applied_is sizes room c.requires.room)
-          (λ i below untouched. c.apply_seen-state.ensures.applied i (subst (λ (t : TouchedRows). IsUntouched t.applied i) (w.touched-is ∙ w.touched_rows-touched.ensures) untouched).1 ∙ ap (λ (xs : List ℕ). slice_index xs i) c.deref_mut.ensures.value)
+          (λ i below untouched. c.apply_seen-state.ensures.applied i (w.touched_rows-touched.ensures.applied i (subst (λ (t : TouchedRows). IsUntouched t.applied i) w.touched-is untouched)) ∙ ap (λ (xs : List ℕ). slice_index xs i) c.deref_mut.ensures.value)
           own.apart.applied c.requires.kept.applied long
       | else-is_from_other w ↦ never sizes own 0 new own.apart.applied touched (ap (λ (t : TouchedRows). t.applied) w.touched-is) (let l = c.deref_mut.type_inv.0 in omega arith)
     ])
@@ -57,7 +57,7 @@ write-requires-clause-reply g c =
       | then-is_from_other w ↦
           row_already sizes own room c.requires.own.which w.if-is_from_other.true (c.requires.kept.copy (let o = w.if-is_from_other.true in omega arith)) sizes.processes (sizes.processes * sizes.reply) (omega arith) room.reply.items new touched
           (λ i below. room_reply sizes room c.requires.room i below)
-          (λ i below untouched. c.apply_seen-state.ensures.reply i (subst (λ (t : TouchedRows). IsUntouched t.reply i) (w.touched-is ∙ w.touched_rows-touched.ensures) untouched).1 ∙ ap (λ (xs : List ℕ). slice_index xs i) c.deref_mut-2.ensures.value)
+          (λ i below untouched. c.apply_seen-state.ensures.reply i (w.touched_rows-touched.ensures.reply i (subst (λ (t : TouchedRows). IsUntouched t.reply i) w.touched-is untouched)) ∙ ap (λ (xs : List ℕ). slice_index xs i) c.deref_mut-2.ensures.value)
           own.apart.reply c.requires.kept.reply long
       | else-is_from_other w ↦ never sizes own sizes.processes new own.apart.reply touched (ap (λ (t : TouchedRows). t.reply) w.touched-is) (let l = c.deref_mut-2.type_inv.0 in omega arith)
     ])
@@ -77,7 +77,7 @@ write-requires-clause-state g c =
       | then-is_from_other w ↦
           row_already sizes own room c.requires.own.which w.if-is_from_other.true (c.requires.kept.copy (let o = w.if-is_from_other.true in omega arith)) (sizes.processes + sizes.processes * sizes.reply) sizes.state (omega arith) room.state.items new touched
           (λ i below. room_state sizes room c.requires.room i)
-          (λ i below untouched. c.apply_seen-state.ensures.touched i (omega arith) (subst (λ (t : TouchedRows). IsUntouched t.state i) (w.touched-is ∙ w.touched_rows-touched.ensures) untouched) ∙ ap (λ (xs : List ℕ). slice_index xs i) c.deref_mut-3.ensures.value)
+          (λ i below untouched. c.apply_seen-state.ensures.touched i (omega arith) (subst (λ t. IsUntouched t i) (ap (λ (t : TouchedRows). t.state) w.touched-is ∙ w.touched_rows-touched.ensures.state) untouched) ∙ ap (λ (xs : List ℕ). slice_index xs i) c.deref_mut-3.ensures.value)
           own.apart.state c.requires.kept.state long
       | else-is_from_other w ↦ never sizes own (sizes.processes + sizes.processes * sizes.reply) new own.apart.state touched (ap (λ (t : TouchedRows). t.state) w.touched-is) (let l = c.deref_mut-3.type_inv.0 in omega arith)
     ])
@@ -175,7 +175,7 @@ returns-clause-kept g c =
         | then-is_from_other w ↦
             row_alike sizes own room c.requires.own.which w.if-is_from_other.true (c.requires.kept.copy (let o = w.if-is_from_other.true in omega arith)) 0 sizes.processes (omega arith) room.applied.items new.applied touched.applied
             (applied_is sizes room c.requires.room)
-            (λ i below untouched. c.apply_seen-state.ensures.applied i (subst (λ (t : TouchedRows). IsUntouched t.applied i) (w.touched-is ∙ w.touched_rows-touched.ensures) untouched).1 ∙ ap (λ (xs : List ℕ). slice_index xs i) c.deref_mut.ensures.value)
+            (λ i below untouched. c.apply_seen-state.ensures.applied i (w.touched_rows-touched.ensures.applied i (subst (λ (t : TouchedRows). IsUntouched t.applied i) w.touched-is untouched)) ∙ ap (λ (xs : List ℕ). slice_index xs i) c.deref_mut.ensures.value)
             c.write.new.own words c.requires.own.long whole c.write.ensures.written (λ i below. sym (applied_is sizes room1 has i below) ∙ ap (λ (xs : List ℕ). slice_index xs i) a)
         | else-is_from_other w ↦ applied_never sizes c.args.self.now.few own1 w.touched-is
       ];
@@ -183,7 +183,7 @@ returns-clause-kept g c =
         | then-is_from_other w ↦
             row_alike sizes own room c.requires.own.which w.if-is_from_other.true (c.requires.kept.copy (let o = w.if-is_from_other.true in omega arith)) sizes.processes (sizes.processes * sizes.reply) (omega arith) room.reply.items new.reply touched.reply
             (λ i below. room_reply sizes room c.requires.room i below)
-            (λ i below untouched. c.apply_seen-state.ensures.reply i (subst (λ (t : TouchedRows). IsUntouched t.reply i) (w.touched-is ∙ w.touched_rows-touched.ensures) untouched).1 ∙ ap (λ (xs : List ℕ). slice_index xs i) c.deref_mut-2.ensures.value)
+            (λ i below untouched. c.apply_seen-state.ensures.reply i (w.touched_rows-touched.ensures.reply i (subst (λ (t : TouchedRows). IsUntouched t.reply i) w.touched-is untouched)) ∙ ap (λ (xs : List ℕ). slice_index xs i) c.deref_mut-2.ensures.value)
             c.write.new.own words c.requires.own.long whole c.write.ensures.written (λ i below. sym (room_reply sizes room1 has i below) ∙ ap (λ (xs : List ℕ). slice_index xs i) b)
         | else-is_from_other w ↦ reply_never sizes c.args.self.now.few own1 w.touched-is
       ];
@@ -191,7 +191,7 @@ returns-clause-kept g c =
         | then-is_from_other w ↦
             row_alike sizes own room c.requires.own.which w.if-is_from_other.true (c.requires.kept.copy (let o = w.if-is_from_other.true in omega arith)) (sizes.processes + sizes.processes * sizes.reply) sizes.state (omega arith) room.state.items new.state touched.state
             (λ i below. room_state sizes room c.requires.room i)
-            (λ i below untouched. c.apply_seen-state.ensures.touched i (let l = ap size c.deref_mut-3.ensures.value in let h = c.requires.room.state in omega arith) (subst (λ (t : TouchedRows). IsUntouched t.state i) (w.touched-is ∙ w.touched_rows-touched.ensures) untouched) ∙ ap (λ (xs : List ℕ). slice_index xs i) c.deref_mut-3.ensures.value)
+            (λ i below untouched. c.apply_seen-state.ensures.touched i (let l = ap size c.deref_mut-3.ensures.value in let h = c.requires.room.state in omega arith) (subst (λ t. IsUntouched t i) (ap (λ (t : TouchedRows). t.state) w.touched-is ∙ w.touched_rows-touched.ensures.state) untouched) ∙ ap (λ (xs : List ℕ). slice_index xs i) c.deref_mut-3.ensures.value)
             c.write.new.own words c.requires.own.long whole c.write.ensures.written (λ i below. sym (room_state sizes room1 has i) ∙ ap (λ (xs : List ℕ). slice_index xs i) d)
         | else-is_from_other w ↦ state_never sizes c.args.self.now.few own1 w.touched-is
       ];

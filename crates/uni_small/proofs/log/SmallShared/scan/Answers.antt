@@ -1,6 +1,6 @@
-use Rattle.uni_small.proofs.Vocabulary.{All-set, GoesBy, HasInvocation, IsQuietBeside, List, None, Reading, Seen, [], ap, arith, due_at, get_or_append_left, length, length-map, length-take-le, map, map_push, refl, seen_in, set, slice_index, subst, suc, suc-mul, sym, take, take-length, take_more_set, ℕ, ◌*◌, ◌++◌, ◌+◌, ◌<◌, ◌∙◌, ◌∷◌, ◌≡◌, ◌≢◌}
+use Rattle.uni_small.proofs.Vocabulary.{All-set, GoesBy, HasInvocation, IsQuietBeside, List, None, Reading, Seen, [], ap, arith, due_at, get_or-set_other, get_or_append_left, length, length-map, length-set, length-take-le, map, map_push, refl, seen_in, set, slice_index, subst, suc, suc-mul, sym, take, take-length, take_more_set, ℕ, ◌*◌, ◌++◌, ◌+◌, ◌<◌, ◌∙◌, ◌∷◌, ◌≡◌, ◌≢◌}
 use Rattle.uni_small.proofs.Lists.{due-elsewhere, due-none}
-use Rattle.uni_small.proofs.Rooms.{seen_none, whole_seen}
+use Rattle.uni_small.proofs.Rooms.{none_due, seen_none, whole_seen}
 use Rattle.uni_small.specs.declared.span.Span.{Span}
 use Rattle.uni_small.proofs.Going.{goes_zero, stage_after, of_after, goes_more}
 use Rattle.uni_small.proofs.log.SmallShared.scan.Goals.{else-due, then-due}
@@ -30,6 +30,7 @@ loop-r-init g c = (
   (omega arith),
   (omega arith),
   (λ q beside. refl),
+  (λ q x from below. none_due c.args.seen.now q x below (c.requires.none q)),
 )
 
 pub see-due-requires-clause-table : goal.see-due-requires-clause-table
@@ -100,6 +101,9 @@ loop-r-preserved g c = (
         subst (λ span. IsQuietBeside span (map seen_in (take (c.loop-r.r + 1) (set c.loop-r.seen c.loop-r.r c.see-due.new.seen)))) (sym w.busy-is)
         (λ q beside. due_of_nobody c.loop-r.seen c.loop-r.r (omega arith) c.see-due.new.seen (seen_none c.see-due.new.seen (c.see-due.ensures.due ∙ w.if-due.false)) q ∙ c.loop-r.invariant.6 q beside)
   ]),
+  (λ q x from below.
+      ap (λ (y : Seen). y.due) (get_or-set_other c.loop-r.seen c.loop-r.r q c.see-due.new.seen x (λ (e : q ≡ c.loop-r.r). omega (arith, e, from)))
+      ∙ c.loop-r.invariant.7 q x (omega (arith, from)) (let l = length-set c.loop-r.seen c.loop-r.r c.see-due.new.seen in omega (arith, below, l))),
 )
 
 pub returns-clause-goes : goal.returns-clause-goes

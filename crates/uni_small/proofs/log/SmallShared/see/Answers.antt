@@ -1,4 +1,4 @@
-use Rattle.uni_small.proofs.Vocabulary.{Goes, GoesBy, List, None, Option, Reading, Seen, Some, [], ap, arith, false, inl, inr, length, looked, lt_cases, nat_lt, refl, seen_in, slice_index, subst, sym, true, with_items_is, ℕ, ◌++◌, ◌+◌, ◌<◌, ◌∙◌, ◌∷◌, ◌≡◌, ◌≤◌}
+use Rattle.uni_small.proofs.Vocabulary.{Goes, GoesBy, List, None, Option, Reading, Seen, Some, [], ap, arith, length, looked, refl, seen_in, slice_index, subst, sym, true, with_items_is, ℕ, ◌++◌, ◌+◌, ◌<◌, ◌∙◌, ◌∷◌, ◌≡◌, ◌≤◌}
 use Rattle.std.specs.Vec.{with_items}
 use Rattle.uni_small.proofs.Rooms.{seen_due, seen_none}
 use Rattle.uni_small.proofs.Going.{looked_same, looked_other, stage_after, of_after, goes_more}
@@ -15,7 +15,7 @@ ask_all-requires-clause-stage g c =
     let copy = c.requires.stage.0 in
     let seen = c.requires.stage.1.0 in
     let here : slice_index copy (length seen) ≡ c.args.known = ap (slice_index copy) c.requires.stage.1.3 ∙ c.requires.known copy seen c.requires.stage.1.1 in
-    let apart : slice_index copy (length seen) < c.look-announced.result = (let m = c.if-due.true in omega arith) in (
+    let apart : slice_index copy (length seen) < c.look-announced.result = (let m = c.if-announced-known.false in omega arith) in (
       copy,
       (
         seen,
@@ -29,8 +29,8 @@ ask_all-requires-clause-stage g c =
       ),
     )
 
-pub returns-then-due-clause-goes : goal.returns-then-due-clause-goes
-returns-then-due-clause-goes g c copy before stage =
+pub returns-clause-goes : goal.returns-clause-goes
+returns-clause-goes g c copy before stage =
     let t = c.args.tries in
     let s = c.args.s in
     let me = c.args.seat.now.me in
@@ -40,22 +40,21 @@ returns-then-due-clause-goes g c copy before stage =
     let e : Reading t s c.requires.stage.0 c.requires.stage.1.0 ≡ Reading t s copy before = sym c.requires.stage.1.1 ∙ stage in
     let before_is : c.requires.stage.1.0 ≡ before = cc in
     let here : slice_index copy (length before) ≡ c.args.known = ap (slice_index copy) (ap (λ (xs : List (Option (List ℕ))). length xs) (sym before_is) ∙ c.requires.stage.1.3) ∙ c.requires.known copy before stage in
-    let apart : slice_index copy (length before) < found = (let m = c.if-due.true in omega arith) in
+    let apart : slice_index copy (length before) < found = (let m = c.if-announced-known.false in omega arith) in
     let first : Goes me (Reading t s copy (before ++ Some [] ∷ [])) me1 = subst (λ o. Goes me (Reading t s copy (before ++ o ∷ [])) me1) (looked_other copy (length before) found apart) (c.look-announced.ensures.left copy before stage) in
     let asked = c.ask_all.ensures.goes copy before (stage_after me me1 1 (Reading t s copy (before ++ Some [] ∷ [])) first) in
     let long : length words ≡ c.args.self.now.setup.sizes.invocation = c.ask_all.auto.invocation ∙ ap (λ (xs : List ℕ). length xs) c.deref_mut.ensures.value ∙ c.requires.room in
     let items : (with_items c.args.seen.now.invocation words).items ≡ words = with_items_is c.args.seen.now.invocation words (c.ask_all.auto.invocation ∙ c.deref_mut.ensures.len) in
-    let now : Seen = record { due = nat_lt c.args.known found; invocation = with_items c.args.seen.now.invocation words } in
-    let due : nat_lt c.args.known found ≡ true = elim (lt_cases c.args.known found) [ inl less ↦ less.1 | inr more ↦ absurd (let m = c.if-due.true in let k = more.0 in omega arith) ] in
-    let seen : seen_in now ≡ Some words = seen_due now due ∙ ap Some items in (
+    let now : Seen = record { due = true; invocation = with_items c.args.seen.now.invocation words } in
+    let seen : seen_in now ≡ Some words = seen_due now refl ∙ ap Some items in (
       1 + length words,
       (omega arith),
       subst (λ o. GoesBy me (1 + length words) (Reading t s copy (before ++ o ∷ [])) c.ask_all.new.seat.me) (sym seen)
           (goes_more me me1 1 (Reading t s copy (before ++ Some [] ∷ [])) first c.ask_all.new.seat.me (length words) (Reading t s copy (before ++ Some words ∷ [])) asked),
     )
 
-pub returns-else-due-clause-goes : goal.returns-else-due-clause-goes
-returns-else-due-clause-goes g c copy before stage =
+pub returns-then-announced-known-clause-goes : goal.returns-then-announced-known-clause-goes
+returns-then-announced-known-clause-goes g c copy before stage =
     let t = c.args.tries in
     let s = c.args.s in
     let me = c.args.seat.now.me in
@@ -64,10 +63,8 @@ returns-else-due-clause-goes g c copy before stage =
     let e : Reading t s c.requires.stage.0 c.requires.stage.1.0 ≡ Reading t s copy before = sym c.requires.stage.1.1 ∙ stage in
     let before_is : c.requires.stage.1.0 ≡ before = cc in
     let here : slice_index copy (length before) ≡ c.args.known = ap (slice_index copy) (ap (λ (xs : List (Option (List ℕ))). length xs) (sym before_is) ∙ c.requires.stage.1.3) ∙ c.requires.known copy before stage in
-    let same : found ≤ slice_index copy (length before) = (let m = c.if-due.false in omega arith) in
-    let now : Seen = record { due = nat_lt c.args.known found; invocation = c.args.seen.now.invocation } in
-    let due : nat_lt c.args.known found ≡ false = elim (lt_cases c.args.known found) [ inl less ↦ absurd (let m = c.if-due.false in let k = less.0 in omega arith) | inr more ↦ more.1 ] in
-    let seen : seen_in now ≡ None = seen_none now due in (
+    let same : found ≤ slice_index copy (length before) = (let m = c.if-announced-known.true in omega arith) in
+    let seen : seen_in c.args.seen.now ≡ None = seen_none c.args.seen.now c.requires.none in (
       1,
       (omega arith),
       subst (λ o. GoesBy me 1 (Reading t s copy (before ++ o ∷ [])) me1) (looked_same copy (length before) found same ∙ sym seen) (c.look-announced.ensures.left copy before stage),

@@ -1,4 +1,5 @@
 use Rattle.uni_small.proofs.Vocabulary.{All, GoesBy, HasInvocation, IsQuietBeside, List, Reading, Seen, [], ap, arith, image_in, joined, length, map, seen_in, spell, subst, sym, with_items_is, ℕ, ◌++◌, ◌+◌, ◌∙◌, ◌≡◌}
+use Rattle.std.specs.Vec.{with_items}
 use Rattle.uni_small.proofs.Going.{stage_after, goes_more}
 use Rattle.uni_small.proofs.Images.{spell-length}
 use Rattle.uni_small.proofs.Rooms.{room_rows}
@@ -30,7 +31,7 @@ returns-clause-goes g c =
     let second = Reading t s (spell (image_in sizes room)) [] in
     let at = stage_after me c.copy.new.seat.me copied.0 second copied.2 in
     let scanned = c.scan-room.ensures.goes (spell (image_in sizes room)) at in
-    let ws = with_items_is room.seen c.scan-room.new.seen (c.scan-room.auto.seen ∙ c.deref_mut.ensures.len) in
+    let ws = with_items_is (with_items room.seen c.forget.new.seen) c.scan-room.new.seen (c.scan-room.auto.seen ∙ c.deref_mut-2.ensures.len) in
     let here = ap (λ xs. Reading t s (spell (image_in sizes room)) (map seen_in xs)) (sym ws) in (
       copied.0 + scanned.0,
       (let a = copied.1 in let b = scanned.1 in omega arith),
@@ -42,12 +43,13 @@ pub returns-clause-room : goal.returns-clause-room
 returns-clause-room g c =
     let was = c.copy.ensures.room in
     let seen = c.scan-room.new.seen in
-    let items = with_items_is c.copy.new.room.seen seen (c.scan-room.auto.seen ∙ c.deref_mut.ensures.len) in
+    let first = with_items_is c.copy.new.room.seen c.forget.new.seen (c.forget.auto.seen ∙ c.deref_mut.ensures.len) in
+    let items = with_items_is (with_items c.copy.new.room.seen c.forget.new.seen) seen (c.scan-room.auto.seen ∙ c.deref_mut-2.ensures.len) in
     record {
       applied = was.applied;
       reply = was.reply;
       state = was.state;
-      seen = ap (λ (xs : List Seen). length xs) items ∙ c.scan-room.auto.seen ∙ ap (λ (xs : List Seen). length xs) c.deref_mut.ensures.value ∙ was.seen;
+      seen = ap (λ (xs : List Seen). length xs) items ∙ c.scan-room.auto.seen ∙ ap (λ (xs : List Seen). length xs) (c.deref_mut-2.ensures.value ∙ first) ∙ c.forget.auto.seen ∙ ap (λ (xs : List Seen). length xs) c.deref_mut.ensures.value ∙ was.seen;
       invocations = subst (All (HasInvocation c.args.self.now.setup.sizes)) (sym items) c.scan-room.ensures.room;
       saved = was.saved;
       ordered = c.scan-room.ensures.busy.0;
