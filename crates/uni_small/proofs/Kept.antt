@@ -1,9 +1,10 @@
 -- What a process keeps of its two buffers for itself.
-use Rattle.uni_small.proofs.Vocabulary.{AreAlike, Buffers, HasAlready, IsKept, List, Room, Sizes, ap, arith, buffer_words, drop, held_place, image_in, length, length-drop, mul-le-mul_right, number_cases, inl, inr, refl, slice_index, spell, subst, sym, with_row, word_held, words_held, ℕ, ◌*◌, ◌+◌, ◌-◌, ◌<◌, ◌∙◌, ◌≡◌, ◌≤◌, ◌⊎◌}
+use Rattle.uni_small.proofs.Vocabulary.{AreAlike, Buffers, HasAlready, IsInNone, IsKept, List, Room, Sizes, ap, arith, buffer_words, drop, held_place, image_in, length, length-drop, number_cases, inl, inr, refl, slice_index, spell, subst, sym, with_row, word_held, words_held, ℕ, ◌*◌, ◌+◌, ◌-◌, ◌<◌, ◌∙◌, ◌≡◌, ◌≤◌, ◌⊎◌}
 use Rattle.uni_small.specs.Board.{AreFew}
-use Rattle.uni_small.specs.Touched.{IsUntouched, all_rows, everything}
+use Rattle.uni_small.specs.Touched.{IsUntouched, all_changes, everything}
+use Rattle.uni_small.specs.declared.span.Span.{Span}
 use Rattle.uni_small.specs.declared.touched.Touched.{Touched}
-use Rattle.uni_small.specs.declared.touched.TouchedRows.{TouchedRows}
+use Rattle.uni_small.specs.declared.touched.Changes.{Changes}
 use Rattle.std.proofs.lemmas.List.{ext_get_or, get_or-drop, get_or-take, length-take-le}
 use Rattle.uni_small.proofs.Rows.{with_row-after, with_row-before, with_row-index, with_row-length}
 
@@ -67,28 +68,28 @@ first_and_second f which other few is same = elim (number_cases which 0) [
 ]
 
 -- A row of so many words from one on, where the copy is of the buffer that isn't the spare one: what is known of it before it is
--- written, and after the whole copy is, with the words `new` in its place.
+-- written, and after the whole copy is, with the words `new` in its place, which are those of the row where `unchanged` holds.
 module _ (sizes : Sizes) (own : Buffers) (room : Room) (which : own.spare ≤ 1) (of : room.of ≡ 1 - own.spare)
     (copy : spell (image_in sizes room) ≡ words_held sizes own.held.items room.of) (from count : ℕ) (inside : from + count ≤ buffer_words sizes)
-    (row new : List ℕ) (touched : Touched) (row_is : (i : ℕ) → i < count → slice_index row i ≡ slice_index (spell (image_in sizes room)) (from + i))
-    (same : (i : ℕ) → i < count → IsUntouched touched i → slice_index new i ≡ slice_index row i) where
+    (row new : List ℕ) (unchanged : ℕ → Type 0) (row_is : (i : ℕ) → i < count → slice_index row i ≡ slice_index (spell (image_in sizes room)) (from + i))
+    (same : (i : ℕ) → i < count → unchanged i → slice_index new i ≡ slice_index row i) where
   row_held : (i : ℕ) → i < count → word_held sizes own room.of (from + i) ≡ slice_index row i
   row_held i below =
       sym (held_index sizes own.held.items room.of (from + i) (omega arith)) ∙ ap (λ (ws : List ℕ). slice_index ws (from + i)) (sym copy) ∙ sym (row_is i below)
 
-  pub row_already : (apart : Touched) → AreAlike sizes own from count apart → length new ≡ count → HasAlready sizes own from new apart touched
-  row_already apart alike long i within outside untouched =
-      one_and_other (λ k. word_held sizes own k (from + i)) own.spare room.of which of (alike i (omega arith) outside)
-      ∙ row_held i (omega arith) ∙ sym (same i (omega arith) untouched)
+  pub row_already : (alike : ℕ → Type 0) → AreAlike sizes own from count alike → length new ≡ count → HasAlready sizes own from new (λ i. alike i × unchanged i)
+  row_already alike are long i within both =
+      one_and_other (λ k. word_held sizes own k (from + i)) own.spare room.of which of (are i (omega arith) both.0)
+      ∙ row_held i (omega arith) ∙ sym (same i (omega arith) both.1)
 
   pub row_alike : (own1 : Buffers) (words : List ℕ) → length own.held.items ≡ 2 * buffer_words sizes → length words ≡ buffer_words sizes
       → own1.held.items ≡ with_row own.held.items (held_place sizes own.spare 0) words → ((i : ℕ) → i < count → slice_index words (from + i) ≡ slice_index new i)
-      → AreAlike sizes own1 from count touched
-  row_alike own1 words long whole written there i below untouched =
+      → AreAlike sizes own1 from count unchanged
+  row_alike own1 words long whole written there i below stays =
       let other = 1 - own.spare in
       let one : word_held sizes own1 own.spare (from + i) ≡ slice_index row i
       = ap (λ (xs : List ℕ). slice_index xs (held_place sizes own.spare (from + i))) written
-      ∙ written_there sizes own.held.items words own.spare which long whole (from + i) (omega arith) ∙ there i below ∙ same i below untouched in
+      ∙ written_there sizes own.held.items words own.spare which long whole (from + i) (omega arith) ∙ there i below ∙ same i below stays in
       let two : word_held sizes own1 other (from + i) ≡ slice_index row i
       = ap (λ (xs : List ℕ). slice_index xs (held_place sizes other (from + i))) written
       ∙ other_stays sizes own.held.items words own.spare which long whole other (from + i) refl (omega arith)
@@ -97,36 +98,30 @@ module _ (sizes : Sizes) (own : Buffers) (room : Room) (which : own.spare ≤ 1)
 
 -- a row that the spare buffer has already, after a row before it is written
 pub already_later : (sizes : Sizes) (own own1 : Buffers) (from : ℕ) (row : List ℕ) → own1.spare ≡ own.spare → own1.held.items ≡ with_row own.held.items (held_place sizes own.spare from) row
-    → (at : ℕ) (later : List ℕ) (apart touched : Touched) → from + length row ≤ at → HasAlready sizes own at later apart touched → HasAlready sizes own1 at later apart touched
-already_later sizes own own1 from row spare written at later apart touched after already i within outside untouched =
+    → (at : ℕ) (later : List ℕ) (holds : ℕ → Type 0) → from + length row ≤ at → HasAlready sizes own at later holds → HasAlready sizes own1 at later holds
+already_later sizes own own1 from row spare written at later holds after already i within here =
     (λ k. slice_index (written k) (held_place sizes (spare k) (at + i)))
-    ∙ with_row-after own.held.items (held_place sizes own.spare from) row (held_place sizes own.spare (at + i)) (omega arith) ∙ already i within outside untouched
+    ∙ with_row-after own.held.items (held_place sizes own.spare from) row (held_place sizes own.spare (at + i)) (omega arith) ∙ already i within here
 
--- where all words may be apart, nothing is known
+-- where all words may be touched, or the rows of all processes, nothing is known of a word
 pub nothing_untouched : (touched : Touched) → touched ≡ everything → (i : ℕ) → i < 18446744073709551615 → IsUntouched touched i → ⊥
 nothing_untouched touched all i below untouched = let h = (subst (λ t. IsUntouched t i) all untouched).0 in omega (arith, below, h)
 
-alike_never : (sizes : Sizes) (own : Buffers) (from count : ℕ) (touched : Touched) → touched ≡ everything → count < 18446744073709551616 → AreAlike sizes own from count touched
-alike_never sizes own from count touched all few i below untouched = absurd (nothing_untouched touched all i (omega arith) untouched)
-
-module _ (sizes : Sizes) (few : AreFew sizes) (own : Buffers) (apart : own.apart ≡ all_rows) where
-  replies : sizes.processes * sizes.reply ≤ 64 * sizes.reply
-  replies = mul-le-mul_right sizes.reply few.1
-
-  pub applied_never : AreAlike sizes own 0 sizes.processes own.apart.applied
-  applied_never = alike_never sizes own 0 sizes.processes own.apart.applied (ap (λ (t : TouchedRows). t.applied) apart) (let n = few.1 in omega arith)
-
-  pub reply_never : AreAlike sizes own sizes.processes (sizes.processes * sizes.reply) own.apart.reply
-  reply_never = alike_never sizes own sizes.processes (sizes.processes * sizes.reply) own.apart.reply (ap (λ (t : TouchedRows). t.reply) apart) (let r = few.5 in let l = replies in omega arith)
-
-  pub state_never : AreAlike sizes own (sizes.processes + sizes.processes * sizes.reply) sizes.state own.apart.state
-  state_never = alike_never sizes own (sizes.processes + sizes.processes * sizes.reply) sizes.state own.apart.state (ap (λ (t : TouchedRows). t.state) apart) (let w = few.2 in omega arith)
+pub nothing_outside : (calls : Span) (processes wide i : ℕ) → calls ≡ record { from = 0; to = processes } → i < processes * wide → IsInNone calls wide i → ⊥
+nothing_outside calls processes wide i all below outside =
+    let is : IsInNone (record { from = 0; to = processes }) wide i = subst (λ (c : Span). IsInNone c wide i) all outside in
+    elim is [ inl sooner ↦ (let z : 0 * wide ≡ 0 = omega arith in omega (arith, sooner, z)) | inr after ↦ omega (arith, after, below) ]
 
 -- at first nothing is known of the copy, and both buffers may be apart everywhere
-pub kept_afresh : (sizes : Sizes) (own : Buffers) (room : Room) → room.of ≡ 2 → own.apart ≡ all_rows → AreFew sizes → IsKept sizes own room
-kept_afresh sizes own room of apart few = record {
-  copy = λ one. absurd (omega arith);
-  applied = applied_never sizes few own apart;
-  reply = reply_never sizes few own apart;
-  state = state_never sizes few own apart;
-}
+pub kept_afresh : (sizes : Sizes) (own : Buffers) (room : Room) → room.of ≡ 2 → own.apart ≡ all_changes sizes.processes → AreFew sizes → IsKept sizes own room
+kept_afresh sizes own room of apart few =
+    let calls = ap (λ (c : Changes). c.calls) apart in
+    let w = few.2 in
+    record {
+      copy = λ one. absurd (omega arith);
+      ordered = (let f = ap (λ (s : Span). s.from) calls in omega (arith, f));
+      inside = (let t = ap (λ (s : Span). s.to) calls in omega (arith, t));
+      applied = λ i inside outside. absurd (nothing_outside own.apart.calls sizes.processes 1 i calls (omega arith) outside);
+      reply = λ i inside outside. absurd (nothing_outside own.apart.calls sizes.processes sizes.reply i calls inside outside);
+      state = λ i inside untouched. absurd (nothing_untouched own.apart.state (ap (λ (c : Changes). c.state) apart) i (omega arith) untouched);
+    }

@@ -74,9 +74,17 @@ seen_in seen = if seen.due then Some seen.invocation.items else None
 abbrev pub all_seen : Room → List (Option (List ℕ))
 all_seen room = map seen_in room.seen.items
 
+-- it isn't from one on and before another one
+abbrev pub IsOutside : (from to i : ℕ) → Type 0
+IsOutside from to i = (i < from) ⊎ (to ≤ i)
+
 -- process q is none of these
 abbrev pub IsBeside : Span → (q : ℕ) → Type 0
-IsBeside span q = (q < span.from) ⊎ (span.to ≤ q)
+IsBeside span q = IsOutside span.from span.to q
+
+-- word i of rows of so many words is in none of theirs
+abbrev pub IsInNone : Span → (wide i : ℕ) → Type 0
+IsInNone span wide i = IsOutside (span.from * wide) (span.to * wide) i
 
 -- nothing to apply was seen of a process beside these
 abbrev pub IsQuietBeside : Span → List (Option (List ℕ)) → Type 0
@@ -107,23 +115,32 @@ image_in sizes room = image_of_rows sizes room.applied.items room.reply.items ro
 abbrev pub word_held : Sizes → Buffers → (which i : ℕ) → ℕ
 word_held sizes own which i = slice_index own.held.items (held_place sizes which i)
 
--- both buffers of a process have the same words, of so many from one on, but for those that may be apart
-abbrev pub AreAlike : Sizes → Buffers → (from count : ℕ) → (apart : Touched) → Type 0
-AreAlike sizes own from count apart =
-    (i : ℕ) → i < count → IsUntouched apart i → word_held sizes own 0 (from + i) ≡ word_held sizes own 1 (from + i)
+-- both buffers of a process have the same words, of so many from one on, where this holds
+abbrev pub AreAlike : Sizes → Buffers → (from count : ℕ) → (holds : ℕ → Type 0) → Type 0
+AreAlike sizes own from count holds =
+    (i : ℕ) → i < count → holds i → word_held sizes own 0 (from + i) ≡ word_held sizes own 1 (from + i)
 
--- the spare buffer has the words of a row already, from this one on, but for those that may be apart and those that are touched
-abbrev pub HasAlready : Sizes → Buffers → (from : ℕ) → (row : List ℕ) → (apart touched : Touched) → Type 0
-HasAlready sizes own from row apart touched =
-    (i : ℕ) → i < length row → IsUntouched apart i → IsUntouched touched i → word_held sizes own own.spare (from + i) ≡ slice_index row i
+-- the spare buffer has the words of a row already, from this one on, where this holds
+abbrev pub HasAlready : Sizes → Buffers → (from : ℕ) → (row : List ℕ) → (holds : ℕ → Type 0) → Type 0
+HasAlready sizes own from row holds =
+    (i : ℕ) → i < length row → holds i → word_held sizes own own.spare (from + i) ≡ slice_index row i
+
+-- neither of two batches changes it
+abbrev pub IsInNeither : (one two : Span) → (wide i : ℕ) → Type 0
+IsInNeither one two wide i = IsInNone one wide i × IsInNone two wide i
+
+abbrev pub IsUntouchedBy : (one two : Touched) → (i : ℕ) → Type 0
+IsUntouchedBy one two i = IsUntouched one i × IsUntouched two i
 
 -- What a process keeps is as it is told: its copy is that of the one of its buffers that `of` names, and its two buffers have the
 -- same words of each row but for those that may be apart.
 pub record IsKept (sizes : Sizes) (own : Buffers) (room : Room) : Type 0 where
   pub copy : room.of ≤ 1 → spell (image_in sizes room) ≡ words_held sizes own.held.items room.of
-  pub applied : AreAlike sizes own 0 sizes.processes own.apart.applied
-  pub reply : AreAlike sizes own sizes.processes (sizes.processes * sizes.reply) own.apart.reply
-  pub state : AreAlike sizes own (sizes.processes + sizes.processes * sizes.reply) sizes.state own.apart.state
+  pub ordered : own.apart.calls.from ≤ own.apart.calls.to
+  pub inside : own.apart.calls.to ≤ sizes.processes
+  pub applied : AreAlike sizes own 0 sizes.processes (IsInNone own.apart.calls 1)
+  pub reply : AreAlike sizes own sizes.processes (sizes.processes * sizes.reply) (IsInNone own.apart.calls sizes.reply)
+  pub state : AreAlike sizes own (sizes.processes + sizes.processes * sizes.reply) sizes.state (IsUntouched own.apart.state)
 
 -- The seat is one of this object's.
 pub record IsSeatOf {O : Type 0} (shared : SmallShared O) (seat : SmallSeat O) : Type 0 where

@@ -1,7 +1,7 @@
 -- Which words of a state a call may change.
 use Rattle.std.specs.Prelude.{◌≡◌, ◌⊎◌, ℕ, ◌<◌, ◌≤◌, List, length, slice_index}
 use Rattle.uni_small.specs.declared.touched.Touched.{Touched}
-use Rattle.uni_small.specs.declared.touched.TouchedRows.{TouchedRows}
+use Rattle.uni_small.specs.declared.touched.Changes.{Changes}
 
 -- word i is none of these
 abbrev pub IsUntouched : Touched → (i : ℕ) → Type 0
@@ -16,6 +16,6 @@ AreAlikeBeside touched state other =
 abbrev pub everything : Touched
 everything = record { head = 18446744073709551615; from = 0; to = 0 }
 
--- all words of all rows
-abbrev pub all_rows : TouchedRows
-all_rows = record { applied = everything; reply = everything; state = everything }
+-- the rows of so many processes, and all words of the state
+abbrev pub all_changes : (processes : ℕ) → Changes
+all_changes processes = record { calls = record { from = 0; to = processes }; state = everything }

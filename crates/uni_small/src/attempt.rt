@@ -12,8 +12,9 @@ ghost use Rattle.uni_small.specs.Standing.{GoesBy, GoesWithin, IsAsking, IsCopyi
 ghost use Rattle.uni_small.specs.Standing.{EndsWithin, HasCopy, HasRow, IsAnnounced, IsDirect, TriesWithin};
 ghost use Rattle.uni_small.specs.Standing.{WritesWithin, attempt_steps, local_of};
 ghost use Rattle.uni_small.specs.Belongs.{AreBuffers, HasAlready, HasInvocation, HasRoom};
-ghost use Rattle.uni_small.specs.Belongs.{IsBeside, IsKept, IsQuietBeside};
-ghost use Rattle.uni_small.specs.Touched.{AreAlikeBeside, IsUntouched};
+ghost use Rattle.uni_small.specs.Belongs.{IsBeside, IsInNeither, IsInNone, IsKept, IsOutside, IsQuietBeside};
+ghost use Rattle.uni_small.specs.Belongs.{IsUntouchedBy};
+ghost use Rattle.uni_small.specs.Touched.{AreAlikeBeside};
 ghost use Rattle.uni_small.specs.declared.seat.Seen.{Seen};
 ghost use Rattle.uni_small.specs.Belongs.{all_seen, image_in, image_of_rows, seen_in};
 
@@ -21,7 +22,7 @@ use crate::log::SmallShared;
 use crate::object::SmallObject;
 use crate::seat::{Buffers, Room, Seen};
 use crate::span::Span;
-use crate::touched::{Touched, TouchedRows};
+use crate::touched::{Changes, Touched};
 use crate::view::View;
 use atomic_table::Seat;
 
@@ -194,8 +195,8 @@ impl<O: SmallObject> SmallShared<O> {
             (image_of_rows self.now.setup.sizes applied.old reply.old state.old) r (seen_in seen.now ∷ []) }
         ensures reached { IsReached (O.meaning self.now.setup.object).object state.new }
         ensures applied { (q : ℕ) → q ≢ r → slice_index applied.new q ≡ slice_index applied.old q }
-        ensures reply { (i : ℕ) → (i < r * self.now.setup.sizes.reply)
-            ⊎ (r * self.now.setup.sizes.reply + self.now.setup.sizes.reply ≤ i)
+        ensures reply { (i : ℕ) → IsOutside (r * self.now.setup.sizes.reply)
+            (r * self.now.setup.sizes.reply + self.now.setup.sizes.reply) i
             → slice_index reply.new i ≡ slice_index reply.old i }
         ensures touched { (first : List ℕ) → length first ≡ length state.old
             → AreAlikeBeside touched.old first state.old → AreAlikeBeside touched.new first state.new }
@@ -235,8 +236,8 @@ impl<O: SmallObject> SmallShared<O> {
             ≡ with_seen (O.meaning self.now.setup.object).object
             (image_of_rows self.now.setup.sizes applied.old reply.old state.old) 0 (map seen_in seen.now) }
         ensures applied { (q : ℕ) → IsBeside busy q → slice_index applied.new q ≡ slice_index applied.old q }
-        ensures reply { (i : ℕ) → (i < busy.from * self.now.setup.sizes.reply)
-            ⊎ (busy.to * self.now.setup.sizes.reply ≤ i) → slice_index reply.new i ≡ slice_index reply.old i }
+        ensures reply { (i : ℕ) → IsInNone busy self.now.setup.sizes.reply i
+            → slice_index reply.new i ≡ slice_index reply.old i }
         ensures touched { AreAlikeBeside result state.old state.new }
     {
         let mut touched = Touched::NONE;
@@ -244,6 +245,44 @@ impl<O: SmallObject> SmallShared<O> {
             self.apply_one(applied, reply, state, r, &seen[r], &mut touched);
         }
         touched
+    }
+
+    /// Writes a row of the spare buffer, from its word `from` on: of its words from `first` on that are before `end` it
+    /// stores those that differ.
+    fn write_words(
+        &self,
+        seat: &mut Seat<Seen, View<O>>,
+        p: u64,
+        own: &mut Buffers,
+        from: u64,
+        row: &[u64],
+        first: u64,
+        end: u64,
+    )
+        requires table { seat.old.table_id ≡ self.now.table.shared.table_id }
+        requires inside { (p < self.now.setup.sizes.processes)
+            × (from + length row.now ≤ buffer_words self.now.setup.sizes) }
+        requires words { (first ≤ end) × (end ≤ length row.now) }
+        requires of { IsOf self.now.setup.object self.now.setup.sizes p seat.old.me }
+        requires stage { HasRow (O.meaning self.now.setup.object).object self.now.setup.sizes from row.now seat.old.me }
+        requires own { AreBuffers self.now.setup.sizes (local_of seat.old.me) own.old }
+        requires alike { HasAlready self.now.setup.sizes own.old from row.now (IsOutside first end) }
+        ensures same { (seat.new.table_id ≡ seat.old.table_id) × (seat.new.id ≡ seat.old.id) }
+        ensures goes { WritesWithin seat.old.me from (length row.now) own.new.held.items seat.new.me }
+        ensures spare { own.new.spare ≡ own.old.spare }
+        ensures held { own.new.held.items
+            ≡ with_row own.old.held.items (held_place self.now.setup.sizes own.old.spare from) row.now }
+    {
+        let spare = own.spare;
+        let start = spare * self.buffer_words() + from;
+        for i in first..end {
+            let place = (start + i) as usize;
+            let word = row[i as usize];
+            if own.held[place] != word {
+                self.write_word(seat, p, spare, from + i, word);
+                own.held[place] = word;
+            }
+        }
     }
 
     /// Writes a row of the spare buffer, from its word `from` on: of those words that may differ it stores those that
@@ -264,7 +303,7 @@ impl<O: SmallObject> SmallShared<O> {
         requires of { IsOf self.now.setup.object self.now.setup.sizes p seat.old.me }
         requires stage { HasRow (O.meaning self.now.setup.object).object self.now.setup.sizes from row.now seat.old.me }
         requires own { AreBuffers self.now.setup.sizes (local_of seat.old.me) own.old }
-        requires alike { HasAlready self.now.setup.sizes own.old from row.now apart touched }
+        requires alike { HasAlready self.now.setup.sizes own.old from row.now (IsUntouchedBy apart touched) }
         ensures same { (seat.new.table_id ≡ seat.old.table_id) × (seat.new.id ≡ seat.old.id) }
         ensures goes { WritesWithin seat.old.me from (length row.now) own.new.held.items seat.new.me }
         ensures spare { own.new.spare ≡ own.old.spare }
@@ -427,14 +466,14 @@ impl<O: SmallObject> SmallShared<O> {
         s
     }
 
-    /// Writes an image to the spare buffer, whose rows differ from it in these words, or where both buffers may differ.
+    /// Writes an image to the spare buffer, which differs from it in these changes, or where both buffers may differ.
     fn write(
         &self,
         seat: &mut Seat<Seen, View<O>>,
         p: u64,
         own: &mut Buffers,
         room: &Room,
-        touched: TouchedRows,
+        touched: Changes,
     )
         requires table { seat.old.table_id ≡ self.now.table.shared.table_id }
         requires inside { p < self.now.setup.sizes.processes }
@@ -443,13 +482,17 @@ impl<O: SmallObject> SmallShared<O> {
             (spell (image_in self.now.setup.sizes room.now)) seat.old.me }
         requires own { AreBuffers self.now.setup.sizes (local_of seat.old.me) own.old }
         requires room { HasRoom self.now.setup.sizes room.now }
+        requires calls { (touched.calls.from ≤ touched.calls.to)
+            × (touched.calls.to ≤ self.now.setup.sizes.processes) }
+        requires apart { (own.old.apart.calls.from ≤ own.old.apart.calls.to)
+            × (own.old.apart.calls.to ≤ self.now.setup.sizes.processes) }
         requires applied { HasAlready self.now.setup.sizes own.old 0 room.now.applied.items
-            own.old.apart.applied touched.applied }
+            (IsInNeither own.old.apart.calls touched.calls 1) }
         requires reply { HasAlready self.now.setup.sizes own.old self.now.setup.sizes.processes room.now.reply.items
-            own.old.apart.reply touched.reply }
+            (IsInNeither own.old.apart.calls touched.calls self.now.setup.sizes.reply) }
         requires state { HasAlready self.now.setup.sizes own.old
             (self.now.setup.sizes.processes + self.now.setup.sizes.processes * self.now.setup.sizes.reply)
-            room.now.state.items own.old.apart.state touched.state }
+            room.now.state.items (IsUntouchedBy own.old.apart.state touched.state) }
         ensures same { (seat.new.table_id ≡ seat.old.table_id) × (seat.new.id ≡ seat.old.id) }
         ensures goes { WritesWithin seat.old.me 0 (buffer_words self.now.setup.sizes) own.new.held.items seat.new.me }
         ensures spare { own.new.spare ≡ own.old.spare }
@@ -460,16 +503,10 @@ impl<O: SmallObject> SmallShared<O> {
         let n = sizes.processes;
         let at_state = n + n * sizes.reply;
         let apart = own.apart;
-        self.write_row(
-            seat,
-            p,
-            own,
-            0,
-            &room.applied,
-            apart.applied,
-            touched.applied,
-        );
-        self.write_row(seat, p, own, n, &room.reply, apart.reply, touched.reply);
+        let calls = apart.calls.join(touched.calls);
+        let (first, end) = (calls.from * sizes.reply, calls.to * sizes.reply);
+        self.write_words(seat, p, own, 0, &room.applied, calls.from, calls.to);
+        self.write_words(seat, p, own, n, &room.reply, first, end);
         self.write_row(
             seat,
             p,
@@ -479,22 +516,6 @@ impl<O: SmallObject> SmallShared<O> {
             apart.state,
             touched.state,
         );
-    }
-
-    /// Which words of each row calls of these processes may change that change these words of the state.
-    fn touched_rows(&self, busy: Span, state: Touched) -> TouchedRows
-        requires busy { (busy.from ≤ busy.to) × (busy.to ≤ self.now.setup.sizes.processes) }
-        ensures applied { (q : ℕ) → IsUntouched result.applied q → IsBeside busy q }
-        ensures reply { (i : ℕ) → IsUntouched result.reply i → (i < busy.from * self.now.setup.sizes.reply)
-            ⊎ (busy.to * self.now.setup.sizes.reply ≤ i) }
-        ensures state { result.state ≡ state }
-    {
-        let words = self.setup.sizes.reply;
-        TouchedRows {
-            applied: Touched::between(busy.from, busy.to),
-            reply: Touched::between(busy.from * words, busy.to * words),
-            state,
-        }
     }
 
     /// Applies what was seen to the copy, and writes it to the spare buffer.
@@ -532,9 +553,9 @@ impl<O: SmallObject> SmallShared<O> {
             busy,
         );
         let touched = if is_from_other {
-            self.touched_rows(busy, state)
+            Changes { calls: busy, state }
         } else {
-            TouchedRows::ALL
+            Changes::all(self.setup.sizes.processes)
         };
         self.write(seat, p, own, room, touched);
         own.apart = touched;

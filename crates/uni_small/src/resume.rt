@@ -3,7 +3,7 @@ ghost use Rattle.std.specs.Prelude.{true, false, ◌≡◌, ◌≢◌, ◌↔◌
 ghost use Rattle.std.specs.Prelude.{◌∷◌, [], IfErr, IfOk, None, length};
 ghost use Rattle.uni_small.specs.Image.{buffer_words};
 ghost use Rattle.uni_small.specs.Belongs.{AreBuffers, HasRoom, IsKept, IsSeatOf, own_calls, process_of};
-ghost use Rattle.uni_small.specs.Touched.{all_rows};
+ghost use Rattle.uni_small.specs.Touched.{all_changes};
 ghost use Rattle.uni_small.specs.Belongs.{reply_width_of, sizes_of, word_steps_of};
 ghost use Rattle.uni_small.specs.Invariant.{most_calls};
 ghost use Rattle.uni_small.specs.Orphans.{IsInCall, IsOrphanOf, calls_after, calls_before, orphan_process};
@@ -17,7 +17,7 @@ use crate::log::open::room;
 use crate::object::SmallObject;
 use crate::orphan::SmallOrphan;
 use crate::seat::{Buffers, Room, Seen, SmallSeat};
-use crate::touched::TouchedRows;
+use crate::touched::Changes;
 use crate::view::View;
 use atomic_table::Seat;
 use std::alloc::Global;
@@ -72,7 +72,7 @@ impl<O: SmallObject> SmallShared<O> {
         requires known { length (local_of seat.old.me).held ≡ 2 * buffer_words self.now.setup.sizes }
         requires long { length own.old.held.items ≡ 2 * buffer_words self.now.setup.sizes }
         requires room { HasRoom self.now.setup.sizes room.old }
-        requires afresh { (room.old.of ≡ 2) × (own.old.apart ≡ all_rows) }
+        requires afresh { (room.old.of ≡ 2) × (own.old.apart ≡ all_changes self.now.setup.sizes.processes) }
         ensures same { (seat.new.table_id ≡ seat.old.table_id) × (seat.new.id ≡ seat.old.id) }
         ensures of { IsOf self.now.setup.object self.now.setup.sizes p seat.new.me }
         ensures slots { seat.new.me.1 ≡ seat.old.me.1 }
@@ -170,7 +170,7 @@ impl<O: SmallObject> SmallOrphan<O> {
         let mut own = Buffers {
             spare: 0,
             held,
-            apart: TouchedRows::ALL,
+            apart: Changes::all(shared.setup.sizes.processes),
         };
         let told = shared.recount(&mut seat, p);
         let (made, version) = if told <= made {

@@ -4,7 +4,7 @@ ghost use Rattle.uni_small.specs.View.Stage.{Idle};
 ghost use Rattle.uni_small.specs.Invariant.{most_calls};
 
 use crate::span::Span;
-use crate::touched::TouchedRows;
+use crate::touched::Changes;
 use crate::view::View;
 use atomic_table::Seat;
 
@@ -36,8 +36,8 @@ pub(crate) struct Room {
 pub(crate) struct Buffers {
     pub spare: u64,
     pub held: Vec<u64>,
-    /// In which words of each row the two may differ.
-    pub apart: TouchedRows,
+    /// In what the two may differ.
+    pub apart: Changes,
 }
 
 /// A process's place at the object.

@@ -1,6 +1,6 @@
 //! Processes one after another.
-ghost use Rattle.std.specs.Prelude.{◌≡◌, ◌≢◌, ◌<◌, ◌≤◌, ℕ};
-ghost use Rattle.uni_small.specs.Belongs.{IsBeside};
+ghost use Rattle.std.specs.Prelude.{◌≢◌, ◌*◌, ◌<◌, ◌≤◌, ℕ};
+ghost use Rattle.uni_small.specs.Belongs.{IsBeside, IsOutside};
 
 /// The processes from one on that are before another one.
 #[derive(Clone, Copy)]
@@ -13,6 +13,26 @@ impl Span {
     /// No process.
     pub const NONE: Span = Span { from: 0, to: 0 };
 
+    /// These processes and those, and perhaps some between them. Each of them has a row of so many words.
+    pub fn join(self, more: Span) -> Span
+        requires ordered { (self.from ≤ self.to) × (more.from ≤ more.to) }
+        ensures ordered { result.from ≤ result.to }
+        ensures last { (most : ℕ) → self.to ≤ most → more.to ≤ most → result.to ≤ most }
+        ensures beside { (wide i : ℕ) → IsOutside (result.from * wide) (result.to * wide) i
+            → IsOutside (self.from * wide) (self.to * wide) i × IsOutside (more.from * wide) (more.to * wide) i }
+    {
+        if self.from == self.to {
+            return more;
+        }
+        if more.from == more.to {
+            return self;
+        }
+        Span {
+            from: self.from.min(more.from),
+            to: self.to.max(more.to),
+        }
+    }
+
     /// These processes, and process r.
     pub fn with(self, r: u64) -> Span
         requires ordered { self.from ≤ self.to }
@@ -21,12 +41,6 @@ impl Span {
         ensures last { (most : ℕ) → self.to ≤ most → r < most → result.to ≤ most }
         ensures beside { (q : ℕ) → IsBeside result q → IsBeside self q × (q ≢ r) }
     {
-        if self.from == self.to {
-            return Span { from: r, to: r + 1 };
-        }
-        Span {
-            from: self.from.min(r),
-            to: self.to.max(r + 1),
-        }
+        self.join(Span { from: r, to: r + 1 })
     }
 }

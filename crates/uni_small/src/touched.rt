@@ -1,6 +1,8 @@
 //! Which words of a state a call may change.
 ghost use Rattle.std.specs.Prelude.{◌≡◌, ◌≤◌, ◌<◌, ◌⊎◌, ℕ, length, slice_index};
-ghost use Rattle.uni_small.specs.Touched.{IsUntouched};
+ghost use Rattle.uni_small.specs.Touched.{IsUntouched, all_changes};
+
+use crate::span::Span;
 
 /// Words of a state: those before the word `head`, and those from the word `from` on that are before the word `to`.
 #[derive(Clone, Copy, Debug, PartialEq, Eq)]
@@ -12,9 +14,6 @@ pub struct Touched {
     /// The word after the last of them.
     pub to: u64,
 }
-
-/// Up to how many words at the head are gone through rather than left out.
-const FEW: u64 = 4;
 
 /// Copies the words from the word `first` on that are before the word `end` of one state to another one.
 fn copy_between(from: &[u64], to: &mut [u64], first: u64, end: u64)
@@ -44,21 +43,6 @@ impl Touched {
         from: 0,
         to: 0,
     };
-
-    /// The words from one on that are before another one, with the few before them where these are few: words at the
-    /// head are the quickest to find.
-    pub(crate) fn between(from: u64, to: u64) -> Touched
-        ensures { (i : ℕ) → IsUntouched result i → (i < from) ⊎ (to ≤ i) }
-    {
-        if to <= FEW {
-            return Touched {
-                head: to,
-                from: 0,
-                to: 0,
-            };
-        }
-        Touched { head: 0, from, to }
-    }
 
     /// These words and those, and perhaps some between them.
     pub(crate) fn with(self, more: Touched) -> Touched
@@ -114,19 +98,24 @@ impl Touched {
     }
 }
 
-/// Which words of each row of a buffer a batch of calls may change.
+/// What a batch of calls changes of a buffer at most: the rows of these processes, and these words of the state.
 #[derive(Clone, Copy)]
-pub(crate) struct TouchedRows {
-    pub applied: Touched,
-    pub reply: Touched,
+pub(crate) struct Changes {
+    pub calls: Span,
     pub state: Touched,
 }
 
-impl TouchedRows {
-    /// All words of all rows.
-    pub const ALL: TouchedRows = TouchedRows {
-        applied: Touched::ALL,
-        reply: Touched::ALL,
-        state: Touched::ALL,
-    };
+impl Changes {
+    /// All of it, where there are so many processes.
+    pub fn all(processes: u64) -> Changes
+        ensures { result ≡ all_changes processes }
+    {
+        Changes {
+            calls: Span {
+                from: 0,
+                to: processes,
+            },
+            state: Touched::ALL,
+        }
+    }
 }

@@ -5,7 +5,7 @@ ghost use Rattle.uni_small.specs.Plays.{first_view};
 ghost use Rattle.uni_small.specs.Board.{AreFew};
 ghost use Rattle.uni_small.specs.TooWide.{IsTooWide};
 ghost use Rattle.uni_small.specs.Image.{due_at, first_held};
-ghost use Rattle.uni_small.specs.Touched.{all_rows};
+ghost use Rattle.uni_small.specs.Touched.{all_changes};
 ghost use Rattle.uni_small.specs.View.{at_rest};
 ghost use Rattle.uni_small.specs.Belongs.{AreBuffers, AreFirstSeats, HasInvocation, HasRoom, IsSeatOf};
 ghost use Rattle.uni_small.specs.Belongs.{object_of, seen_in, sizes_of};
@@ -16,7 +16,7 @@ use crate::rule::First;
 use crate::seat::{Buffers, Room, Seen, SmallSeat};
 use crate::sizes::Sizes;
 use crate::span::Span;
-use crate::touched::TouchedRows;
+use crate::touched::Changes;
 use crate::view::View;
 use atomic_table::Seat;
 use std::alloc::{AllocError, Global};
@@ -62,7 +62,7 @@ fn buffers<O: SmallObject>(alloc: Global, object: &O, sizes: &Sizes) -> Result<B
     requires wide { length (O.meaning object.now).object.initial ≡ sizes.now.state }
     ensures held { IfOk result (λ own.
         AreBuffers sizes.now (at_rest (first_held (O.meaning object.now).object sizes.now)) own) }
-    ensures apart { IfOk result (λ own. own.apart ≡ all_rows) }
+    ensures apart { IfOk result (λ own. own.apart ≡ all_changes sizes.now.processes) }
 {
     let first = first_words(alloc, object, sizes)?;
     let mut held = first_words(alloc, object, sizes)?;
@@ -70,7 +70,7 @@ fn buffers<O: SmallObject>(alloc: Global, object: &O, sizes: &Sizes) -> Result<B
     Ok(Buffers {
         spare: 1,
         held,
-        apart: TouchedRows::ALL,
+        apart: Changes::all(sizes.processes),
     })
 }
 

@@ -92,4 +92,4 @@ returns-clause-own g c =
     buffers_at_end sizes (buffer_words sizes + 1) c.args.tries (Some (128 * (c.args.s / 128 + 1) + (2 * c.args.p + own1.spare))) (record own1 { spare = 1 - own1.spare }) c.args.seat.now.me c.bring_in-found.new.seat.me (bring_hits sizes (buffer_words sizes) c.args.tries c.args.s (128 * (c.args.s / 128 + 1) + (2 * c.args.p + own1.spare)) c.bring_in-found.result own1 c.args.seat.now.me c.fill.new.seat.me c.bring_in-found.new.seat.me c.fill.ensures.goes spare c.bring_in-found.ensures.left c.if-found-s.false (let i = c.requires.inside in let f = c.args.self.now.few.1 in omega arith)) (omega arith) (c.fill.ensures.long ∙ c.requires.own.long)
 
 pub returns-clause-kept : goal.returns-clause-kept
-returns-clause-kept g c = record { copy = c.fill.ensures.kept.copy; applied = c.fill.ensures.kept.applied; reply = c.fill.ensures.kept.reply; state = c.fill.ensures.kept.state }
+returns-clause-kept g c = record { copy = c.fill.ensures.kept.copy; ordered = c.fill.ensures.kept.ordered; inside = c.fill.ensures.kept.inside; applied = c.fill.ensures.kept.applied; reply = c.fill.ensures.kept.reply; state = c.fill.ensures.kept.state }

@@ -178,4 +178,4 @@ returns-clause-own g c =
     buffers_tried sizes (buffer_words sizes + 1) c.args.invocation.now (Some new) own2 c.args.seat.now.me me2 ends (omega arith) (c.fill.ensures.long ∙ c.requires.own.long)
 
 pub returns-clause-kept : goal.returns-clause-kept
-returns-clause-kept g c = record { copy = c.fill.ensures.kept.copy; applied = c.fill.ensures.kept.applied; reply = c.fill.ensures.kept.reply; state = c.fill.ensures.kept.state }
+returns-clause-kept g c = record { copy = c.fill.ensures.kept.copy; ordered = c.fill.ensures.kept.ordered; inside = c.fill.ensures.kept.inside; applied = c.fill.ensures.kept.applied; reply = c.fill.ensures.kept.reply; state = c.fill.ensures.kept.state }

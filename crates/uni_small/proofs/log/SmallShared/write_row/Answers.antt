@@ -21,7 +21,7 @@ loop-i-init g c =
     let none = writes_nothing me held c.args.from at.0 at.1 at.5 at.2 at.3 at.6 at.7.1 c.requires.own.held in
     let skip = with_row-skip held (held_place sizes c.args.own.now.spare c.args.from) c.args.row.now 0 c.next_of-i.result
     (λ k a b within. let both = c.next_of-i.ensures.between k a (omega arith) in
-    ap (slice_index held) (add_assoc (c.args.own.now.spare * buffer_words sizes) c.args.from k) ∙ c.requires.alike k within both.0 both.1)
+    ap (slice_index held) (add_assoc (c.args.own.now.spare * buffer_words sizes) c.args.from k) ∙ c.requires.alike k within both)
     ∙ ap (λ k. with_row held (held_place sizes c.args.own.now.spare c.args.from) (take k c.args.row.now)) (let e : 0 + c.next_of-i.result ≡ c.next_of-i.result = omega arith in e) in (
       refl,
       refl,
@@ -104,7 +104,7 @@ loop-i-preserved g c =
     let skip : with_row first from (take (i + 1) row) ≡ with_row first from (take next row)
     = with_row-skip first from row (i + 1) (next - (i + 1))
     (λ k a b within. let both = c.next_of-i-in-loop-i.ensures.between k a (omega arith) in
-    ap (slice_index first) (add_assoc (c.args.own.now.spare * buffer_words sizes) c.args.from k) ∙ c.requires.alike k within both.0 both.1)
+    ap (slice_index first) (add_assoc (c.args.own.now.spare * buffer_words sizes) c.args.from k) ∙ c.requires.alike k within both)
     ∙ ap (λ k. with_row first from (take k row)) reaches in
     elim c.if-index-word.branch [
       | then-index-word w ↦
