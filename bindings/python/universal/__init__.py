@@ -130,6 +130,9 @@ class _Entry(ctypes.Structure):
 
 _TABLES: list[Any] = [c_uint32, c_uint32, POINTER(c_uint32), c_size_t, POINTER(c_uint32), c_size_t]
 
+# Of the functions that answer an invocation of a small object.
+_ASKED: list[Any] = [POINTER(_Handle), POINTER(c_uint64), c_size_t, POINTER(c_uint64), c_size_t, POINTER(c_uint64)]
+
 _SIGNATURES: Mapping[str, list[Any]] = {
     "universal_open_tally": [c_uint64, c_uint64, POINTER(_Handle)],
     "universal_open_sticky": [c_uint64, c_uint64, POINTER(_Handle)],
@@ -155,22 +158,8 @@ _SIGNATURES: Mapping[str, list[Any]] = {
         POINTER(_Handle),
     ],
     "universal_small_seat": [POINTER(_Handle), POINTER(_Handle), POINTER(c_uint64)],
-    "universal_small_apply": [
-        POINTER(_Handle),
-        POINTER(c_uint64),
-        c_size_t,
-        POINTER(c_uint64),
-        c_size_t,
-        POINTER(c_uint64),
-    ],
-    "universal_small_read": [
-        POINTER(_Handle),
-        POINTER(c_uint64),
-        c_size_t,
-        POINTER(c_uint64),
-        c_size_t,
-        POINTER(c_uint64),
-    ],
+    "universal_small_apply": _ASKED,
+    "universal_small_read": _ASKED,
     "universal_small_follows": [POINTER(_Handle), c_uint64, POINTER(c_uint32)],
     "universal_small_close": [POINTER(_Handle), POINTER(c_uint64), c_size_t],
     "universal_seat": [POINTER(_Handle), POINTER(_Handle), POINTER(c_uint64)],
@@ -231,10 +220,13 @@ class _Held:
         finally:
             self._lock.release()
 
-    def _call(self, function: Callable[..., int], *args: object) -> None:
-        status = self._alone(function, *args)
+    @staticmethod
+    def _check(status: int) -> None:
         if status != 0:
             raise Refused(Fault(status))
+
+    def _call(self, function: Callable[..., int], *args: object) -> None:
+        self._check(self._alone(function, *args))
 
     def close(self) -> None:
         """Lets go what is held. Each later call raises `Refused` with `WRONG_HANDLE`. Raises `Refused`: busy."""

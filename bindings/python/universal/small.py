@@ -24,7 +24,7 @@ from ctypes import byref, c_uint32, c_uint64
 from queue import Full
 from typing import Any, Generic, TypeVar, cast
 
-from . import _LIBRARY, Fault, Refused, _Held, _number, _Shared, _tables, in_threads
+from . import _LIBRARY, _Held, _number, _Shared, _tables, in_threads
 from ._calls import BookCalls, Calls, CounterCalls, CountersCalls, MachineCalls, MapCalls, Over, QueueCalls
 from ._calls import RegisterCalls, Short, StackCalls
 
@@ -52,11 +52,18 @@ class _Seat(Calls, _Held, Generic[_State]):
         return f"<{name}, closed>" if self._is_closed() else f"<{name} of process {self.process}>"
 
     def _apply(self, *words: int) -> Sequence[int]:
+        status, reply = self._asked(_LIBRARY.universal_small_apply, words)
+        self._check(status)
+        return reply
+
+    def _asked(self, function: Any, words: Sequence[int]) -> tuple[int, list[int]]:
+        """The status and the reply of a function that answers an invocation; where it has, the version is the seat's."""
         invocation, version = (c_uint64 * len(words))(*words), c_uint64()
         reply = (c_uint64 * self._replies)()
-        self._call(_LIBRARY.universal_small_apply, invocation, len(words), reply, self._replies, byref(version))
-        self.version = version.value
-        return list(reply)
+        status = self._alone(function, invocation, len(words), reply, self._replies, byref(version))
+        if status == 0:
+            self.version = version.value
+        return status, list(reply)
 
     def _look(self, *words: int) -> Sequence[int]:
         for _ in range(3):
@@ -73,16 +80,10 @@ class _Seat(Calls, _Held, Generic[_State]):
         calls of this seat come after all calls that are in it. The words are those of the macros of `universal.h`, as 0 of a
         counter, whose number is the answer. Raises `Refused`: these aren't as many words as those of the object; the seat is spent.
         """
-        invocation, version = (c_uint64 * len(words))(*(_number(word, 64) for word in words)), c_uint64()
-        reply = (c_uint64 * self._replies)()
-        status = self._alone(
-            _LIBRARY.universal_small_read, invocation, len(words), reply, self._replies, byref(version)
-        )
+        status, reply = self._asked(_LIBRARY.universal_small_read, [_number(word, 64) for word in words])
         if status == _CHANGED:
             return None
-        if status != 0:
-            raise Refused(Fault(status))
-        self.version = version.value
+        self._check(status)
         return tuple(reply)
 
     def follows(self, version: int) -> bool:
@@ -130,9 +131,7 @@ class Small(_Shared[_S], Generic[_S, _State]):
     @classmethod
     def _open(cls, seats_of: type[_S], width: int, function: Callable[..., int], *args: object) -> Small[_S, _State]:
         opened = cls(seats_of, width)
-        status = function(*args, opened._at)
-        if status != 0:
-            raise Refused(Fault(status))
+        cls._check(function(*args, opened._at))
         return opened
 
     def seat(self) -> _S:

@@ -16,6 +16,9 @@ unsafe impl Send for Handle {}
 // By `&` nothing is done with a handle but to print where it points.
 unsafe impl Sync for Handle {}
 
+/// A function of a small object that writes a reply to an invocation, and a version.
+type Ask = unsafe extern "C" fn(&mut Handle, *const u64, usize, *mut u64, usize, &mut u64) -> u32;
+
 /// A reply.
 #[repr(C)]
 #[derive(Clone, Copy, Debug, Default, PartialEq, Eq)]
@@ -243,31 +246,12 @@ impl Handle {
         Ok((reply, version))
     }
 
-    /// A call of a small object, which writes its reply: a version that it is in.
-    pub(crate) fn small_apply_into(&mut self, invocation: &[u64], reply: &mut [u64]) -> Result<u64, Fault> {
-        let mut version = 0;
-        // SAFETY: both slices are borrowed for the call.
-        Fault::of(unsafe {
-            universal_small_apply(
-                self,
-                invocation.as_ptr(),
-                invocation.len(),
-                reply.as_mut_ptr(),
-                reply.len(),
-                &mut version,
-            )
-        })?;
-        Ok(version)
-    }
-
-    /// What a call of a small object would be answered, which is written: the version that has the state. `None` where
-    /// another one came meanwhile; the reply stays then.
-    pub(crate) fn small_read(&mut self, invocation: &[u64], reply: &mut [u64]) -> Result<Option<u64>, Fault> {
-        const CHANGED: u32 = 28;
+    /// What a small object answers to an invocation by a function of it: the status, and the version.
+    fn small_asked(&mut self, ask: Ask, invocation: &[u64], reply: &mut [u64]) -> (u32, u64) {
         let mut version = 0;
         // SAFETY: both slices are borrowed for the call.
         let status = unsafe {
-            universal_small_read(
+            ask(
                 self,
                 invocation.as_ptr(),
                 invocation.len(),
@@ -276,6 +260,21 @@ impl Handle {
                 &mut version,
             )
         };
+        (status, version)
+    }
+
+    /// A call of a small object, which writes its reply: a version that it is in.
+    pub(crate) fn small_apply_into(&mut self, invocation: &[u64], reply: &mut [u64]) -> Result<u64, Fault> {
+        let (status, version) = self.small_asked(universal_small_apply, invocation, reply);
+        Fault::of(status)?;
+        Ok(version)
+    }
+
+    /// What a call of a small object would be answered, which is written: the version that has the state. `None` where
+    /// another one came meanwhile; the reply stays then.
+    pub(crate) fn small_read(&mut self, invocation: &[u64], reply: &mut [u64]) -> Result<Option<u64>, Fault> {
+        const CHANGED: u32 = 28;
+        let (status, version) = self.small_asked(universal_small_read, invocation, reply);
         if status == CHANGED {
             return Ok(None);
         }
