@@ -8,8 +8,10 @@
  *   - a log: a tally, a sticky register, a register, or a machine of two tables, on words of 31 bits. A seat makes up to k
  *     calls, at most 4,096, and the closed log tells all of them in their order.
  *
- * The functions of this file but universal_version stand in crates/universal_c; docs/bindings.md says what is proved of each.
- * Only tested: when memory is refused, and that a call takes no memory and no lock. That all calls have one order is a law of
+ * The functions of this file stand in crates/universal_c, but for universal_version and those that are static inline, which are C
+ * and no part of the proof; docs/bindings.md says what is proved of each. Only tested: when memory is refused, and that a call
+ * takes no memory and no lock. That a read stores nothing in a shared word, takes neither, and finds the present version is in no
+ * clause: it is seen from the code. That all calls have one order is a law of
  * every execution; what closing an object says is of the calls of the seat that closes it. What a caller owes is written here,
  * and nothing checks it.
  *
@@ -131,7 +133,7 @@ static inline const char *universal_strerror(uint32_t status) {
  * program      as it says   ..      ..
  *
  * Where a state has W words, an invocation I and a reply R, a call takes at most 6W + (9 + 3I + 6R)n + I + R + 11 steps on
- * shared words. Where another process's call came since the process's own last one, it copies the whole state, also while the
+ * shared words. Where another process brought in a version since the process's own last one, it copies the whole state, also while the
  * object is empty: some 1.3 nanoseconds a word (docs/measured.md). Where none came, it takes the time of what it touches: one
  * counter, or a value; or, where a map takes or loses a key, as many words as the object holds.
  *

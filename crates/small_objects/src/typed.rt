@@ -1,6 +1,6 @@
 //! Seats that are called with calls, and give replies.
 ghost use Rattle.std.specs.Prelude.{List, [], IfOk, IsErr, IsErrOf, ℕ, ◌+◌, ◌++◌, ◌<◌, ◌≡◌, ◌≢◌, ◌≤◌, ◌⊎◌, ◌↔◌, ◌∷◌};
-ghost use Rattle.std.specs.Prelude.{IfSome, OnErr, OnOk};
+ghost use Rattle.std.specs.Prelude.{IfSome, None, OnErr, OnOk};
 ghost use Rattle.uni_small.specs.Invariant.{most_calls};
 ghost use Rattle.uni_small.specs.Belongs.{IsSeatOf, calls_made, calls_of, invocation_width_of, known_calls, object_of};
 ghost use Rattle.uni_small.specs.Belongs.{own_calls, process_of, processes_of, reply_width_of, sizes_of, version_of};
@@ -96,6 +96,8 @@ impl<O: SmallObject, C: Words, R: Words> TypedSeat<O, C, R> {
         ensures version { IfOk result (λ found. IfSome found (λ told.
             version_of (seat_of self.new) ≡ told.version)) }
         ensures later { version_of (seat_of self.old) ≤ version_of (seat_of self.new) }
+        ensures none { IfOk result (λ found. found ≡ None
+            → version_of (seat_of self.new) ≡ version_of (seat_of self.old)) }
         ensures few_steps { OnOk result (word_steps_of (seat_of self.new)
             ≤ word_steps_of (seat_of self.old) + read_steps (sizes_of shared.now)) }
     {

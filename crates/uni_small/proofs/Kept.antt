@@ -1,5 +1,5 @@
 -- What a process keeps of its two buffers for itself.
-use Rattle.uni_small.proofs.Vocabulary.{AreAlike, Buffers, HasAlready, IsInNone, IsKept, List, Room, Sizes, ap, arith, buffer_words, drop, held_place, image_in, length, length-drop, number_cases, inl, inr, refl, slice_index, spell, subst, sym, with_row, word_held, words_held, ℕ, ◌*◌, ◌+◌, ◌-◌, ◌<◌, ◌∙◌, ◌≡◌, ◌≤◌, ◌⊎◌}
+use Rattle.uni_small.proofs.Vocabulary.{BuffersAgree, Buffers, SpareHas, IsOutsideRows, IsKept, List, Room, Sizes, ap, arith, buffer_words, drop, held_place, image_in, length, length-drop, number_cases, inl, inr, refl, slice_index, spell, subst, sym, with_row, word_held, words_held, ℕ, ◌*◌, ◌+◌, ◌-◌, ◌<◌, ◌∙◌, ◌≡◌, ◌≤◌, ◌⊎◌}
 use Rattle.uni_small.specs.Board.{AreFew}
 use Rattle.uni_small.specs.Touched.{IsUntouched, all_changes, everything}
 use Rattle.uni_small.specs.declared.span.Span.{Span}
@@ -77,14 +77,14 @@ module _ (sizes : Sizes) (own : Buffers) (room : Room) (which : own.spare ≤ 1)
   row_held i below =
       sym (held_index sizes own.held.items room.of (from + i) (omega arith)) ∙ ap (λ (ws : List ℕ). slice_index ws (from + i)) (sym copy) ∙ sym (row_is i below)
 
-  pub row_already : (alike : ℕ → Type 0) → AreAlike sizes own from count alike → length new ≡ count → HasAlready sizes own from new (λ i. alike i × unchanged i)
+  pub row_already : (alike : ℕ → Type 0) → BuffersAgree sizes own from count alike → length new ≡ count → SpareHas sizes own from new (λ i. alike i × unchanged i)
   row_already alike are long i within both =
       one_and_other (λ k. word_held sizes own k (from + i)) own.spare room.of which of (are i (omega arith) both.0)
       ∙ row_held i (omega arith) ∙ sym (same i (omega arith) both.1)
 
   pub row_alike : (own1 : Buffers) (words : List ℕ) → length own.held.items ≡ 2 * buffer_words sizes → length words ≡ buffer_words sizes
       → own1.held.items ≡ with_row own.held.items (held_place sizes own.spare 0) words → ((i : ℕ) → i < count → slice_index words (from + i) ≡ slice_index new i)
-      → AreAlike sizes own1 from count unchanged
+      → BuffersAgree sizes own1 from count unchanged
   row_alike own1 words long whole written there i below stays =
       let other = 1 - own.spare in
       let one : word_held sizes own1 own.spare (from + i) ≡ slice_index row i
@@ -98,7 +98,7 @@ module _ (sizes : Sizes) (own : Buffers) (room : Room) (which : own.spare ≤ 1)
 
 -- a row that the spare buffer has already, after a row before it is written
 pub already_later : (sizes : Sizes) (own own1 : Buffers) (from : ℕ) (row : List ℕ) → own1.spare ≡ own.spare → own1.held.items ≡ with_row own.held.items (held_place sizes own.spare from) row
-    → (at : ℕ) (later : List ℕ) (holds : ℕ → Type 0) → from + length row ≤ at → HasAlready sizes own at later holds → HasAlready sizes own1 at later holds
+    → (at : ℕ) (later : List ℕ) (holds : ℕ → Type 0) → from + length row ≤ at → SpareHas sizes own at later holds → SpareHas sizes own1 at later holds
 already_later sizes own own1 from row spare written at later holds after already i within here =
     (λ k. slice_index (written k) (held_place sizes (spare k) (at + i)))
     ∙ with_row-after own.held.items (held_place sizes own.spare from) row (held_place sizes own.spare (at + i)) (omega arith) ∙ already i within here
@@ -107,9 +107,9 @@ already_later sizes own own1 from row spare written at later holds after already
 pub nothing_untouched : (touched : Touched) → touched ≡ everything → (i : ℕ) → i < 18446744073709551615 → IsUntouched touched i → ⊥
 nothing_untouched touched all i below untouched = let h = (subst (λ t. IsUntouched t i) all untouched).0 in omega (arith, below, h)
 
-pub nothing_outside : (calls : Span) (processes wide i : ℕ) → calls ≡ record { from = 0; to = processes } → i < processes * wide → IsInNone calls wide i → ⊥
+pub nothing_outside : (calls : Span) (processes wide i : ℕ) → calls ≡ record { from = 0; to = processes } → i < processes * wide → IsOutsideRows calls wide i → ⊥
 nothing_outside calls processes wide i all below outside =
-    let is : IsInNone (record { from = 0; to = processes }) wide i = subst (λ (c : Span). IsInNone c wide i) all outside in
+    let is : IsOutsideRows (record { from = 0; to = processes }) wide i = subst (λ (c : Span). IsOutsideRows c wide i) all outside in
     elim is [ inl sooner ↦ (let z : 0 * wide ≡ 0 = omega arith in omega (arith, sooner, z)) | inr after ↦ omega (arith, after, below) ]
 
 -- at first nothing is known of the copy, and both buffers may be apart everywhere

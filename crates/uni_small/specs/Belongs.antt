@@ -74,23 +74,19 @@ seen_in seen = if seen.due then Some seen.invocation.items else None
 abbrev pub all_seen : Room → List (Option (List ℕ))
 all_seen room = map seen_in room.seen.items
 
--- it isn't from one on and before another one
+-- i is below `from`, or not below `to`
 abbrev pub IsOutside : (from to i : ℕ) → Type 0
 IsOutside from to i = (i < from) ⊎ (to ≤ i)
 
--- process q is none of these
-abbrev pub IsBeside : Span → (q : ℕ) → Type 0
-IsBeside span q = IsOutside span.from span.to q
+-- word i, of rows of `wide` words, is in the row of no process of the span
+abbrev pub IsOutsideRows : Span → (wide i : ℕ) → Type 0
+IsOutsideRows span wide i = IsOutside (span.from * wide) (span.to * wide) i
 
--- word i of rows of so many words is in none of theirs
-abbrev pub IsInNone : Span → (wide i : ℕ) → Type 0
-IsInNone span wide i = IsOutside (span.from * wide) (span.to * wide) i
+-- of no process outside the span a call was seen
+abbrev pub IsQuietOutside : Span → List (Option (List ℕ)) → Type 0
+IsQuietOutside span seen = (q : ℕ) → IsOutside span.from span.to q → due_at seen q ≡ 0
 
--- nothing to apply was seen of a process beside these
-abbrev pub IsQuietBeside : Span → List (Option (List ℕ)) → Type 0
-IsQuietBeside span seen = (q : ℕ) → IsBeside span q → due_at seen q ≡ 0
-
--- room for an image, and for what is seen of the processes
+-- Room for an image, and for what is seen of the processes; `busy` is a range of processes, and of none outside it a call was seen.
 pub record HasRoom (sizes : Sizes) (room : Room) : Type 0 where
   pub applied : length room.applied.items ≡ sizes.processes
   pub reply : length room.reply.items ≡ sizes.processes * sizes.reply
@@ -100,7 +96,7 @@ pub record HasRoom (sizes : Sizes) (room : Room) : Type 0 where
   pub saved : length room.saved.items ≡ sizes.state
   pub ordered : room.busy.from ≤ room.busy.to
   pub busy : room.busy.to ≤ sizes.processes
-  pub quiet : IsQuietBeside room.busy (all_seen room)
+  pub quiet : IsQuietOutside room.busy (all_seen room)
 
 -- an image with its replies in words, one after another
 abbrev pub image_of_rows : Sizes → (applied replies state : List ℕ) → Image
@@ -115,34 +111,35 @@ image_in sizes room = image_of_rows sizes room.applied.items room.reply.items ro
 abbrev pub word_held : Sizes → Buffers → (which i : ℕ) → ℕ
 word_held sizes own which i = slice_index own.held.items (held_place sizes which i)
 
--- both buffers of a process have the same words, of so many from one on, where this holds
-abbrev pub AreAlike : Sizes → Buffers → (from count : ℕ) → (holds : ℕ → Type 0) → Type 0
-AreAlike sizes own from count holds =
-    (i : ℕ) → i < count → holds i → word_held sizes own 0 (from + i) ≡ word_held sizes own 1 (from + i)
+-- for each i < count with `at i`, word from + i is the same in both buffers of the process
+abbrev pub BuffersAgree : Sizes → Buffers → (from count : ℕ) → (at : ℕ → Type 0) → Type 0
+BuffersAgree sizes own from count at =
+    (i : ℕ) → i < count → at i → word_held sizes own 0 (from + i) ≡ word_held sizes own 1 (from + i)
 
--- the spare buffer has the words of a row already, from this one on, where this holds
-abbrev pub HasAlready : Sizes → Buffers → (from : ℕ) → (row : List ℕ) → (holds : ℕ → Type 0) → Type 0
-HasAlready sizes own from row holds =
-    (i : ℕ) → i < length row → holds i → word_held sizes own own.spare (from + i) ≡ slice_index row i
+-- for each i < length row with `at i`, word from + i of the spare buffer is word i of the row
+abbrev pub SpareHas : Sizes → Buffers → (from : ℕ) → (row : List ℕ) → (at : ℕ → Type 0) → Type 0
+SpareHas sizes own from row at =
+    (i : ℕ) → i < length row → at i → word_held sizes own own.spare (from + i) ≡ slice_index row i
 
--- neither of two batches changes it
-abbrev pub IsInNeither : (one two : Span) → (wide i : ℕ) → Type 0
-IsInNeither one two wide i = IsInNone one wide i × IsInNone two wide i
+-- neither of two batches of calls changes it
+abbrev pub IsOutsideBoth : (one two : Span) → (wide i : ℕ) → Type 0
+IsOutsideBoth one two wide i = IsOutsideRows one wide i × IsOutsideRows two wide i
 
-abbrev pub IsUntouchedBy : (one two : Touched) → (i : ℕ) → Type 0
-IsUntouchedBy one two i = IsUntouched one i × IsUntouched two i
+abbrev pub IsUntouchedByBoth : (one two : Touched) → (i : ℕ) → Type 0
+IsUntouchedByBoth one two i = IsUntouched one i × IsUntouched two i
 
--- What a process keeps is as it is told: its copy is that of the one of its buffers that `of` names, and its two buffers have the
--- same words of each row but for those that may be apart.
+-- What a process keeps for itself. The copy in `room` is the buffer that `room.of` names (2 names none). The two buffers differ at most
+-- in the rows of the processes `own.apart.calls`, and in the words `own.apart.state` of the state.
 pub record IsKept (sizes : Sizes) (own : Buffers) (room : Room) : Type 0 where
   pub copy : room.of ≤ 1 → spell (image_in sizes room) ≡ words_held sizes own.held.items room.of
   pub ordered : own.apart.calls.from ≤ own.apart.calls.to
   pub inside : own.apart.calls.to ≤ sizes.processes
-  pub applied : AreAlike sizes own 0 sizes.processes (IsInNone own.apart.calls 1)
-  pub reply : AreAlike sizes own sizes.processes (sizes.processes * sizes.reply) (IsInNone own.apart.calls sizes.reply)
-  pub state : AreAlike sizes own (sizes.processes + sizes.processes * sizes.reply) sizes.state (IsUntouched own.apart.state)
+  pub applied : BuffersAgree sizes own 0 sizes.processes (IsOutsideRows own.apart.calls 1)
+  pub reply : BuffersAgree sizes own sizes.processes (sizes.processes * sizes.reply) (IsOutsideRows own.apart.calls sizes.reply)
+  pub state : BuffersAgree sizes own (sizes.processes + sizes.processes * sizes.reply) sizes.state (IsUntouched own.apart.state)
 
--- The seat is one of this object's.
+-- The seat is one of this object's. A caller reads `table` to `inside`: the rest is what the seat keeps for itself. That it is between
+-- calls is so of every seat.
 pub record IsSeatOf {O : Type 0} (shared : SmallShared O) (seat : SmallSeat O) : Type 0 where
   pub table : seat.seat.table_id ≡ shared.table.shared.table_id
   pub object : seat.seat.me.0.object ≡ Some shared.setup.object

@@ -83,8 +83,8 @@ module _ (object : Sequential (List ℕ) (List ℕ) (List ℕ)) (sizes : Sizes) 
 
   -- What such a step of process p does. An announcement invokes a call. An exchange of S that finds what its attempt began with makes the calls
   -- that the attempt saw take effect, in the order of their processes; that of a direct attempt invokes its own call first, which takes effect
-  -- with them. The load of the last word of a reply responds. No other step makes an act. The first step of a direct call is earlier than the
-  -- one that invokes it here: so more calls precede it, and what is said of the order is the stronger; before it, the call has no effect.
+  -- with them. The load of the last word of a reply responds. No other step makes an act. A direct call is invoked here at its exchange, later than where the
+  -- code begins it. So more calls precede it than in the code, and the law is the stronger; before the exchange no other process can see it.
   abbrev pub access_of : (p : ℕ) (l : Local) → Next p l → Access
   access_of p l (Store stored x at inside room) = store_of (argument_word sizes p (length stored)) x (goes l (Idle (stored ++ x ∷ [])))
   access_of p l (Announce inv at whole few) = record {

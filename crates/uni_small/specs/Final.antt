@@ -29,7 +29,8 @@ pub record IsFinal (object : Sequential (List ℕ) (List ℕ) (List ℕ)) (n : �
   pub stand : (its : ProcessReturned) → Contains known its
       → (k : ℕ) (call : Returned) → slice_get its.calls k ≡ Some call → StandsIn object atomic.agreed calls_in_version its.process k call
 
--- A version has this state: there is such a history, and all its calls that took effect are in the version.
+-- A version has this state: there is such a history, and all its calls that took effect are in the version. The history and which of its
+-- calls are in which version are chosen here: two reads, or a read and a closing, need not have the same.
 pub record IsVersion (object : Sequential (List ℕ) (List ℕ) (List ℕ)) (n : ℕ) (known : List ProcessReturned) (version : ℕ)
     (state : List ℕ) : Type 0 where
   pub final : IsFinal object n known state

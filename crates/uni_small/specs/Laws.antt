@@ -15,10 +15,11 @@ use Rattle.uni_small.specs.declared.sizes.Sizes.{Sizes}
 use Rattle.uni_small.specs.declared.view.View.{View}
 
 module _ {O : Type 0} (meaning : O → Meaning) (o : O) (sizes : Sizes) (id : ℕ) (me : Me Seen (View O)) where
-  -- Where the table shows a board, and the word i becomes f of what it was by a step of the seat id, the table shows a board whose history
-  -- has these acts more, the seat is told this, and the seat's process alone stands elsewhere. And each execution that led here leads there with
-  -- one step of that process more.
-  abbrev pub Moves : (i : ℕ) → (f : ℕ → ℕ) → (acts : Board → (found : ℕ) → List (Act (List ℕ) (List ℕ))) → (says : ℕ → Me Seen (View O) → Type 0) → Type 0
+  -- A step of seat `id` turns word i from x into f x. If the table showed the board g, it then shows a board whose history is that of g with
+  -- `acts g x` appended; only the seat's process stands elsewhere; and of x and the seat as it is left `says` holds. Each execution that led
+  -- to the first table leads to the second one by one step more.
+  abbrev pub Moves : (i : ℕ) → (f : ℕ → ℕ) → (acts : Board → (found : ℕ) → List (Act (List ℕ) (List ℕ)))
+      → (says : ℕ → Me Seen (View O) → Type 0) → Type 0
   Moves i f acts says =
       (s : State Seen (View O)) (g : Board) (local : ℕ → Local) (seat_of : ℕ → ℕ) → IsShown sizes meaning o g local seat_of s
       → get_elem? s.views id ≡ some me.0

@@ -10,14 +10,14 @@ use Rattle.uni_small.specs.Execution.Next.{Store, Announce, Follow, Begin, Confi
 use Rattle.uni_small.specs.Execution.Next.{Recount, Reread, Restart}
 use Rattle.uni_small.specs.declared.sizes.Sizes.{Sizes}
 
--- a process is in the midst of a call: it is in an attempt, directly or not, or a direct one has failed, or it has stored words of the
--- invocation; and the call has not returned
+-- a process is in the midst of a call, or of a read: it is in an attempt, directly or not, or a direct one has failed, or it has stored words of
+-- the invocation; and the call has not returned
 abbrev pub IsPending : Stage → (direct : Bool) → Type 0
 IsPending (Idle []) direct = direct ≡ true
 IsPending stage direct = Unit {0}
 
 module _ (object : Sequential (List ℕ) (List ℕ) (List ℕ)) (sizes : Sizes) where
-  -- Where a process has taken so many word steps for its latest call, so many with one more. A call's first step begins a direct attempt,
+  -- How many word steps the latest call has taken after `next`, where it had taken `taken` before. A call's first step begins a direct attempt,
   -- or, where none was made, stores the first word of its invocation, or announces the call where it has no words. To ask which version has
   -- come is no step of a call, and neither is what a new owner of its seat loads before the call begins again, from which on it is counted. A
   -- read is no call: it begins as a direct attempt, and where it ends nothing counts.

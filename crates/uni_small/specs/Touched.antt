@@ -3,13 +3,13 @@ use Rattle.std.specs.Prelude.{◌≡◌, ◌⊎◌, ℕ, ◌<◌, ◌≤◌, Lis
 use Rattle.uni_small.specs.declared.touched.Touched.{Touched}
 use Rattle.uni_small.specs.declared.touched.Changes.{Changes}
 
--- word i is none of these
+-- word i isn't touched
 abbrev pub IsUntouched : Touched → (i : ℕ) → Type 0
 IsUntouched touched i = (touched.head ≤ i) × ((i < touched.from) ⊎ (touched.to ≤ i))
 
--- of two states each word that is none of these is the same
-abbrev pub AreAlikeBeside : Touched → (state other : List ℕ) → Type 0
-AreAlikeBeside touched state other =
+-- two states have the same words but for the touched ones
+abbrev pub AreSameOutside : Touched → (state other : List ℕ) → Type 0
+AreSameOutside touched state other =
     (i : ℕ) → i < length state → IsUntouched touched i → slice_index other i ≡ slice_index state i
 
 -- all words

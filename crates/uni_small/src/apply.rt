@@ -167,8 +167,9 @@ impl<O: SmallObject> SmallSeat<O> {
     /// `6 * W + (9 + 3 * I + 6 * R) * n + I + R + 11` word steps with n processes, whatever the other seats do,
     /// and takes no memory and no lock. Where its direct attempt fails it pauses 40 times, which touches no word.
     ///
-    /// The call comes after all calls that are in the version which the seat has, and its own version is
-    /// greater; the seat has that one then.
+    /// The call comes after all calls that are in the version which the seat follows, and its own version is greater;
+    /// the seat follows that one then. That the reply is the object's is the law `every_execution_is_linearizable`,
+    /// and what closing says.
     ///
     /// The error says that the seat has made all the calls that it can make; nothing is changed then.
     pub fn apply(

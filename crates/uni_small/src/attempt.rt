@@ -11,10 +11,10 @@ ghost use Rattle.uni_small.specs.Plays.{stage_of, IsNamed, IsGood, begun, words_
 ghost use Rattle.uni_small.specs.Standing.{GoesBy, GoesWithin, IsAsking, IsCopying, IsLooking, IsOf};
 ghost use Rattle.uni_small.specs.Standing.{EndsWithin, HasCopy, HasRow, IsAnnounced, IsDirect, TriesWithin};
 ghost use Rattle.uni_small.specs.Standing.{WritesWithin, attempt_steps, local_of};
-ghost use Rattle.uni_small.specs.Belongs.{AreBuffers, HasAlready, HasInvocation, HasRoom};
-ghost use Rattle.uni_small.specs.Belongs.{IsBeside, IsInNeither, IsInNone, IsKept, IsOutside, IsQuietBeside};
-ghost use Rattle.uni_small.specs.Belongs.{IsUntouchedBy};
-ghost use Rattle.uni_small.specs.Touched.{AreAlikeBeside};
+ghost use Rattle.uni_small.specs.Belongs.{AreBuffers, SpareHas, HasInvocation, HasRoom};
+ghost use Rattle.uni_small.specs.Belongs.{IsOutsideBoth, IsOutsideRows, IsKept, IsOutside, IsQuietOutside};
+ghost use Rattle.uni_small.specs.Belongs.{IsUntouchedByBoth};
+ghost use Rattle.uni_small.specs.Touched.{AreSameOutside};
 ghost use Rattle.uni_small.specs.declared.seat.Seen.{Seen};
 ghost use Rattle.uni_small.specs.Belongs.{all_seen, image_in, image_of_rows, seen_in};
 
@@ -118,7 +118,7 @@ impl<O: SmallObject> SmallShared<O> {
     /// Forgets what was seen of these processes.
     fn forget(&self, seen: &mut [Seen], busy: Span)
         requires busy { (busy.from ≤ busy.to) × (busy.to ≤ length seen.old) }
-        requires quiet { IsQuietBeside busy (map seen_in seen.old) }
+        requires quiet { IsQuietOutside busy (map seen_in seen.old) }
         requires room { All (HasInvocation self.now.setup.sizes) seen.old }
         ensures none { (q : ℕ) → due_at (map seen_in seen.new) q ≡ 0 }
         ensures room { All (HasInvocation self.now.setup.sizes) seen.new }
@@ -154,7 +154,7 @@ impl<O: SmallObject> SmallShared<O> {
             (Reading tries s copy (map seen_in seen.new)) seat.new.me }
         ensures room { All (HasInvocation self.now.setup.sizes) seen.new }
         ensures busy { (result.from ≤ result.to) × (result.to ≤ self.now.setup.sizes.processes) }
-        ensures quiet { IsQuietBeside result (map seen_in seen.new) }
+        ensures quiet { IsQuietOutside result (map seen_in seen.new) }
     {
         let mut busy = Span::NONE;
         for r in 0..self.setup.sizes.processes {
@@ -199,7 +199,7 @@ impl<O: SmallObject> SmallShared<O> {
             (r * self.now.setup.sizes.reply + self.now.setup.sizes.reply) i
             → slice_index reply.new i ≡ slice_index reply.old i }
         ensures touched { (first : List ℕ) → length first ≡ length state.old
-            → AreAlikeBeside touched.old first state.old → AreAlikeBeside touched.new first state.new }
+            → AreSameOutside touched.old first state.old → AreSameOutside touched.new first state.new }
     {
         if !seen.due {
             return;
@@ -231,14 +231,14 @@ impl<O: SmallObject> SmallShared<O> {
         requires good { IsGood (O.meaning self.now.setup.object) self.now.setup.sizes
             (image_of_rows self.now.setup.sizes applied.old reply.old state.old) }
         requires busy { (busy.from ≤ busy.to) × (busy.to ≤ self.now.setup.sizes.processes) }
-        requires quiet { IsQuietBeside busy (map seen_in seen.now) }
+        requires quiet { IsQuietOutside busy (map seen_in seen.now) }
         ensures image { image_of_rows self.now.setup.sizes applied.new reply.new state.new
             ≡ with_seen (O.meaning self.now.setup.object).object
             (image_of_rows self.now.setup.sizes applied.old reply.old state.old) 0 (map seen_in seen.now) }
-        ensures applied { (q : ℕ) → IsBeside busy q → slice_index applied.new q ≡ slice_index applied.old q }
-        ensures reply { (i : ℕ) → IsInNone busy self.now.setup.sizes.reply i
+        ensures applied { (q : ℕ) → IsOutside busy.from busy.to q → slice_index applied.new q ≡ slice_index applied.old q }
+        ensures reply { (i : ℕ) → IsOutsideRows busy self.now.setup.sizes.reply i
             → slice_index reply.new i ≡ slice_index reply.old i }
-        ensures touched { AreAlikeBeside result state.old state.new }
+        ensures touched { AreSameOutside result state.old state.new }
     {
         let mut touched = Touched::NONE;
         for r in busy.from as usize..busy.to as usize {
@@ -266,7 +266,7 @@ impl<O: SmallObject> SmallShared<O> {
         requires of { IsOf self.now.setup.object self.now.setup.sizes p seat.old.me }
         requires stage { HasRow (O.meaning self.now.setup.object).object self.now.setup.sizes from row.now seat.old.me }
         requires own { AreBuffers self.now.setup.sizes (local_of seat.old.me) own.old }
-        requires alike { HasAlready self.now.setup.sizes own.old from row.now (IsOutside first end) }
+        requires alike { SpareHas self.now.setup.sizes own.old from row.now (IsOutside first end) }
         ensures same { (seat.new.table_id ≡ seat.old.table_id) × (seat.new.id ≡ seat.old.id) }
         ensures goes { WritesWithin seat.old.me from (length row.now) own.new.held.items seat.new.me }
         ensures spare { own.new.spare ≡ own.old.spare }
@@ -303,7 +303,7 @@ impl<O: SmallObject> SmallShared<O> {
         requires of { IsOf self.now.setup.object self.now.setup.sizes p seat.old.me }
         requires stage { HasRow (O.meaning self.now.setup.object).object self.now.setup.sizes from row.now seat.old.me }
         requires own { AreBuffers self.now.setup.sizes (local_of seat.old.me) own.old }
-        requires alike { HasAlready self.now.setup.sizes own.old from row.now (IsUntouchedBy apart touched) }
+        requires alike { SpareHas self.now.setup.sizes own.old from row.now (IsUntouchedByBoth apart touched) }
         ensures same { (seat.new.table_id ≡ seat.old.table_id) × (seat.new.id ≡ seat.old.id) }
         ensures goes { WritesWithin seat.old.me from (length row.now) own.new.held.items seat.new.me }
         ensures spare { own.new.spare ≡ own.old.spare }
@@ -486,13 +486,13 @@ impl<O: SmallObject> SmallShared<O> {
             × (touched.calls.to ≤ self.now.setup.sizes.processes) }
         requires apart { (own.old.apart.calls.from ≤ own.old.apart.calls.to)
             × (own.old.apart.calls.to ≤ self.now.setup.sizes.processes) }
-        requires applied { HasAlready self.now.setup.sizes own.old 0 room.now.applied.items
-            (IsInNeither own.old.apart.calls touched.calls 1) }
-        requires reply { HasAlready self.now.setup.sizes own.old self.now.setup.sizes.processes room.now.reply.items
-            (IsInNeither own.old.apart.calls touched.calls self.now.setup.sizes.reply) }
-        requires state { HasAlready self.now.setup.sizes own.old
+        requires applied { SpareHas self.now.setup.sizes own.old 0 room.now.applied.items
+            (IsOutsideBoth own.old.apart.calls touched.calls 1) }
+        requires reply { SpareHas self.now.setup.sizes own.old self.now.setup.sizes.processes room.now.reply.items
+            (IsOutsideBoth own.old.apart.calls touched.calls self.now.setup.sizes.reply) }
+        requires state { SpareHas self.now.setup.sizes own.old
             (self.now.setup.sizes.processes + self.now.setup.sizes.processes * self.now.setup.sizes.reply)
-            room.now.state.items (IsUntouchedBy own.old.apart.state touched.state) }
+            room.now.state.items (IsUntouchedByBoth own.old.apart.state touched.state) }
         ensures same { (seat.new.table_id ≡ seat.old.table_id) × (seat.new.id ≡ seat.old.id) }
         ensures goes { WritesWithin seat.old.me 0 (buffer_words self.now.setup.sizes) own.new.held.items seat.new.me }
         ensures spare { own.new.spare ≡ own.old.spare }

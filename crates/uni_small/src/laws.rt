@@ -1,4 +1,5 @@
-//! What the steps on words append to the history, each law the contract of a function with an empty body.
+//! The laws, each the contract of a function with an empty body: what each step on words appends to the history; and at
+//! the end that each execution is linearizable and wait-free.
 ghost use Rattle.std.specs.Prelude.{◌≡◌, ◌≢◌, ◌==◌, ℕ, ◌+◌, ◌*◌, ◌<◌, ◌≤◌};
 ghost use Rattle.std.specs.Prelude.{List, Option, Some, [], length, slice_get, slice_index, slice_set};
 ghost use prog.Atomic.{either};
@@ -153,7 +154,8 @@ pub fn loads_append_nothing<O: SmallObject>()
         → Moves O.meaning o sizes id me 0 (λ x. x) nothing (λ found me'. HasRestarted st me found me') }
 {}
 
-/// The version of a call that has returned has come. That who follows it is answered `true` is in no clause of a call.
+/// The version of a call that has returned has come: the word S names it, or a later one. That whoever follows it is
+/// answered `true` is in no clause of a call.
 pub fn returned_has_come<O: SmallObject>()
     ensures { (o : O) (sizes : Sizes) (g : Board) (local : ℕ → Local) (seat_of : ℕ → ℕ)
         (s : State Seen (View O)) (p k : ℕ) (call : Returned) →
@@ -164,8 +166,8 @@ pub fn returned_has_come<O: SmallObject>()
 
 /// Every execution from the opening, in which the processes take their word steps in any order, is linearizable
 /// in real time: each call takes effect at one of the steps between the one that invokes it, which is its
-/// announcement or the exchange of its direct attempt, and its last one. And strongly: where an execution goes on,
-/// only further calls come behind those that took effect.
+/// announcement or the exchange of its direct attempt, which the code begins earlier, and its last one. And strongly:
+/// where an execution goes on, only further calls come behind those that took effect.
 pub fn every_execution_is_linearizable<O: SmallObject>()
     ensures linearized { (o : O) (sizes : Sizes) → AreSizesOf (O.meaning o) sizes
         → (e : Execution (O.meaning o).object sizes (opened_moment (O.meaning o).object sizes))

@@ -1,7 +1,7 @@
 //! What an object of several words is.
 ghost use Rattle.std.specs.Prelude.{◌≡◌, length};
 ghost use Rattle.uni_small.specs.Image.{IsReached, IsSteady, Meaning};
-ghost use Rattle.uni_small.specs.Touched.{AreAlikeBeside};
+ghost use Rattle.uni_small.specs.Touched.{AreSameOutside};
 
 use crate::touched::Touched;
 
@@ -40,12 +40,12 @@ pub trait SmallObject: Drop {
         ensures reply { reply.new ≡ (meaning self.now).object.answer state.old invocation.now };
 
     /// Which words of a state that calls lead to an invocation may change: all of them, where an object doesn't say.
-    /// Where no other process's call came since the last one of its own, a call compares and stores no others.
+    /// Where no other process brought in a version since its own last one, a call compares and stores no others.
     fn touches(&self, state: &[u64], invocation: &[u64]) -> Touched
         requires wide { length state.now ≡ length (meaning self.now).object.initial }
         requires invocation { length invocation.now ≡ (meaning self.now).invocation }
         requires reached { IsReached (meaning self.now).object state.now }
-        ensures { AreAlikeBeside result state.now ((meaning self.now).object.next state.now invocation.now) }
+        ensures { AreSameOutside result state.now ((meaning self.now).object.next state.now invocation.now) }
     {
         Touched {
             head: self.width(),

@@ -74,7 +74,8 @@ impl<O: SmallObject> SmallShared<O> {
 
 impl<O: SmallObject> SmallSeat<O> {
     /// Reads the present state, without a call: the answer is its version, and `state` shows it. Nothing is stored in a
-    /// shared word. Where no other process has made a call since this seat's last one, no word of the state is loaded.
+    /// shared word. Where S names a buffer of this seat's own process, as after a call that it brought in itself, no word
+    /// of the state is loaded.
     ///
     /// The version has the state after all calls that took effect in a history that the atomic object accepts, and all
     /// calls of the seat are among them. The seat follows it: its later calls come after all calls that are in that
@@ -107,8 +108,8 @@ impl<O: SmallObject> SmallSeat<O> {
         Ok(shared.copy_present(&mut self.seat, self.p, &self.own, &mut self.room))
     }
 
-    /// The words of the state that `refresh` has read last. After a call of the seat, or where `refresh` has answered
-    /// `None`, they are of no use.
+    /// The words of the state that `refresh` has read last. After a call or a `read` of the seat, or where `refresh` has
+    /// answered `None`, they are of no use.
     pub fn state(&self) -> &[u64]
         ensures { result.now ≡ state_read self.now }
     {

@@ -1,6 +1,6 @@
 //! Processes one after another.
 ghost use Rattle.std.specs.Prelude.{◌≢◌, ◌*◌, ◌<◌, ◌≤◌, ℕ};
-ghost use Rattle.uni_small.specs.Belongs.{IsBeside, IsOutside};
+ghost use Rattle.uni_small.specs.Belongs.{IsOutside};
 
 /// The processes from one on that are before another one.
 #[derive(Clone, Copy)]
@@ -39,7 +39,7 @@ impl Span {
         requires few { r < 64 }
         ensures ordered { result.from ≤ result.to }
         ensures last { (most : ℕ) → self.to ≤ most → r < most → result.to ≤ most }
-        ensures beside { (q : ℕ) → IsBeside result q → IsBeside self q × (q ≢ r) }
+        ensures beside { (q : ℕ) → IsOutside result.from result.to q → IsOutside self.from self.to q × (q ≢ r) }
     {
         self.join(Span { from: r, to: r + 1 })
     }

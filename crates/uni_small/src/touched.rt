@@ -4,7 +4,7 @@ ghost use Rattle.uni_small.specs.Touched.{IsUntouched, all_changes};
 
 use crate::span::Span;
 
-/// Words of a state: those before the word `head`, and those from the word `from` on that are before the word `to`.
+/// Words of a state: those below `head`, and those from `from` up to, but not including, `to`.
 #[derive(Clone, Copy, Debug, PartialEq, Eq)]
 pub struct Touched {
     /// How many words there are at the head of the state.

@@ -1,5 +1,5 @@
 use Rattle.uni_small.proofs.Vocabulary.{IsReached, drop, image_of_rows, length, map, most_calls, seen_in, slice_index, with_seen, ℕ, ◌*◌, ◌<◌, ◌≡◌, ◌≤◌, ◌⊎◌}
-use Rattle.uni_small.specs.Touched.{AreAlikeBeside}
+use Rattle.uni_small.specs.Touched.{AreSameOutside}
 use Rattle.uni_small.proofs.log.SmallShared.apply_seen.Given as goal
 
 abbrev pub invariant-loop-r : goal.invariant-loop-r
@@ -11,6 +11,6 @@ invariant-loop-r g l =
     × IsReached object l.state
     × ((q : ℕ) → l.r ≤ q → q < sizes.processes → slice_index l.applied q ≤ most_calls)
     × (length l.state ≡ length l.fn.state)
-    × AreAlikeBeside l.touched l.fn.state l.state
+    × AreSameOutside l.touched l.fn.state l.state
     × ((q : ℕ) → (q < l.fn.busy.from) ⊎ (l.r ≤ q) → slice_index l.applied q ≡ slice_index l.fn.applied q)
     × ((i : ℕ) → (i < l.fn.busy.from * sizes.reply) ⊎ (l.r * sizes.reply ≤ i) → slice_index l.reply i ≡ slice_index l.fn.reply i)

@@ -1,4 +1,4 @@
-use Rattle.uni_small.proofs.Vocabulary.{HasAlready, HasRoom, Image, List, Room, Sizes, all_seen, ap, arith, buffer_words, held_place, image_in, image_of_rows, length, map, seen_in, slice_index, spell, subst, sym, with_items_is, with_seen, words_held, ℕ, ◌*◌, ◌+◌, ◌<◌, ◌∙◌, ◌≡◌, IsBeside, IsInNeither, IsInNone, IsUntouchedBy, inl, inr}
+use Rattle.uni_small.proofs.Vocabulary.{IsOutside, SpareHas, HasRoom, Image, List, Room, Sizes, all_seen, ap, arith, buffer_words, held_place, image_in, image_of_rows, length, map, seen_in, slice_index, spell, subst, sym, with_items_is, with_seen, words_held, ℕ, ◌*◌, ◌+◌, ◌<◌, ◌∙◌, ◌≡◌, IsOutsideBoth, IsOutsideRows, IsUntouchedByBoth, inl, inr}
 use Rattle.std.specs.Vec.{with_items}
 use Rattle.uni_small.specs.Touched.{IsUntouched}
 use Rattle.uni_small.specs.declared.span.Span.{Span}
@@ -19,7 +19,7 @@ applied_is sizes room has i below =
     sym (spell-applied sizes (image_in sizes room) (room_rows sizes room has) i below) ∙ ap (slice_index (spell (image_in sizes room))) (let e : i ≡ 0 + i = omega arith in e)
 
 -- a process is in none of these if its word is in none of rows of one
-beside_of_one : (calls : Span) (q : ℕ) → IsInNone calls 1 q → IsBeside calls q
+beside_of_one : (calls : Span) (q : ℕ) → IsOutsideRows calls 1 q → IsOutside calls.from calls.to q
 beside_of_one calls q outside = elim outside [ inl sooner ↦ inl (omega (arith, sooner)) | inr after ↦ inr (omega (arith, after)) ]
 
 pub write-requires-clause-applied : goal.write-requires-clause-applied
@@ -32,13 +32,13 @@ write-requires-clause-applied g c =
     let is = with_items_is room.applied new (c.apply_seen-state.auto.applied ∙ c.deref_mut.ensures.len) in
     let old : length c.deref_mut.result.now ≡ sizes.processes = ap size c.deref_mut.ensures.value ∙ c.requires.room.applied in
     let long : length new ≡ sizes.processes = c.apply_seen-state.auto.applied ∙ old in
-    subst (λ row. HasAlready sizes own 0 row (IsInNeither own.apart.calls calls 1)) (sym is)
+    subst (λ row. SpareHas sizes own 0 row (IsOutsideBoth own.apart.calls calls 1)) (sym is)
     (elim c.if-is_from_other.branch [
       | then-is_from_other w ↦
-          row_already sizes own room c.requires.own.which w.if-is_from_other.true (c.requires.kept.copy (let o = w.if-is_from_other.true in omega arith)) 0 sizes.processes (omega arith) room.applied.items new (IsInNone calls 1)
+          row_already sizes own room c.requires.own.which w.if-is_from_other.true (c.requires.kept.copy (let o = w.if-is_from_other.true in omega arith)) 0 sizes.processes (omega arith) room.applied.items new (IsOutsideRows calls 1)
           (applied_is sizes room c.requires.room)
-          (λ i inside stays. c.apply_seen-state.ensures.applied i (beside_of_one room.busy i (subst (λ (s : Span). IsInNone s 1 i) (ap (λ (t : Changes). t.calls) w.touched-is) stays)) ∙ ap (λ (xs : List ℕ). slice_index xs i) c.deref_mut.ensures.value)
-          (IsInNone own.apart.calls 1) c.requires.kept.applied long
+          (λ i inside stays. c.apply_seen-state.ensures.applied i (beside_of_one room.busy i (subst (λ (s : Span). IsOutsideRows s 1 i) (ap (λ (t : Changes). t.calls) w.touched-is) stays)) ∙ ap (λ (xs : List ℕ). slice_index xs i) c.deref_mut.ensures.value)
+          (IsOutsideRows own.apart.calls 1) c.requires.kept.applied long
       | else-is_from_other w ↦ (λ i within both. absurd (nothing_outside calls sizes.processes 1 i (ap (λ (t : Changes). t.calls) (w.touched-is ∙ w.all-touched.ensures)) (omega (arith, within, long)) both.1))
     ])
 
@@ -52,13 +52,13 @@ write-requires-clause-reply g c =
     let is = with_items_is room.reply new (c.apply_seen-state.auto.reply ∙ c.deref_mut-2.ensures.len) in
     let old : length c.deref_mut-2.result.now ≡ (sizes.processes * sizes.reply) = ap size c.deref_mut-2.ensures.value ∙ c.requires.room.reply in
     let long : length new ≡ (sizes.processes * sizes.reply) = c.apply_seen-state.auto.reply ∙ old in
-    subst (λ row. HasAlready sizes own sizes.processes row (IsInNeither own.apart.calls calls sizes.reply)) (sym is)
+    subst (λ row. SpareHas sizes own sizes.processes row (IsOutsideBoth own.apart.calls calls sizes.reply)) (sym is)
     (elim c.if-is_from_other.branch [
       | then-is_from_other w ↦
-          row_already sizes own room c.requires.own.which w.if-is_from_other.true (c.requires.kept.copy (let o = w.if-is_from_other.true in omega arith)) sizes.processes (sizes.processes * sizes.reply) (omega arith) room.reply.items new (IsInNone calls sizes.reply)
+          row_already sizes own room c.requires.own.which w.if-is_from_other.true (c.requires.kept.copy (let o = w.if-is_from_other.true in omega arith)) sizes.processes (sizes.processes * sizes.reply) (omega arith) room.reply.items new (IsOutsideRows calls sizes.reply)
           (λ i below. room_reply sizes room c.requires.room i below)
-          (λ i inside stays. c.apply_seen-state.ensures.reply i (subst (λ (s : Span). IsInNone s sizes.reply i) (ap (λ (t : Changes). t.calls) w.touched-is) stays) ∙ ap (λ (xs : List ℕ). slice_index xs i) c.deref_mut-2.ensures.value)
-          (IsInNone own.apart.calls sizes.reply) c.requires.kept.reply long
+          (λ i inside stays. c.apply_seen-state.ensures.reply i (subst (λ (s : Span). IsOutsideRows s sizes.reply i) (ap (λ (t : Changes). t.calls) w.touched-is) stays) ∙ ap (λ (xs : List ℕ). slice_index xs i) c.deref_mut-2.ensures.value)
+          (IsOutsideRows own.apart.calls sizes.reply) c.requires.kept.reply long
       | else-is_from_other w ↦ (λ i within both. absurd (nothing_outside calls sizes.processes sizes.reply i (ap (λ (t : Changes). t.calls) (w.touched-is ∙ w.all-touched.ensures)) (omega (arith, within, long)) both.1))
     ])
 
@@ -72,7 +72,7 @@ write-requires-clause-state g c =
     let is = with_items_is room.state new (c.apply_seen-state.auto.state ∙ c.deref_mut-3.ensures.len) in
     let old : length c.deref_mut-3.result.now ≡ sizes.state = ap size c.deref_mut-3.ensures.value ∙ c.requires.room.state in
     let long : length new ≡ sizes.state = c.apply_seen-state.auto.state ∙ old in
-    subst (λ row. HasAlready sizes own (sizes.processes + sizes.processes * sizes.reply) row (IsUntouchedBy own.apart.state c.if-is_from_other.touched.state)) (sym is)
+    subst (λ row. SpareHas sizes own (sizes.processes + sizes.processes * sizes.reply) row (IsUntouchedByBoth own.apart.state c.if-is_from_other.touched.state)) (sym is)
     (elim c.if-is_from_other.branch [
       | then-is_from_other w ↦
           row_already sizes own room c.requires.own.which w.if-is_from_other.true (c.requires.kept.copy (let o = w.if-is_from_other.true in omega arith)) (sizes.processes + sizes.processes * sizes.reply) sizes.state (omega arith) room.state.items new (IsUntouched c.if-is_from_other.touched.state)
@@ -195,17 +195,17 @@ returns-clause-kept g c =
       ];
       applied = elim c.if-is_from_other.branch [
         | then-is_from_other w ↦
-            row_alike sizes own room c.requires.own.which w.if-is_from_other.true (c.requires.kept.copy (let o = w.if-is_from_other.true in omega arith)) 0 sizes.processes (omega arith) room.applied.items new.applied (IsInNone calls 1)
+            row_alike sizes own room c.requires.own.which w.if-is_from_other.true (c.requires.kept.copy (let o = w.if-is_from_other.true in omega arith)) 0 sizes.processes (omega arith) room.applied.items new.applied (IsOutsideRows calls 1)
             (applied_is sizes room c.requires.room)
-            (λ i inside stays. c.apply_seen-state.ensures.applied i (beside_of_one room.busy i (subst (λ (s : Span). IsInNone s 1 i) (ap (λ (t : Changes). t.calls) w.touched-is) stays)) ∙ ap (λ (xs : List ℕ). slice_index xs i) c.deref_mut.ensures.value)
+            (λ i inside stays. c.apply_seen-state.ensures.applied i (beside_of_one room.busy i (subst (λ (s : Span). IsOutsideRows s 1 i) (ap (λ (t : Changes). t.calls) w.touched-is) stays)) ∙ ap (λ (xs : List ℕ). slice_index xs i) c.deref_mut.ensures.value)
             c.write.new.own words c.requires.own.long whole c.write.ensures.written (λ i below. sym (applied_is sizes room1 has i below) ∙ ap (λ (xs : List ℕ). slice_index xs i) a)
         | else-is_from_other w ↦ (λ i within outside. absurd (nothing_outside calls sizes.processes 1 i (ap (λ (t : Changes). t.calls) (w.touched-is ∙ w.all-touched.ensures)) (omega (arith, within)) outside))
       ];
       reply = elim c.if-is_from_other.branch [
         | then-is_from_other w ↦
-            row_alike sizes own room c.requires.own.which w.if-is_from_other.true (c.requires.kept.copy (let o = w.if-is_from_other.true in omega arith)) sizes.processes (sizes.processes * sizes.reply) (omega arith) room.reply.items new.reply (IsInNone calls sizes.reply)
+            row_alike sizes own room c.requires.own.which w.if-is_from_other.true (c.requires.kept.copy (let o = w.if-is_from_other.true in omega arith)) sizes.processes (sizes.processes * sizes.reply) (omega arith) room.reply.items new.reply (IsOutsideRows calls sizes.reply)
             (λ i below. room_reply sizes room c.requires.room i below)
-            (λ i inside stays. c.apply_seen-state.ensures.reply i (subst (λ (s : Span). IsInNone s sizes.reply i) (ap (λ (t : Changes). t.calls) w.touched-is) stays) ∙ ap (λ (xs : List ℕ). slice_index xs i) c.deref_mut-2.ensures.value)
+            (λ i inside stays. c.apply_seen-state.ensures.reply i (subst (λ (s : Span). IsOutsideRows s sizes.reply i) (ap (λ (t : Changes). t.calls) w.touched-is) stays) ∙ ap (λ (xs : List ℕ). slice_index xs i) c.deref_mut-2.ensures.value)
             c.write.new.own words c.requires.own.long whole c.write.ensures.written (λ i below. sym (room_reply sizes room1 has i below) ∙ ap (λ (xs : List ℕ). slice_index xs i) b)
         | else-is_from_other w ↦ (λ i within outside. absurd (nothing_outside calls sizes.processes sizes.reply i (ap (λ (t : Changes). t.calls) (w.touched-is ∙ w.all-touched.ensures)) (omega (arith, within)) outside))
       ];

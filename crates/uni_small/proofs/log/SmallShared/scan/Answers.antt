@@ -1,4 +1,4 @@
-use Rattle.uni_small.proofs.Vocabulary.{All-set, GoesBy, HasInvocation, IsQuietBeside, List, None, Reading, Seen, [], ap, arith, due_at, get_or-set_other, get_or_append_left, length, length-map, length-set, length-take-le, map, map_push, refl, seen_in, set, slice_index, subst, suc, suc-mul, sym, take, take-length, take_more_set, ℕ, ◌*◌, ◌++◌, ◌+◌, ◌<◌, ◌∙◌, ◌∷◌, ◌≡◌, ◌≢◌}
+use Rattle.uni_small.proofs.Vocabulary.{All-set, GoesBy, HasInvocation, IsQuietOutside, List, None, Reading, Seen, [], ap, arith, due_at, get_or-set_other, get_or_append_left, length, length-map, length-set, length-take-le, map, map_push, refl, seen_in, set, slice_index, subst, suc, suc-mul, sym, take, take-length, take_more_set, ℕ, ◌*◌, ◌++◌, ◌+◌, ◌<◌, ◌∙◌, ◌∷◌, ◌≡◌, ◌≢◌}
 use Rattle.uni_small.proofs.Lists.{due-elsewhere, due-none}
 use Rattle.uni_small.proofs.Rooms.{none_due, seen_none, whole_seen}
 use Rattle.uni_small.specs.declared.span.Span.{Span}
@@ -94,11 +94,11 @@ loop-r-preserved g c = (
   ]),
   (elim c.if-due.branch [
     | then-due w ↦
-        subst (λ span. IsQuietBeside span (map seen_in (take (c.loop-r.r + 1) (set c.loop-r.seen c.loop-r.r c.see-due.new.seen)))) (sym w.busy-is)
+        subst (λ span. IsQuietOutside span (map seen_in (take (c.loop-r.r + 1) (set c.loop-r.seen c.loop-r.r c.see-due.new.seen)))) (sym w.busy-is)
         (λ q beside. let both = w.with-busy.ensures.beside q beside in
         due_of_others c.loop-r.seen c.loop-r.r (omega arith) c.see-due.new.seen q both.1 ∙ c.loop-r.invariant.6 q both.0)
     | else-due w ↦
-        subst (λ span. IsQuietBeside span (map seen_in (take (c.loop-r.r + 1) (set c.loop-r.seen c.loop-r.r c.see-due.new.seen)))) (sym w.busy-is)
+        subst (λ span. IsQuietOutside span (map seen_in (take (c.loop-r.r + 1) (set c.loop-r.seen c.loop-r.r c.see-due.new.seen)))) (sym w.busy-is)
         (λ q beside. due_of_nobody c.loop-r.seen c.loop-r.r (omega arith) c.see-due.new.seen (seen_none c.see-due.new.seen (c.see-due.ensures.due ∙ w.if-due.false)) q ∙ c.loop-r.invariant.6 q beside)
   ]),
   (λ q x from below.
@@ -123,4 +123,4 @@ pub returns-clause-quiet : goal.returns-clause-quiet
 returns-clause-quiet g c =
     let long : c.loop-r.r ≡ length c.loop-r.seen = (let s = c.loop-r.auto.seen in let t = c.loop-r-test.false in let e = c.loop-r.auto.r-end in omega arith) in
     let whole : take c.loop-r.r c.loop-r.seen ≡ c.loop-r.seen = ap (λ k. take k c.loop-r.seen) long ∙ take-length c.loop-r.seen in
-    subst (λ xs. IsQuietBeside c.loop-r.busy (map seen_in xs)) whole c.loop-r.invariant.6
+    subst (λ xs. IsQuietOutside c.loop-r.busy (map seen_in xs)) whole c.loop-r.invariant.6

@@ -1,4 +1,4 @@
-use Rattle.uni_small.proofs.Vocabulary.{All, GoesBy, HasInvocation, IsQuietBeside, List, Reading, Seen, [], ap, arith, image_in, joined, length, map, seen_in, spell, subst, sym, with_items_is, ℕ, ◌++◌, ◌+◌, ◌∙◌, ◌≡◌}
+use Rattle.uni_small.proofs.Vocabulary.{All, GoesBy, HasInvocation, IsQuietOutside, List, Reading, Seen, [], ap, arith, image_in, joined, length, map, seen_in, spell, subst, sym, with_items_is, ℕ, ◌++◌, ◌+◌, ◌∙◌, ◌≡◌}
 use Rattle.std.specs.Vec.{with_items}
 use Rattle.uni_small.proofs.Going.{stage_after, goes_more}
 use Rattle.uni_small.proofs.Images.{spell-length}
@@ -54,5 +54,5 @@ returns-clause-room g c =
       saved = was.saved;
       ordered = c.scan-room.ensures.busy.0;
       busy = c.scan-room.ensures.busy.1;
-      quiet = subst (λ xs. IsQuietBeside c.scan-room.result (map seen_in xs)) (sym items) c.scan-room.ensures.quiet;
+      quiet = subst (λ xs. IsQuietOutside c.scan-room.result (map seen_in xs)) (sym items) c.scan-room.ensures.quiet;
     }

@@ -1,4 +1,4 @@
-use Rattle.uni_small.proofs.Vocabulary.{AreBuffers, Buffers, HasAlready, HasComeTo, HasRoom, Image, IsOutside, IsUntouchedBy, inl, inr, mul-le-mul_right, Me, Option, Seen, Sequential, View, WritesWithin, local_of, subst, ◌≤◌, List, Room, Sizes, ap, arith, buffer_words, held_place, image_in, length, refl, slice_index, spell, sym, with_row, with_seen, ℕ, ◌*◌, ◌++◌, ◌+◌, ◌<◌, ◌∙◌, ◌≡◌}
+use Rattle.uni_small.proofs.Vocabulary.{AreBuffers, Buffers, SpareHas, HasComeTo, HasRoom, Image, IsOutside, IsUntouchedByBoth, inl, inr, mul-le-mul_right, Me, Option, Seen, Sequential, View, WritesWithin, local_of, subst, ◌≤◌, List, Room, Sizes, ap, arith, buffer_words, held_place, image_in, length, refl, slice_index, spell, sym, with_row, with_seen, ℕ, ◌*◌, ◌++◌, ◌+◌, ◌<◌, ◌∙◌, ◌≡◌}
 use Rattle.uni_small.specs.Board.{AreFew}
 use Rattle.uni_small.proofs.Going.{writes_buffers, writes_come, writes_more, writes_of, writes_stage}
 use Rattle.uni_small.proofs.Images.{spell-applied, spell-length}
@@ -190,7 +190,7 @@ write_words-requires-clause-words g c =
 
 pub write_words-requires-clause-alike : goal.write_words-requires-clause-alike
 write_words-requires-clause-alike g c =
-    subst (λ row. HasAlready c.args.self.now.setup.sizes c.args.own.now 0 row (IsOutside c.join-calls.result.from c.join-calls.result.to)) (sym c.deref.ensures.value)
+    subst (λ row. SpareHas c.args.self.now.setup.sizes c.args.own.now 0 row (IsOutside c.join-calls.result.from c.join-calls.result.to)) (sym c.deref.ensures.value)
     (λ i within outside. c.requires.applied i within (c.join-calls.ensures.beside 1 i (elim outside [ inl sooner ↦ inl (omega (arith, sooner)) | inr after ↦ inr (omega (arith, after)) ])))
 
 pub write_words-requires-2-clause-words : goal.write_words-requires-2-clause-words
@@ -208,7 +208,7 @@ write_words-requires-2-clause-alike g c =
     let la : length a ≡ sizes.processes = ap (λ (xs : List ℕ). length xs) c.deref.ensures.value ∙ c.requires.room.applied in
     let holds = IsOutside (c.join-calls.result.from * sizes.reply) (c.join-calls.result.to * sizes.reply) in
     already_later sizes own c.write_words.new.own 0 a c.write_words.ensures.spare c.write_words.ensures.held sizes.processes c.deref-2.result.now holds (omega arith)
-    (subst (λ row. HasAlready sizes own sizes.processes row holds) (sym c.deref-2.ensures.value)
+    (subst (λ row. SpareHas sizes own sizes.processes row holds) (sym c.deref-2.ensures.value)
     (λ i within outside. c.requires.reply i within (c.join-calls.ensures.beside sizes.reply i outside)))
 
 pub write_row-requires-clause-alike : goal.write_row-requires-clause-alike
@@ -222,10 +222,10 @@ write_row-requires-clause-alike g c =
     let at = sizes.processes + sizes.processes * sizes.reply in
     let la : length a ≡ sizes.processes = ap (λ (xs : List ℕ). length xs) c.deref.ensures.value ∙ c.requires.room.applied in
     let lb : length b ≡ sizes.processes * sizes.reply = ap (λ (xs : List ℕ). length xs) c.deref-2.ensures.value ∙ c.requires.room.reply in
-    let holds = IsUntouchedBy own.apart.state c.args.touched.state in
+    let holds = IsUntouchedByBoth own.apart.state c.args.touched.state in
     already_later sizes own1 c.write_words-2.new.own sizes.processes b c.write_words-2.ensures.spare c.write_words-2.ensures.held at d holds (omega arith)
     (already_later sizes own own1 0 a c.write_words.ensures.spare c.write_words.ensures.held at d holds (omega arith)
-    (subst (λ row. HasAlready sizes own at row holds) (sym c.deref-3.ensures.value) c.requires.state))
+    (subst (λ row. SpareHas sizes own at row holds) (sym c.deref-3.ensures.value) c.requires.state))
 
 pub returns-clause-written : goal.returns-clause-written
 returns-clause-written g c =
