@@ -74,7 +74,7 @@ impl<O: SeqObject> Shared<O> {
     /// for, with the reply of its return, and with its own steps and turns.
     ///
     /// Errors, in this order: `MissingSeat`, `Stranger`, `PendingSeat`, `Mismatch`. After each what was
-    /// handed in is handed back. `Stranger` and `Memory` never come.
+    /// handed in is handed back. `Memory` never comes (`fault`). That `Stranger` doesn't is in no clause.
     pub fn close(self, _alloc: Global, seats: Vec<Seat<O>>) -> Result<Closed<O>, Refused<O>>
         ensures closed { IfOk result (λ closed. IsClosed O.sequential closed.recorded closed.seats) }
         ensures processes { IfOk result (λ closed. closed.recorded.processes ≡ self.processes) }
