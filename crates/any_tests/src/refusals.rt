@@ -18,7 +18,7 @@ use uni_any::{AnyAnswer, AnyFault, AnyOpenFault, AnyResumeFault, AnySeat, AnySha
 /// What a call asks for.
 #[derive(Drop)]
 pub(crate) struct Asked {
-    pub(crate) number: u32,
+    number: u32,
 }
 
 impl Model for Asked {
@@ -48,7 +48,7 @@ impl Eq for Asked {
 #[derive(Drop)]
 pub(crate) struct Scarce<'a> {
     /// How many requests are granted before the one that is refused.
-    pub(crate) granted: &'a Cell<u64>,
+    granted: &'a Cell<u64>,
 }
 
 impl Scarce<'_> {
@@ -93,7 +93,7 @@ impl<'a> SeqObject for Scarce<'a> {
 }
 
 /// The seat's call of this number, resumed where it was refused memory: its reply, and its version.
-pub(crate) fn called<'a>(
+fn called<'a>(
     rt: &impl Abort,
     alloc: Global,
     shared: &AnyShared<Scarce<'a>>,
@@ -113,6 +113,108 @@ pub(crate) fn called<'a>(
     (answer.reply, answer.version)
 }
 
+/// What is done with a seat, and what has to come of it.
+#[derive(Clone, Copy)]
+pub(crate) enum Act {
+    /// From here on so many requests for memory are granted before one is refused.
+    Grants(u64),
+    /// A call of this number, resumed where it was refused memory: its reply, and its version.
+    Calls(u32, u32, u64),
+    /// A call of this number, which is refused.
+    Refused(u32, AnyFault),
+    /// The pending call is resumed: its reply, and its version.
+    Resumes(u32, u64),
+    /// No call is pending.
+    HasNothing,
+    /// A call is pending, so nothing is looked at.
+    LooksAtNothing,
+}
+
+/// Whether what has to come of it comes.
+fn does<'a>(
+    rt: &impl Abort,
+    alloc: Global,
+    shared: &AnyShared<Scarce<'a>>,
+    seat: &mut AnySeat<Scarce<'a>>,
+    act: &Act,
+) -> bool
+    requires { IsSeatOf shared.now seat.old }
+    ensures { IsSeatOf shared.now seat.new }
+{
+    match *act {
+        Act::Grants(_) => true,
+        Act::Calls(number, reply, version) => {
+            called(rt, alloc, shared, seat, number) == (reply, version)
+        }
+        Act::Refused(number, fault) => { seat.apply(alloc, shared, Asked { number }) == Err(fault) }
+        Act::Resumes(reply, version) => {
+            seat.resume(alloc, shared) == Ok(AnyAnswer { reply, version })
+        }
+        Act::HasNothing => seat.resume(alloc, shared) == Err(AnyResumeFault::NothingPending),
+        Act::LooksAtNothing => {
+            seat.follows(shared, 0) == Err(CallPending) && seat.refresh(shared) == Err(CallPending)
+        }
+    }
+}
+
+/// What is done with one of two seats, by its place.
+pub(crate) type Turn = (usize, Act);
+
+/// Whether what has to come of a turn comes.
+fn takes<'a>(
+    rt: &impl Abort,
+    alloc: Global,
+    shared: &AnyShared<Scarce<'a>>,
+    first: &mut AnySeat<Scarce<'a>>,
+    second: &mut AnySeat<Scarce<'a>>,
+    turn: &Turn,
+) -> bool
+    requires { IsSeatOf shared.now first.old × IsSeatOf shared.now second.old }
+    ensures { IsSeatOf shared.now first.new × IsSeatOf shared.now second.new }
+{
+    if turn.0 == 0 {
+        does(rt, alloc, shared, first, &turn.1)
+    } else {
+        does(rt, alloc, shared, second, &turn.1)
+    }
+}
+
+/// An object of so many processes, and their last two seats, which took these turns.
+pub(crate) fn played<'a>(
+    rt: &impl Abort,
+    alloc: Global,
+    granted: &'a Cell<u64>,
+    n: u64,
+    turns: &[Turn],
+) -> (
+    AnyShared<Scarce<'a>>,
+    AnySeat<Scarce<'a>>,
+    AnySeat<Scarce<'a>>,
+)
+    ensures { IsSeatOf result.0 result.1 }
+{
+    let (shared, mut seats) = opened(rt, alloc, Scarce { granted }, n);
+    let (mut first, mut second) = last_two(rt, &shared, &mut seats);
+    for (at, turn) in turns.iter().enumerate() {
+        if let Act::Grants(count) = turn.1 {
+            granted.set(count);
+        }
+        assert!(rt;
+            takes(rt, alloc, &shared, &mut first, &mut second, turn),
+            "at turn {at}"
+        );
+    }
+    (shared, first, second)
+}
+
+/// Four calls of two seats.
+const CALLS: &[Turn] = &[
+    (0, Act::Calls(5, 9, 1)),
+    (1, Act::Calls(6, 5, 2)),
+    (0, Act::Calls(7, 6, 3)),
+    (1, Act::Calls(8, 7, 4)),
+];
+
 /// Four calls of two seats, with this request refused: how many requests there were.
 fn calls_with(rt: &impl Abort, alloc: Global, refused: u64) -> u64 {
     let granted = Cell::new(refused);
@@ -129,12 +231,7 @@ fn calls_with(rt: &impl Abort, alloc: Global, refused: u64) -> u64 {
     if refused == 0 {
         granted.set(u64::MAX);
     }
-    let (shared, mut seats) = opened(rt, alloc, Scarce { granted: &granted }, 2);
-    let (mut first, mut second) = last_two(rt, &shared, &mut seats);
-    assert!(rt; called(rt, alloc, &shared, &mut first, 5) == (9, 1));
-    assert!(rt; called(rt, alloc, &shared, &mut second, 6) == (5, 2));
-    assert!(rt; called(rt, alloc, &shared, &mut first, 7) == (6, 3));
-    assert!(rt; called(rt, alloc, &shared, &mut second, 8) == (7, 4));
+    played(rt, alloc, &granted, 2, CALLS);
     refused.wrapping_sub(granted.get())
 }
 
@@ -149,29 +246,20 @@ fn each_request_is_refused_in_turn(rt: HostRuntime) {
     calls_with(&rt, alloc, 0);
 }
 
+/// What is done with a seat whose call is refused memory, and with another one, which helps.
+const HELPED: &[Turn] = &[
+    (0, Act::Refused(5, AnyFault::Memory)),
+    (0, Act::Refused(8, AnyFault::Pending)),
+    (0, Act::LooksAtNothing),
+    (1, Act::Calls(6, 5, 1)),
+    (0, Act::Resumes(9, 1)),
+    (0, Act::HasNothing),
+    (1, Act::Calls(7, 6, 2)),
+];
+
 #[test]
 fn a_call_that_was_refused_is_helped(rt: HostRuntime) {
-    let alloc = rt.alloc();
-    let granted = Cell::new(1);
-    let (shared, mut seats) = opened(&rt, alloc, Scarce { granted: &granted }, 2);
-    let (mut first, mut second) = last_two(&rt, &shared, &mut seats);
-    let refused = first.apply(alloc, &shared, Asked { number: 5 });
-    assert!(rt; refused == Err(AnyFault::Memory));
-    let again = first.apply(alloc, &shared, Asked { number: 8 });
-    assert!(rt; again == Err(AnyFault::Pending));
-    assert!(rt; first.follows(&shared, 0) == Err(CallPending));
-    assert!(rt; first.refresh(&shared) == Err(CallPending));
-    assert!(rt; called(&rt, alloc, &shared, &mut second, 6) == (5, 1));
-    let resumed = first.resume(alloc, &shared);
-    assert!(rt;
-        resumed
-            == Ok(AnyAnswer {
-                reply: 9,
-                version: 1
-            })
-    );
-    assert!(rt; first.resume(alloc, &shared) == Err(AnyResumeFault::NothingPending));
-    assert!(rt; called(&rt, alloc, &shared, &mut second, 7) == (6, 2));
+    played(&rt, rt.alloc(), &Cell::new(1), 2, HELPED);
 }
 
 #[test]
@@ -185,13 +273,14 @@ fn counts_that_are_refused(rt: HostRuntime) {
     }
 }
 
+/// Three calls of the last two seats.
+const OF_SIXTY_FOUR: &[Turn] = &[
+    (1, Act::Calls(5, 9, 1)),
+    (0, Act::Calls(6, 5, 2)),
+    (1, Act::Calls(7, 6, 3)),
+];
+
 #[test]
 fn the_last_of_sixty_four_processes(rt: HostRuntime) {
-    let alloc = rt.alloc();
-    let granted = Cell::new(u64::MAX);
-    let (shared, mut seats) = opened(&rt, alloc, Scarce { granted: &granted }, 64);
-    let (mut first, mut second) = last_two(&rt, &shared, &mut seats);
-    assert!(rt; called(&rt, alloc, &shared, &mut second, 5) == (9, 1));
-    assert!(rt; called(&rt, alloc, &shared, &mut first, 6) == (5, 2));
-    assert!(rt; called(&rt, alloc, &shared, &mut second, 7) == (6, 3));
+    played(&rt, rt.alloc(), &Cell::new(u64::MAX), 64, OF_SIXTY_FOUR);
 }

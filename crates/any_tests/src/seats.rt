@@ -4,6 +4,7 @@ ghost use Rattle.std.specs.Prelude.{◌≡◌, All, length};
 ghost use Rattle.uni_any.specs.Seats.{IsSeatOf};
 
 use seq_object::SeqObject;
+use stack::StackResp;
 use std::alloc::Global;
 use std::process::Abort;
 use uni_any::{AnySeat, AnyShared, Row};
@@ -55,11 +56,11 @@ pub(crate) fn last_two<O: SeqObject>(
 }
 
 /// Whether so many calls of a process are in, and this was the reply to the last one.
-pub(crate) fn is_row<R: Copy + PartialEq>(
-    rows: &[Row<R>],
+pub(crate) fn is_row(
+    rows: &[Row<StackResp>],
     p: usize,
     applied: u64,
-    reply: Option<R>,
+    reply: Option<StackResp>,
 ) -> bool {
     match rows.get(p) {
         Some(row) => row.applied == applied && row.reply == reply,
