@@ -8,12 +8,11 @@
  *   - a log: a tally, a sticky register, a register, or a machine of two tables, on words of 31 bits. A seat makes up to k
  *     calls, at most 4,096, and the closed log tells all of them in their order.
  *
- * The functions of this file stand in crates/universal_c, but for universal_version and those that are static inline, which are C
- * and no part of the proof; docs/bindings.md says what is proved of each. Only tested: when memory is refused, and that a call
- * takes no memory and no lock. That a read stores nothing in a shared word, takes neither, and finds the present version is in no
- * clause: it is seen from the code. That all calls have one order is a law of
- * every execution; what closing an object says is of the calls of the seat that closes it. What a caller owes is written here,
- * and nothing checks it.
+ * The functions of this file stand in crates/universal_c, but for universal_version and those that are static inline, which are
+ * C and no part of the proof; docs/bindings.md says what is proved of each. Only tested: when memory is refused, and that a
+ * call takes no memory and no lock. That a read stores nothing in a shared word, takes neither, and finds the present version
+ * is in no clause: it is seen from the code. That all calls have one order is a law of every execution; what closing an object
+ * says is of the calls of the seat that closes it. What a caller owes is written here, and nothing checks it.
  *
  * What a caller owes:
  *   - A handle begins as UNIVERSAL_NONE. Only these functions change it, and it is never copied: of two copies the
@@ -133,9 +132,9 @@ static inline const char *universal_strerror(uint32_t status) {
  * program      as it says   ..      ..
  *
  * Where a state has W words, an invocation I and a reply R, a call takes at most 6W + (9 + 3I + 6R)n + I + R + 11 steps on
- * shared words. Where another process brought in a version since the process's own last one, it copies the whole state, also while the
- * object is empty: some 1.3 nanoseconds a word (docs/measured.md). Where none came, it takes the time of what it touches: one
- * counter, or a value; or, where a map takes or loses a key, as many words as the object holds.
+ * shared words. Where another process brought in a version since the process's own last one, it copies the whole state, also
+ * while the object is empty: some 1.3 nanoseconds a word (docs/measured.md). Where none came, it takes the time of what it
+ * touches: one counter, or a value; or, where a map takes or loses a key, as many words as the object holds.
  *
  * What a call would be answered can be read without making it: universal_small_read stores nothing, so no other process copies a
  * state for it. It takes at most W + (1 + R)n + 2 steps, and may find that the state has changed meanwhile.

@@ -56,7 +56,7 @@ class _Seat(Calls, _Held, Generic[_State]):
         self._check(status)
         return reply
 
-    def _asked(self, function: Any, words: Sequence[int]) -> tuple[int, list[int]]:
+    def _asked(self, function: Callable[..., int], words: Sequence[int]) -> tuple[int, list[int]]:
         """The status and the reply of a function that answers an invocation; where it has, the version is the seat's."""
         invocation, version = (c_uint64 * len(words))(*words), c_uint64()
         reply = (c_uint64 * self._replies)()
