@@ -48,8 +48,8 @@ impl Telling for InHistory {
 
 /// Writes the history of the run of the script that a reader has: lines of JSON. It is linearizable. An `Err` is the
 /// first fault of the script; `Read` where the reader failed; `Memory` where memory was refused; `Range` of a good
-/// script that has more than 2,000 events; or `Write` where the output failed. With `Memory` and `Write` a prefix may be
-/// written, else nothing is.
+/// script that has more than 2,000 events; or `Write` where the output failed. With `Memory` and `Write` a prefix may
+/// be written, else nothing is.
 pub fn tell_history<I: TextIn, W: TextOut>(
     alloc: Global,
     reader: &mut I,

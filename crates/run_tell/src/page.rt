@@ -105,8 +105,8 @@ fn page_of_run(
 }
 
 /// The page that shows these events of the run of the script that a reader has. An `Err` is the first fault of the
-/// script; `Read` where the reader failed; `Memory` where memory was refused; or `Range` of a good script of which these
-/// events can't be chosen.
+/// script; `Read` where the reader failed; `Memory` where memory was refused; or `Range` of a good script of which
+/// these events can't be chosen.
 pub fn page_of<I: TextIn>(
     alloc: Global,
     range: Range,

@@ -134,8 +134,8 @@ pub(crate) fn tell_run<T: Telling, W: TextOut>(
 /// Writes these events of the run of the script that a reader has, told: of a linearizable run. `T` is how: `InWords`
 /// in a sentence for each, `InJson` and `InWholeJson` in lines of JSON, without or with the whole memory after each. An
 /// `Err` is the first fault of the script; `Read` where the reader failed; `Memory` where memory was refused;
-/// `Range` of a good script of which these events can't be chosen; or `Write` where the output failed. With `Memory` and
-/// `Write` a prefix may be written, else nothing is.
+/// `Range` of a good script of which these events can't be chosen; or `Write` where the output failed. With `Memory`
+/// and `Write` a prefix may be written, else nothing is.
 pub fn tell_script<T: Telling, I: TextIn, W: TextOut>(
     alloc: Global,
     range: Range,

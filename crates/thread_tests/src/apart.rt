@@ -2,7 +2,7 @@
 ghost use Rattle.std.specs.Prelude.{◌≡◌, ℕ, List};
 ghost use Rattle.uni_model.specs.Linearizable.{observed, observed_in};
 ghost use Rattle.uni_small.specs.Board.{AreSizesOf};
-ghost use Rattle.uni_small.specs.Execution.{Execution, history, opened_moment};
+ghost use Rattle.uni_small.specs.Execution.{Execution, all_acts, opened_moment};
 ghost use Rattle.uni_small.specs.declared.sizes.Sizes.{Sizes};
 ghost use Rattle.uni_words.specs.Execution.{Execution as WordsExecution, events, opened_table};
 ghost use Rattle.uni_words.specs.Linearized.{IsNarrow};
@@ -20,7 +20,7 @@ pub fn small_calls_apart_are_answered_in_turn<O: SmallObject>()
     ensures { (o : O) (sizes : Sizes) → AreSizesOf (O.meaning o) sizes
         → (e : Execution (O.meaning o).object sizes (opened_moment (O.meaning o).object sizes))
         (told : List (Answered (List ℕ) (List ℕ)))
-        → observed (history (O.meaning o).object sizes e) ≡ one_after_another told
+        → observed (all_acts (O.meaning o).object sizes e) ≡ one_after_another told
         → AreAnsweredInTurn (O.meaning o).object told }
 {}
 

@@ -1,6 +1,6 @@
 -- What a closed object shows.
 use Rattle.uni_any.proofs.Batches.{contains_cons, not_empty}
-use Rattle.uni_any.specs.Final.{ProcessCalls}
+use Rattle.uni_any.specs.Final.{KnownCalls}
 use Rattle.triple_buffers.specs.Closed.{AreLast, layout_in, value_in, word_in}
 use Rattle.triple_buffers.specs.Parties.{layout_of, seat_of}
 use Rattle.triple_buffers.specs.declared.closed.ClosedBuffers.{ClosedBuffers}
@@ -36,9 +36,9 @@ module _ {O I S R : Type 0} (meaning : O → Sequential S I R) (o : O) (n : ℕ)
   own = (is.seats id v at).each p (omega arith) (omega (arith, alone))
 
   -- what one seat tells of its process
-  told_calls : (process : ℕ) → p ≡ process → (its : ProcessCalls I R) → Contains (record { process = process; own = l.own; pending = pending_of l.stage } ∷ []) its → IsToldBy c.views its
+  told_calls : (process : ℕ) → p ≡ process → (its : KnownCalls I R) → Contains (record { process = process; own = l.own; pending = pending_of l.stage } ∷ []) its → IsToldBy c.views its
   told_calls process same its has = elim (contains_cons _ [] its has) [
-    | inl one ↦ subst (λ (z : ProcessCalls I R). IsToldBy c.views z) one (record { id = id; view = v; there = at; alone = alone; process = same; own = refl; pending = refl })
+    | inl one ↦ subst (λ (z : KnownCalls I R). IsToldBy c.views z) one (record { id = id; view = v; there = at; alone = alone; process = same; own = refl; pending = refl })
     | inr none ↦ absurd (not_empty its none)
   ]
 
@@ -83,7 +83,7 @@ module _ {O I S R : Type 0} (meaning : O → Sequential S I R) (o : O) (n : ℕ)
 
       pub closed_version : (process : ℕ) → p ≡ process → HasRunTo (meaning o) n (record { process = process; own = l.own; pending = pending_of l.stage } ∷ []) (found_in t (number_in word)).image
       closed_version process same =
-          let known : List (ProcessCalls I R) = record { process = process; own = l.own; pending = pending_of l.stage } ∷ [] in
+          let known : List (KnownCalls I R) = record { process = process; own = l.own; pending = pending_of l.stage } ∷ [] in
           subst (λ (x : Image S R). HasRunTo (meaning o) n known x) image_is (
             version_at meaning o n g local shows.1.1.0 c is known (told_calls process same),
             shows.1.1.2.0,

@@ -6,7 +6,7 @@ use Rattle.uni_any.proofs.Opening.{copies}
 use Rattle.uni_model.proofs.Placed.{AgreesInOrder-holds}
 use Rattle.uni_model.specs.Linearizable.{observed}
 use Rattle.uni_any.specs.Versions.{IsVersionOf}
-use Rattle.uni_any.specs.Final.{IsLinearized, IsVersion, ProcessCalls, acts_told, calls_among}
+use Rattle.uni_any.specs.Final.{IsLinearized, IsKnownVersion, KnownCalls, acts_told, calls_among}
 use Rattle.uni_any.specs.Laws.{IsToldBy}
 use Rattle.uni_any.specs.News.{first_image}
 
@@ -15,7 +15,7 @@ module _ {O I S R : Type 0} (meaning : O → Sequential S I R) (o : O) (n : ℕ)
   object = meaning o
 
   -- these are the calls of a process
-  abbrev AreCalls : ProcessCalls I R → Type 0
+  abbrev AreCalls : KnownCalls I R → Type 0
   AreCalls its = (its.process < n) × ((local its.process).own ≡ its.own) × (pending_of (local its.process).stage ≡ its.pending)
 
   acts_of : (p : ℕ) (own : List (Returned I R)) (pending : Option I) → IsTold object n g local p own pending → acts_by p g.acts ≡ acts_told p own pending
@@ -23,23 +23,23 @@ module _ {O I S R : Type 0} (meaning : O → Sequential S I R) (o : O) (n : ℕ)
   acts_of p own (Some inv) told = told.2
 
   -- what one seat tells of its process
-  told_calls : (its : ProcessCalls I R) → IsToldBy c.views its → AreCalls its
+  told_calls : (its : KnownCalls I R) → IsToldBy c.views its → AreCalls its
   told_calls its by =
       let e = by.process in
       let k = (is.seats by.id by.view by.there).each its.process (omega arith) (let a = by.alone in omega arith) in
       (k.0, ap (λ (z : Local I S R). z.own) k.2 ∙ by.own, ap (λ (z : Local I S R). pending_of z.stage) k.2 ∙ by.pending)
 
-  told_acts : (its : ProcessCalls I R) → AreCalls its → acts_by its.process g.acts ≡ acts_told its.process its.own its.pending
+  told_acts : (its : KnownCalls I R) → AreCalls its → acts_by its.process g.acts ≡ acts_told its.process its.own its.pending
   told_acts its are = acts_of its.process its.own its.pending (subst (λ p. IsTold object n g local its.process its.own p) are.2
       (subst (λ own. IsTold object n g local its.process own (pending_of (local its.process).stage)) are.1 (is.sound.history.told its.process are.0)))
 
-  told_order : (its : ProcessCalls I R) → AreCalls its → (k : ℕ) (call : Returned I R) → slice_get its.own k ≡ Some call → StandsIn object g.atomic.agreed g.calls_in its.process k call
+  told_order : (its : KnownCalls I R) → AreCalls its → (k : ℕ) (call : Returned I R) → slice_get its.own k ≡ Some call → StandsIn object g.atomic.agreed g.calls_in its.process k call
   told_order its are k call at =
       let order : IsOrdered object g.atomic.agreed g.calls_in g.number its.process (local its.process).after its.own
       = subst (λ own. IsOrdered object g.atomic.agreed g.calls_in g.number its.process (local its.process).after own) are.1 (is.sound.order.each its.process are.0) in
       order.stand k call at
 
-  pub linearized_with : (known : List (ProcessCalls I R)) → ((its : ProcessCalls I R) → Contains known its → AreCalls its) → IsLinearized object n known g.image.state
+  pub linearized_with : (known : List (KnownCalls I R)) → ((its : KnownCalls I R) → Contains known its → AreCalls its) → IsLinearized object n known g.image.state
   linearized_with known are =
       let history = is.sound.history in
       record {
@@ -55,17 +55,17 @@ module _ {O I S R : Type 0} (meaning : O → Sequential S I R) (o : O) (n : ℕ)
         stand = λ its has k call at. told_order its (are its has) k call at;
       }
 
-  pub linearized_at : (known : List (ProcessCalls I R)) → ((its : ProcessCalls I R) → Contains known its → IsToldBy c.views its) → IsLinearized object n known g.image.state
+  pub linearized_at : (known : List (KnownCalls I R)) → ((its : KnownCalls I R) → Contains known its → IsToldBy c.views its) → IsLinearized object n known g.image.state
   linearized_at known by = linearized_with known (λ its has. told_calls its (by its has))
 
   -- of one process alone
-  one_is : (its z : ProcessCalls I R) → Contains (its ∷ []) z → z ≡ its
+  one_is : (its z : KnownCalls I R) → Contains (its ∷ []) z → z ≡ its
   one_is its z has = elim (contains_cons its [] z has) [
     | inl same ↦ sym same
     | inr none ↦ absurd (not_empty z none)
   ]
 
-  one_alone : (its z : ProcessCalls I R) → Contains (its ∷ []) z → AreCalls its → AreCalls z
+  one_alone : (its z : KnownCalls I R) → Contains (its ∷ []) z → AreCalls its → AreCalls z
   one_alone its z has are = subst AreCalls (sym (one_is its z has)) are
 
   -- how many calls of a process are in the image of these
@@ -75,11 +75,11 @@ module _ {O I S R : Type 0} (meaning : O → Sequential S I R) (o : O) (n : ℕ)
       ap (λ (z : Image S R). applied_in z q) is_from ∙ counted_from object (first_image object n) calls q (omega (arith, long, inside))
       ∙ ap (λ k. fold (λ a (d : Invoked I). a + cond (d.process == q) 1 0) k calls) (ap (λ (z : Row R). z.applied) (copies n q blank))
 
-  pub version_at : (known : List (ProcessCalls I R)) → ((its : ProcessCalls I R) → Contains known its → IsToldBy c.views its) → IsVersion object n known g.image
+  pub version_at : (known : List (KnownCalls I R)) → ((its : KnownCalls I R) → Contains known its → IsToldBy c.views its) → IsKnownVersion object n known g.image
   unfolding linearized_at linearized_with
   version_at known by = record { history = linearized_at known by; rows = rows_count g.atomic.agreed g.image (sym is.sound.history.image) }
 
-  pub acts_at : (known : List (ProcessCalls I R)) (by : (its : ProcessCalls I R) → Contains known its → IsToldBy c.views its) → (version_at known by).history.acts ≡ g.acts
+  pub acts_at : (known : List (KnownCalls I R)) (by : (its : KnownCalls I R) → Contains known its → IsToldBy c.views its) → (version_at known by).history.acts ≡ g.acts
   unfolding version_at linearized_at linearized_with
   acts_at known by = refl
 
@@ -94,7 +94,7 @@ module _ {O I S R : Type 0} (meaning : O → Sequential S I R) (o : O) (n : ℕ)
   soon_at p inside late = is.sound.board.soon p inside late
 
   -- a version that has come, no older than the one that a process follows
-  pub version_come : (its : ProcessCalls I R) → its.process < n → (local its.process).own ≡ its.own → pending_of (local its.process).stage ≡ its.pending
+  pub version_come : (its : KnownCalls I R) → its.process < n → (local its.process).own ≡ its.own → pending_of (local its.process).stage ≡ its.pending
       → (x : Version S R) → HasCome object n g x → (local its.process).after ≤ x.number → IsVersionOf object n (its ∷ []) x.number x.image
   unfolding linearized_with
   version_come its inside own pending x come follows =
@@ -109,6 +109,6 @@ module _ {O I S R : Type 0} (meaning : O → Sequential S I R) (o : O) (n : ℕ)
         within = λ z has k call at.
             let same : z ≡ its = one_is its z has in
             let followed = is.sound.order.followed its.process inside in
-            let a = subst (λ xs. (k : ℕ) (d : Returned I R) → slice_get xs k ≡ Some d → d.version ≤ (local its.process).after) own followed k call (ap (λ (y : ProcessCalls I R). slice_get y.own k) (sym same) ∙ at) in
+            let a = subst (λ xs. (k : ℕ) (d : Returned I R) → slice_get xs k ≡ Some d → d.version ≤ (local its.process).after) own followed k call (ap (λ (y : KnownCalls I R). slice_get y.own k) (sym same) ∙ at) in
             omega (arith, follows);
       }

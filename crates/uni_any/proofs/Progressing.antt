@@ -2,11 +2,11 @@
 use Rattle.uni_any.proofs.Vocabulary.{Idle, Image, IsStageAt, List, Local, Posting, Reading, Ready, Sequential, Stage, Writing, [], ap, applied_in, arith, base_of, drafted, if◌then◌else◌, inl, inr, length, lt_cases, made_by, number_cases, refl, subst, suc, sym, zero, ℕ, ⊎_elim, ◌*◌, ◌++◌, ◌+◌, ◌-◌, ◌<◌, ◌∙◌, ◌≡◌, ◌≢◌, ◌≤◌, Act}
 use Rattle.std.proofs.Common.{◌==◌}
 use Rattle.uni_model.specs.Executions.Execution.{Ends, Takes}
-use Rattle.uni_any.specs.Execution.{CanTake, Execution, Moment, acts_of, effect_of, found_by, history, last_moment, opened_moment}
+use Rattle.uni_any.specs.Execution.{CanTake, Execution, Moment, acts_of, effect_of, found_by, all_acts, last_moment, opened_moment}
 use Rattle.uni_any.specs.Execution.Next.{Bring, Fail, Lay, Learn, Post, Return, See, Start, View as Views}
 use Rattle.uni_any.specs.Progress.{HasOwner, KeepsBound, NeverBlocks, StepOfCall, counted, so_far, steps_of_call}
 use Rattle.uni_any.proofs.Bringing.{brings_move}
-use Rattle.uni_any.proofs.Executing.{Holds, contents_at, history_holds, opening_holds, seat_at, shown, step_holds, view_at}
+use Rattle.uni_any.proofs.Executing.{Holds, contents_at, all_acts_hold, opening_holds, seat_at, shown, step_holds, view_at}
 use Rattle.uni_any.proofs.Learning.{learns_move}
 use Rattle.uni_any.proofs.Looks.{seen_fields, seen_stage}
 
@@ -161,4 +161,4 @@ module _ {O I S R : Type 0} (meaning : O → Sequential S I R) (o : O) (n : ℕ)
   pub never_blocks : (e : Execution object n (opened_moment object n)) → NeverBlocks object n e
   never_blocks e p inside busy own =
       let m : Moment I S R = last_moment object n e in
-      next_of m (history object n e) (history_holds meaning o n few e) p inside (m.local p).stage refl busy own
+      next_of m (all_acts object n e) (all_acts_hold meaning o n few e) p inside (m.local p).stage refl busy own

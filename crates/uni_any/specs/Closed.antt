@@ -1,9 +1,9 @@
 -- What a closed object is.
 use Rattle.std.specs.Prelude.{◌≡◌, ℕ, List}
 use Rattle.seq_object.specs.Sequential.{Sequential}
-use Rattle.uni_any.specs.Final.{IsVersion, ProcessCalls}
+use Rattle.uni_any.specs.Final.{IsKnownVersion, KnownCalls}
 use Rattle.uni_any.specs.declared.view.Image.{Image}
-use Rattle.uni_any.specs.Execution.{Execution, history, opened_moment}
+use Rattle.uni_any.specs.Execution.{Execution, all_acts, opened_moment}
 use Rattle.uni_any.specs.News.{found_in, told_by}
 use Rattle.uni_any.specs.declared.close.LastVersion.{LastVersion}
 use Rattle.uni_any.specs.declared.view.Version.{Version}
@@ -13,7 +13,7 @@ abbrev pub last_version : {I S R : Type 0} → LastVersion I S R → Version S R
 last_version last = found_in (told_by last.news) last.number
 
 -- a version with the known calls, as it is told, of a history that is made by the steps of an execution, in their order
-abbrev pub HasRunTo : {S I R : Type 0} → Sequential S I R → (n : ℕ) → (known : List (ProcessCalls I R)) → Image S R → Type 0
+abbrev pub HasRunTo : {S I R : Type 0} → Sequential S I R → (n : ℕ) → (known : List (KnownCalls I R)) → Image S R → Type 0
 HasRunTo object n known version =
-    (final : IsVersion object n known version)
-    × (e : Execution object n (opened_moment object n)) × (history object n e ≡ final.history.acts)
+    (final : IsKnownVersion object n known version)
+    × (e : Execution object n (opened_moment object n)) × (all_acts object n e ≡ final.history.acts)

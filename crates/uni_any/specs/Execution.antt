@@ -147,8 +147,8 @@ module _ {S I R : Type 0} (object : Sequential S I R) (n : ℕ) where
   abbrev pub last_moment : {m : Moment I S R} → Execution m → Moment I S R
   last_moment e = Executions.last_moment n CanTake after e
 
-  abbrev pub history : {m : Moment I S R} → Execution m → List (Act I R)
-  history e = Executions.history n CanTake after acts_of e
+  abbrev pub all_acts : {m : Moment I S R} → Execution m → List (Act I R)
+  all_acts e = Executions.all_acts n CanTake after acts_of e
 
   abbrev pub KeepsOrder : {m : Moment I S R} (e : Execution m) → Execution (last_moment e) → Type 0
   KeepsOrder e more = Executions.KeepsOrder n CanTake after acts_of e more

@@ -20,7 +20,7 @@ acts_told p own None = sequential_acts p 0 (map plain own)
 acts_told p own (Some inv) = sequential_acts p 0 (map plain own) ++ Invoke p (length own) inv ∷ []
 
 -- the calls of one process: those that have returned, in their order, and the invocation of its pending one
-pub record ProcessCalls (I R : Type 0) : Type 0 where
+pub record KnownCalls (I R : Type 0) : Type 0 where
   pub process : ℕ
   pub own : List (Returned I R)
   pub pending : Option I
@@ -31,7 +31,7 @@ pub record ProcessCalls (I R : Type 0) : Type 0 where
 -- The first calls_in_version v calls of that order are in version v, or all where there are fewer, and a later version
 -- has no fewer; and each known call that has returned comes after those of one version, and is among those of another
 -- one, as its seat was told.
-pub record IsLinearized {S I R : Type 0} (object : Sequential S I R) (n : ℕ) (known : List (ProcessCalls I R))
+pub record IsLinearized {S I R : Type 0} (object : Sequential S I R) (n : ℕ) (known : List (KnownCalls I R))
     (state : S) : Type 0 where
   pub acts : List (Act I R)
   pub atomic : Atomic S I
@@ -39,11 +39,11 @@ pub record IsLinearized {S I R : Type 0} (object : Sequential S I R) (n : ℕ) (
   pub completed : IsLinearizedByCompletion object object.initial (observed acts) atomic.agreed
   pub state_is : state_after object object.initial (map inv_of atomic.agreed) ≡ state
   pub inside : (c : Invoked I) → Contains atomic.agreed c → c.process < n
-  pub own_is : (its : ProcessCalls I R) → Contains known its
+  pub own_is : (its : KnownCalls I R) → Contains known its
       → acts_by its.process acts ≡ acts_told its.process its.own its.pending
   pub calls_in_version : ℕ → ℕ
   pub rising : (v w : ℕ) → v ≤ w → calls_in_version v ≤ calls_in_version w
-  pub stand : (its : ProcessCalls I R) → Contains known its
+  pub stand : (its : KnownCalls I R) → Contains known its
       → (k : ℕ) (call : Returned I R) → slice_get its.own k ≡ Some call
       → StandsIn object atomic.agreed calls_in_version its.process k call
 
@@ -52,7 +52,7 @@ abbrev pub calls_among : {I : Type 0} → (q : ℕ) → List (Invoked I) → ℕ
 calls_among q calls = count_by (λ c. c.process == q) calls
 
 -- A version has the state after such a history, and its rows say how many calls of each process took effect in it.
-pub record IsVersion {S I R : Type 0} (object : Sequential S I R) (n : ℕ) (known : List (ProcessCalls I R))
+pub record IsKnownVersion {S I R : Type 0} (object : Sequential S I R) (n : ℕ) (known : List (KnownCalls I R))
     (version : Image S R) : Type 0 where
   pub history : IsLinearized object n known version.state
   pub rows : (q : ℕ) → q < n → applied_in version q ≡ calls_among q history.atomic.agreed

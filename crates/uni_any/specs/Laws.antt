@@ -4,7 +4,7 @@ use Rattle.seq_object.specs.Sequential.{Sequential}
 use Rattle.triple_buffers.specs.Contents.{Contents, with_value}
 use Rattle.uni_model.specs.AtomicObject.{Act, set_at}
 use Rattle.uni_model.specs.AtomicObject.Act.{Respond}
-use Rattle.uni_any.specs.Final.{ProcessCalls}
+use Rattle.uni_any.specs.Final.{KnownCalls}
 use Rattle.uni_any.specs.Board.{Board, pending_of}
 use Rattle.uni_any.specs.Ran.{IsStep, moment_of}
 use Rattle.uni_any.specs.Shown.{IsShown, Letter}
@@ -20,7 +20,7 @@ responses p k [] = []
 responses p k (call ∷ calls) = Respond p k call.reply ∷ responses p (k + 1) calls
 
 -- one of the seats, which is that of one process, tells of these calls
-pub record IsToldBy {O I S R : Type 0} (views : List (View O I S R)) (its : ProcessCalls I R) : Type 0 where
+pub record IsToldBy {O I S R : Type 0} (views : List (View O I S R)) (its : KnownCalls I R) : Type 0 where
   pub id : ℕ
   pub view : View O I S R
   pub there : get_elem? views id ≡ some view

@@ -3,7 +3,7 @@ use Rattle.std.specs.Prelude.{◌≡◌, ◌≢◌, ◌⊎◌, ℕ, ◌+◌, ◌
 use Rattle.std.specs.Prelude.{slice_set}
 use Rattle.seq_object.specs.Sequential.{Sequential}
 use Rattle.uni_any.specs.Content.{applied_in, row_in}
-use Rattle.uni_any.specs.Final.{ProcessCalls}
+use Rattle.uni_any.specs.Final.{KnownCalls}
 use Rattle.uni_any.specs.declared.view.Image.{Image}
 use Rattle.uni_any.specs.declared.view.Returned.{Returned}
 use Rattle.uni_any.specs.Board.{block_news, call_news, made_by, number_in, pending_of, process_in}
@@ -104,7 +104,7 @@ abbrev pub viewing : {I S R : Type 0} → Local I S R → (word : ℕ) → Local
 viewing l word = record l { word = word; after = number_in word }
 
 -- the calls of the one process of a seat
-abbrev pub calls_of : {O I S R : Type 0} → View O I S R → ProcessCalls I R
+abbrev pub calls_of : {O I S R : Type 0} → View O I S R → KnownCalls I R
 calls_of v = record { process = v.known.first; own = v.known.local.own; pending = pending_of v.known.local.stage }
 
 module _ {O I S R : Type 0} where

@@ -4,7 +4,7 @@ use Rattle.seq_object.specs.Sequential.{Sequential}
 use Rattle.triple_buffers.specs.Contents.{Contents}
 use Rattle.uni_model.specs.AtomicObject.{Act}
 use Rattle.uni_any.specs.Board.{Board}
-use Rattle.uni_any.specs.Execution.{Effect, Execution, Moment, Next, effect_of, history, last_moment, opened_moment}
+use Rattle.uni_any.specs.Execution.{Effect, Execution, Moment, Next, effect_of, all_acts, last_moment, opened_moment}
 use Rattle.uni_any.specs.Shown.{IsShown, Letter}
 use Rattle.uni_any.specs.declared.view.Local.{Local}
 use Rattle.uni_any.specs.declared.view.View.{View}
@@ -12,7 +12,7 @@ use Rattle.uni_any.specs.declared.view.View.{View}
 module _ {S I R : Type 0} (object : Sequential S I R) (n : ℕ) where
   -- some execution from the opening leads to this moment, and its acts are these
   abbrev pub HasRun : Moment I S R → List (Act I R) → Type 0
-  HasRun m acts = (e : Execution object n (opened_moment object n)) × (last_moment object n e ≡ m) × (history object n e ≡ acts)
+  HasRun m acts = (e : Execution object n (opened_moment object n)) × (last_moment object n e ≡ m) × (all_acts object n e ≡ acts)
 
   -- process p, which stands there, can take a step with this effect
   abbrev pub IsStep : Moment I S R → (p : ℕ) → Local I S R → Effect I S R → Type 0

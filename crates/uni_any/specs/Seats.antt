@@ -6,7 +6,7 @@ use Rattle.std.specs.declared.alloc.Global.{Global}
 use Rattle.std.specs.declared.sync.Arc.{Arc}
 use Rattle.seq_object.specs.Sequential.{Sequential}
 use Rattle.triple_buffers.specs.Parties.{key_of, number_of, steps_of, view_of}
-use Rattle.uni_any.specs.Final.{ProcessCalls}
+use Rattle.uni_any.specs.Final.{KnownCalls}
 use Rattle.uni_any.specs.declared.view.Returned.{Returned}
 use Rattle.uni_any.specs.Board.{made_by, pending_of, process_in}
 use Rattle.uni_any.specs.Invariant.{base_of, most_calls}
@@ -62,7 +62,7 @@ module _ {O S I R : Type 0} where
   word_steps_of seat = steps_of seat.party
 
   -- the calls of its process
-  abbrev pub known_calls : AnySeat O S I R → ProcessCalls I R
+  abbrev pub known_calls : AnySeat O S I R → KnownCalls I R
   known_calls seat = record { process = process_of seat; own = own_calls seat; pending = pending_call seat }
 
   -- the version from which its attempt starts: the one that it has found once it has looked

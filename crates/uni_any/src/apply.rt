@@ -78,8 +78,8 @@ impl<O: SeqObject> AnySeat<O> {
     /// the one that the seat had before, and the seat's later calls come after it.
     ///
     /// With n processes it returns after at most `12 * n + 5` steps on shared words, whatever the others do; and the
-    /// object's own `apply` is called at most `2 * n` times (in no clause). That a call is announced first and is helped
-    /// by all is Herlihy's (1991), and that a version is copied and one word exchanged too (1993).
+    /// object's own `apply` is called at most `2 * n` times (in no clause). That a call is announced first and is
+    /// helped by all is Herlihy's (1991), and that a version is copied and one word exchanged too (1993).
     ///
     /// Errors, in this order: `Pending` where the seat has a call pending, `Spent` where it has made `MAX_CALLS` calls:
     /// after either nothing is changed; `Memory`: where the call was not announced, nothing is changed; where it was,

@@ -5,7 +5,7 @@ ghost use Rattle.std.specs.Prelude.{map, slice_get};
 ghost use prog.Atomic.{either};
 ghost use Rattle.uni_model.specs.AtomicObject.Act.{Invoke, Linearize};
 ghost use Rattle.triple_buffers.specs.Contents.{Contents};
-ghost use Rattle.uni_any.specs.Final.{IsLinearized, ProcessCalls};
+ghost use Rattle.uni_any.specs.Final.{IsLinearized, KnownCalls};
 ghost use Rattle.uni_any.specs.declared.view.Returned.{Returned};
 ghost use Rattle.uni_any.specs.Board.{Board, announced_by, block_news, call_news, in_of, made_by, number_in};
 ghost use Rattle.uni_any.specs.Board.{process_in, word_of};
@@ -13,7 +13,7 @@ ghost use Rattle.uni_any.specs.Invariant.{HasBatch, most_calls};
 ghost use Rattle.uni_any.specs.News.{told_by};
 ghost use Rattle.uni_any.specs.Plays.{HasBrought, HasLaid, HasLearned, HasPosted, HasSeen, HasStarted, HasViewed};
 ghost use Rattle.uni_any.specs.Plays.{IsLaying, IsPending, IsPosting, local_of, stage_of};
-ghost use Rattle.uni_any.specs.Execution.{Execution, KeepsOrder, history, last_moment, opened_moment};
+ghost use Rattle.uni_any.specs.Execution.{Execution, KeepsOrder, all_acts, last_moment, opened_moment};
 ghost use Rattle.uni_model.specs.Executions.{IsLinearizedInTime};
 ghost use Rattle.uni_any.specs.Progress.{KeepsBound, NeverBlocks};
 ghost use Rattle.uni_any.specs.Laws.{IsToldBy, Moves, returned_by, with_letter, with_word};
@@ -33,8 +33,8 @@ pub fn shown_is_linearizable<O: SeqObject>()
         (local : ℕ → Local O.Inv O.State O.Resp) (seat_of : ℕ → ℕ)
         (c : Contents (Letter O.Inv O.State O.Resp) (View O O.Inv O.State O.Resp)) →
         IsShown n O.sequential o g local seat_of c
-        → (known : List (ProcessCalls O.Inv O.Resp))
-        → ((its : ProcessCalls O.Inv O.Resp) → Contains known its → IsToldBy c.views its)
+        → (known : List (KnownCalls O.Inv O.Resp))
+        → ((its : KnownCalls O.Inv O.Resp) → Contains known its → IsToldBy c.views its)
         → IsLinearized (O.sequential o) n known g.image.state }
 {}
 
@@ -123,7 +123,7 @@ pub fn other_steps_append_nothing<O: SeqObject>()
 pub fn every_execution_is_linearizable<O: SeqObject>()
     ensures linearized { (o : O) (n : ℕ) → 1 ≤ n → n ≤ 64
         → (e : Execution {R = O.Resp} (O.sequential o) n (opened_moment (O.sequential o) n))
-        → IsLinearizedInTime (O.sequential o) (history (O.sequential o) n e) }
+        → IsLinearizedInTime (O.sequential o) (all_acts (O.sequential o) n e) }
     ensures strongly { (o : O) (n : ℕ)
         → (e : Execution {R = O.Resp} (O.sequential o) n (opened_moment (O.sequential o) n))
         (more : Execution (O.sequential o) n (last_moment (O.sequential o) n e))
@@ -135,7 +135,7 @@ pub fn every_execution_is_linearizable<O: SeqObject>()
 /// more than `12 * n + 5` steps on words, whatever the other processes do. A call that is left in an attempt, for want
 /// of memory, is counted from the load with which it begins anew.
 pub fn every_call_is_wait_free<O: SeqObject>()
-    ensures blocks { (o : O) (n : ℕ) → 1 ≤ n → n ≤ 64
+    ensures never_blocks { (o : O) (n : ℕ) → 1 ≤ n → n ≤ 64
         → (e : Execution {R = O.Resp} (O.sequential o) n (opened_moment (O.sequential o) n))
         → NeverBlocks (O.sequential o) n e }
     ensures bound { (o : O) (n : ℕ) → 1 ≤ n → n ≤ 64

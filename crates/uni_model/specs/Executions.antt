@@ -24,14 +24,14 @@ module _ {M : Type 0} (n : ℕ) (Step : (m : M) (p : ℕ) → Type 0) (after : (
   goes_on (Takes p inside step rest) more = Takes p inside step (goes_on rest more)
 
   -- the acts that its steps make, in the order of the steps
-  abbrev pub history : {A : Type 0} → (acts : (m : M) (p : ℕ) → Step m p → List A) → {m : M} → Execution m → List A
-  history acts Ends = []
-  history acts (Takes {m = m} p inside step rest) = acts m p step ++ history acts rest
+  abbrev pub all_acts : {A : Type 0} → (acts : (m : M) (p : ℕ) → Step m p → List A) → {m : M} → Execution m → List A
+  all_acts acts Ends = []
+  all_acts acts (Takes {m = m} p inside step rest) = acts m p step ++ all_acts acts rest
 
   -- what goes on only has further calls behind those that took effect
   abbrev pub KeepsOrder : {I R : Type 0} → (acts : (m : M) (p : ℕ) → Step m p → List (Act I R)) → {m : M} (e : Execution m)
       → Execution (last_moment e) → Type 0
-  KeepsOrder acts e more = points (history acts (goes_on e more)) ≡ points (history acts e) ++ points (history acts more)
+  KeepsOrder acts e more = points (all_acts acts (goes_on e more)) ≡ points (all_acts acts e) ++ points (all_acts acts more)
 
   -- how many steps process p has taken for its latest call at the end, where it had taken so many before
   abbrev pub steps_of_call : (counted : (m : M) (p : ℕ) → Step m p → ℕ → ℕ) → (p taken : ℕ) → {m : M} → Execution m → ℕ
@@ -65,9 +65,9 @@ sample first second = Takes 1 second tt (Takes 0 first tt Ends)
 sample_moment : (first : 0 < 2) (second : 1 < 2) → last_moment 2 Counts counts_on (sample first second) ≡ 8
 sample_moment first second = refl
 
-sample_history : (first : 0 < 2) (second : 1 < 2)
-    → history 2 Counts counts_on (λ m p step. p ∷ []) (sample first second) ≡ 1 ∷ 0 ∷ []
-sample_history first second = refl
+sample_all_acts : (first : 0 < 2) (second : 1 < 2)
+    → all_acts 2 Counts counts_on (λ m p step. p ∷ []) (sample first second) ≡ 1 ∷ 0 ∷ []
+sample_all_acts first second = refl
 
 -- the first process had taken five steps before
 sample_steps : (first : 0 < 2) (second : 1 < 2)

@@ -3,7 +3,7 @@ use Rattle.uni_small.proofs.Vocabulary.{Act, AreWidths, AreWords, Board, IsShown
 use Rattle.uni_small.proofs.Vocabulary.{HasAnnounced, HasAsked, HasBegun, HasBrought, HasChecked, HasCheckedOwn, HasCopied, HasFollowed, HasLoaded, HasLooked, HasReplied, HasStarted, HasStored, HasTurned, HasWritten, arith, buffer_word, begins, ends, number_cases, IsAttemptAt, none, read_image, spell, with_seen, ⊎_elim}
 use Rattle.uni_small.proofs.Vocabulary.{Bool, HasConfirmed, HasRecounted, HasReread, HasRestarted, false, has_begun}
 use Rattle.uni_model.proofs.Executions.{kept_along}
-use Rattle.uni_small.specs.Execution.{Access, CanTake, Execution, Moment, access_of, acts_at, acts_of, after, after_access, last_moment, history}
+use Rattle.uni_small.specs.Execution.{Access, CanTake, Execution, Moment, access_of, acts_at, acts_of, after, after_access, last_moment, all_acts}
 use Rattle.uni_small.specs.Execution.Next.{Store, Announce, Follow, Begin, Start, Copy, Look, Ask, Check, CheckOwn, Confirm, Write, Bring, BringOwn, Turn, Load, Reply}
 use Rattle.uni_small.specs.Execution.Next.{Recount, Reread, Restart}
 use Rattle.uni_small.proofs.Stores.{announced, stores, writes}
@@ -264,5 +264,5 @@ module _ {O : Type 0} (meaning : O → Meaning) (o : O) (sizes : Sizes) where
         (λ me' said. (said (has_begun (m.local p).stage (m.local p).direct) refl, restarted_one sizes (has_begun (m.local p).stage (m.local p).direct))) (λ g words sound. refl)
 
     -- and so does an execution
-    pub history_holds : {m : Moment} (acts : List (Act (List ℕ) (List ℕ))) → Holds m acts → (e : Execution object sizes m) → Holds (last_moment object sizes e) (acts ++ history object sizes e)
-    history_holds acts h e = kept_along sizes.processes (CanTake object sizes) (after object sizes) (acts_of object sizes) Holds step_holds acts h e
+    pub all_acts_hold : {m : Moment} (acts : List (Act (List ℕ) (List ℕ))) → Holds m acts → (e : Execution object sizes m) → Holds (last_moment object sizes e) (acts ++ all_acts object sizes e)
+    all_acts_hold acts h e = kept_along sizes.processes (CanTake object sizes) (after object sizes) (acts_of object sizes) Holds step_holds acts h e

@@ -1,6 +1,6 @@
 -- An execution goes on by one step.
 use Rattle.uni_small.proofs.Vocabulary.{Act, Board, List, Local, Sequential, Sizes, ap, append-nil, if◌then◌else◌, set_at, slice_index, slice_set, subst, sym, ℕ, ◌++◌, ◌<◌, ◌==◌, ◌∙◌, ◌≡◌}
-use Rattle.uni_model.proofs.Executions.{history-goes_on, last-goes_on}
+use Rattle.uni_model.proofs.Executions.{all_acts-goes_on, last-goes_on}
 use Rattle.uni_model.specs.Executions.Execution.{Ends, Takes}
 use Rattle.uni_small.specs.Execution.{Access, CanTake, Execution, Moment, Next, access_of, acts_of, after, after_access, goes_on, last_moment}
 use Rattle.uni_small.specs.Ran.{GoesOn}
@@ -28,7 +28,7 @@ runs_on object sizes g g' local words p inside l at j x l' acts steps appended =
         record {
           words_are = ap (λ (z : Moment). z.words) last ∙ (λ k. slice_set (leads.words_are k) (here.1 k) (a.becomes (found k))) ∙ ap (slice_set words j) here.2;
           locals_are = λ q within. ap (λ (z : Moment). z.local q) last ∙ (λ k. if q == p then leaves k else leads.locals_are q within k);
-          acts_are = history-goes_on sizes.processes (CanTake object sizes) (after object sizes) (acts_of object sizes) e one
+          acts_are = all_acts-goes_on sizes.processes (CanTake object sizes) (after object sizes) (acts_of object sizes) e one
               ∙ (λ k. leads.acts_are k ++ append-nil (a.acts (slice_index m.words a.word)) k) ∙ ap (λ l. g.acts ++ l) (ap a.acts found ∙ here.4) ∙ sym appended;
         },
       ),

@@ -4,7 +4,7 @@ use Rattle.uni_small.proofs.Vocabulary.{AreWhole, List, Option, ap, drop, take, 
 use Rattle.std.proofs.lemmas.List.{get_or-drop, get_or-take}
 use Rattle.uni_model.specs.Executions.Execution.{Ends, Takes}
 use Rattle.uni_small.specs.Image.{counter_sizes, sample_counter}
-use Rattle.uni_small.specs.Execution.{Execution, goes_on, history, last_moment, opened_moment}
+use Rattle.uni_small.specs.Execution.{Execution, goes_on, all_acts, last_moment, opened_moment}
 use Rattle.uni_small.specs.Execution.Next.{Store, Announce, Begin, Start, Copy, Look, Ask, Check, CheckOwn, Write, Bring, BringOwn, Recount, Reply, Restart}
 use Rattle.uni_small.specs.Progress.{steps_of_call}
 use Rattle.uni_small.proofs.Progressing.{whole_none, whole_push}

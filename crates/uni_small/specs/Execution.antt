@@ -170,8 +170,8 @@ module _ (object : Sequential (List ℕ) (List ℕ) (List ℕ)) (sizes : Sizes) 
   abbrev pub goes_on : {m : Moment} (e : Execution m) → Execution (last_moment e) → Execution m
   goes_on e more = Executions.goes_on sizes.processes CanTake after e more
 
-  abbrev pub history : {m : Moment} → Execution m → List (Act (List ℕ) (List ℕ))
-  history e = Executions.history sizes.processes CanTake after acts_of e
+  abbrev pub all_acts : {m : Moment} → Execution m → List (Act (List ℕ) (List ℕ))
+  all_acts e = Executions.all_acts sizes.processes CanTake after acts_of e
 
   abbrev pub KeepsOrder : {m : Moment} (e : Execution m) → Execution (last_moment e) → Type 0
   KeepsOrder e more = Executions.KeepsOrder sizes.processes CanTake after acts_of e more

@@ -4,7 +4,7 @@ use Rattle.seq_object.specs.Sequential.{Sequential}
 use Rattle.uni_model.specs.Executions.Execution.{Ends, Takes}
 use Rattle.uni_small.specs.View.{Local}
 use Rattle.uni_small.specs.Board.{Board}
-use Rattle.uni_small.specs.Execution.{Execution, Next, goes_on, history, last_moment, opened_moment}
+use Rattle.uni_small.specs.Execution.{Execution, Next, goes_on, all_acts, last_moment, opened_moment}
 use Rattle.uni_small.specs.declared.sizes.Sizes.{Sizes}
 
 module _ (object : Sequential (List ℕ) (List ℕ) (List ℕ)) (sizes : Sizes) where
@@ -12,7 +12,7 @@ module _ (object : Sequential (List ℕ) (List ℕ) (List ℕ)) (sizes : Sizes) 
   pub record LeadsTo (e : Execution object sizes (opened_moment object sizes)) (g : Board) (local : ℕ → Local) (words : List ℕ) : Type 0 where
     pub words_are : (last_moment object sizes e).words ≡ words
     pub locals_are : (p : ℕ) → p < sizes.processes → (last_moment object sizes e).local p ≡ local p
-    pub acts_are : history object sizes e ≡ g.acts
+    pub acts_are : all_acts object sizes e ≡ g.acts
 
   -- some execution leads there
   abbrev pub HasRun : Board → (local : ℕ → Local) → (words : List ℕ) → Type 0

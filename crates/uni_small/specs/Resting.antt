@@ -3,7 +3,7 @@ use Rattle.std.specs.Prelude.{◌≡◌, ◌≢◌, ℕ, ◌+◌, List, length}
 use Rattle.seq_object.specs.Sequential.{Sequential}
 use Rattle.uni_model.specs.Executions.Execution.{Ends, Takes}
 use Rattle.uni_small.specs.View.Stage.{Last}
-use Rattle.uni_small.specs.Execution.{Execution, Moment, access_of, after_access, history, last_moment}
+use Rattle.uni_small.specs.Execution.{Execution, Moment, access_of, after_access, all_acts, last_moment}
 use Rattle.uni_small.specs.Execution.Next.{Reply}
 use Rattle.uni_small.specs.declared.sizes.Sizes.{Sizes}
 
@@ -16,7 +16,7 @@ module _ (object : Sequential (List ℕ) (List ℕ) (List ℕ)) (sizes : Sizes) 
   -- Two executions make the same acts and end with the same words and all processes at the same places, but for process p, which takes no
   -- step in the second one.
   pub record AreAlikeBut (p : ℕ) {m m' : Moment} (e : Execution object sizes m) (e' : Execution object sizes m') : Type 0 where
-    pub acts : history object sizes e' ≡ history object sizes e
+    pub acts : all_acts object sizes e' ≡ all_acts object sizes e
     pub words : (last_moment object sizes e').words ≡ (last_moment object sizes e).words
     pub others : (q : ℕ) → q ≢ p → (last_moment object sizes e').local q ≡ (last_moment object sizes e).local q
     pub rests : Rests p e'

@@ -23,7 +23,7 @@ ghost use Rattle.uni_small.specs.Standing.{IsAnnounced, IsDirect, local_of};
 ghost use mathlib.Core.Option.{some};
 ghost use Rattle.uni_small.specs.declared.seat.Seen.{Seen};
 ghost use Rattle.uni_model.specs.Executions.{IsLinearizedInTime};
-ghost use Rattle.uni_small.specs.Execution.{Execution, KeepsOrder, history, last_moment, opened_moment};
+ghost use Rattle.uni_small.specs.Execution.{Execution, KeepsOrder, all_acts, last_moment, opened_moment};
 ghost use Rattle.uni_small.specs.Progress.{KeepsBound, NeverBlocks};
 ghost use Rattle.uni_small.specs.Resting.{LeavesNoTrace};
 ghost use Rattle.uni_small.specs.declared.sizes.Sizes.{Sizes};
@@ -171,7 +171,7 @@ pub fn returned_has_come<O: SmallObject>()
 pub fn every_execution_is_linearizable<O: SmallObject>()
     ensures linearized { (o : O) (sizes : Sizes) → AreSizesOf (O.meaning o) sizes
         → (e : Execution (O.meaning o).object sizes (opened_moment (O.meaning o).object sizes))
-        → IsLinearizedInTime (O.meaning o).object (history (O.meaning o).object sizes e) }
+        → IsLinearizedInTime (O.meaning o).object (all_acts (O.meaning o).object sizes e) }
     ensures strongly { (o : O) (sizes : Sizes)
         → (e : Execution (O.meaning o).object sizes (opened_moment (O.meaning o).object sizes))
         (more : Execution (O.meaning o).object sizes (last_moment (O.meaning o).object sizes e))
@@ -182,7 +182,7 @@ pub fn every_execution_is_linearizable<O: SmallObject>()
 /// no call takes more than `6 * W + (9 + 3 * I + 6 * R) * n + I + R + 11` steps of its own process, whatever the other
 /// processes do. A call whose seat is taken over is counted from where it begins again.
 pub fn every_call_is_wait_free<O: SmallObject>()
-    ensures blocks { (o : O) (sizes : Sizes) → AreSizesOf (O.meaning o) sizes
+    ensures never_blocks { (o : O) (sizes : Sizes) → AreSizesOf (O.meaning o) sizes
         → (e : Execution (O.meaning o).object sizes (opened_moment (O.meaning o).object sizes))
         → NeverBlocks (O.meaning o).object sizes e }
     ensures bound { (o : O) (sizes : Sizes) → AreSizesOf (O.meaning o) sizes

@@ -55,8 +55,8 @@ pub struct Request {
 ///
 /// The status is 0 where all went well, also for help or the version, which go to `output`; 2 for a bad script, for
 /// more than 2,000 events, where `--from` is past the last one, or for words that ask for nothing that there is; 3
-/// where `input` or `output` failed; 4 where memory was refused; and 5 where the drawing does not show its run, of which
-/// no script is known. The text that says so goes to `faults`, as far as that takes it.
+/// where `input` or `output` failed; 4 where memory was refused; and 5 where the drawing does not show its run, of
+/// which no script is known. The text that says so goes to `faults`, as far as that takes it.
 pub fn run<S: AsStr, I: KeepsText, O: TextOut, F: TextOut>(
     alloc: Global,
     words: &[S],
