@@ -71,6 +71,14 @@ fn a_read_changes_nothing(rt: HostRuntime) {
     assert!(rt; state(&rt, &shared, &mut first) == (9, 3));
     assert!(rt; state(&rt, &shared, &mut second) == (9, 3));
     assert!(rt; first.made() == 2 && second.made() == 1);
+    answers(&rt, &shared, &mut first, &[(2, 9)]);
+    let eleven = Told {
+        reply: 11,
+        version: 4,
+    };
+    assert!(rt; read(&rt, &shared, &mut second, 0) == eleven);
+    assert!(rt; read(&rt, &shared, &mut second, 0) == eleven);
+    assert!(rt; state(&rt, &shared, &mut second) == (11, 4));
 }
 
 /// What a seat of a map reads: what the call would be answered, and the version.

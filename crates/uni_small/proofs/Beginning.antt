@@ -131,6 +131,7 @@ module _ (object : Sequential (List ℕ) (List ℕ) (List ℕ)) (sizes : Sizes) 
     };
     attempt = (let v = set_at_same g.since p g.version in omega arith);
     ordered = mine.ordered;
+    read = mine.read;
   }
 
   pub begun_sound : IsSound object sizes begun_board (set_at local p (announces l inv))

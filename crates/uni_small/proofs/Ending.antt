@@ -272,6 +272,7 @@ announced_ends sizes inv reply version me me1 me2 own0 own h rest =
       held = own.held.items;
       after = version;
       own = l.own ++ record { inv = inv; reply = reply; after = l.after; version = version } ∷ [];
+      read = None;
       steps = l.steps + rest.0;
     }) in
     let b = left_more me me1 me2 after (tried_directly (local_of me) inv None own0 h.0) h.3 rest.3 in

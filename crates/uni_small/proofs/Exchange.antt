@@ -409,6 +409,7 @@ module _ {O : Type 0} (meaning : O â†’ Meaning) (o : O) (sizes : Sizes) (id : â„
             | inr new â†¦ absurd (apart (f.words_are.current âˆ™ sym (at_it.1 new.0).0))
           ];
           ordered = f.mine.ordered;
+          read = f.mine.read;
         });
         words_are = subst (AreWords sizes g) (sym (set-get_or words 0 0)) f.words_are;
         said = elim (number_cases (slice_index words 0) s) [
@@ -449,6 +450,7 @@ module _ {O : Type 0} (meaning : O â†’ Meaning) (o : O) (sizes : Sizes) (id : â„
                   call = call_stays object sizes steadily few g local f.sound seen now.1.1 now.1.4 p f.inside now.1.2 out (2 * p + l.spare) b_inside written exactly q (local q) (local q).stage inside h.call;
                   attempt = attempt_stays object sizes steadily few g local f.sound seen now.1.1 now.1.4 p f.inside now.1.2 out (2 * p + l.spare) b_inside written exactly q (2 * q + (local q).spare) (local q).stage inside other h.attempt;
                   ordered = ordered_stays object sizes steadily few g local f.sound seen now.1.1 now.1.4 p f.inside now.1.2 out (2 * p + l.spare) b_inside written exactly q (local q).after (local q).own h.ordered;
+                  read = h.read;
                 })
                 (record {
                   spare = omega arith;
@@ -466,6 +468,7 @@ module _ {O : Type 0} (meaning : O â†’ Meaning) (o : O) (sizes : Sizes) (id : â„
                     refl,
                   );
                   ordered = ordered_stays object sizes steadily few g local f.sound seen now.1.1 now.1.4 p f.inside now.1.2 out (2 * p + l.spare) b_inside written exactly p l.after l.own f.mine.ordered;
+                  read = f.mine.read;
                 });
             words_are = words_current sizes g g' words f.words_are refl refl refl st.second word;
             said = elim (number_cases (slice_index words 0) s) [
@@ -533,6 +536,7 @@ module _ {O : Type 0} (meaning : O â†’ Meaning) (o : O) (sizes : Sizes) (id : â„
           call = (closed, refl);
           attempt = tt;
           ordered = f.mine.ordered;
+          read = f.mine.read;
         });
         words_are = subst (AreWords sizes g) (sym (set-get_or words 0 0)) f.words_are;
         said = elim (number_cases (slice_index words 0) s) [
@@ -728,6 +732,7 @@ module _ {O : Type 0} (meaning : O â†’ Meaning) (o : O) (sizes : Sizes) (id : â„
               call = call_stays object sizes steadily_own few g1 local1 sound1 all long1 full1 p f.inside known1 out1 (2 * p + l.spare) b_inside written1 exactly1 q (local q) (local q).stage inside h.call;
               attempt = attempt_stays object sizes steadily_own few g1 local1 sound1 all long1 full1 p f.inside known1 out1 (2 * p + l.spare) b_inside written1 exactly1 q (2 * q + (local q).spare) (local q).stage inside other h.attempt;
               ordered = ordered_stays object sizes steadily_own few g1 local1 sound1 all long1 full1 p f.inside known1 out1 (2 * p + l.spare) b_inside written1 exactly1 q (local q).after (local q).own h.ordered;
+              read = h.read;
             })
 
         word : st.second â‰¡ current_word (g.version + 1) (2 * p + l.spare)
@@ -766,6 +771,7 @@ module _ {O : Type 0} (meaning : O â†’ Meaning) (o : O) (sizes : Sizes) (id : â„
             refl,
           );
           ordered = ordered_stays object sizes steadily_own few g1 local1 sound1 all long1 full1 p f.inside known1 out1 (2 * p + l.spare) b_inside written1 exactly1 p l.after l.own mine1.ordered;
+          read = f.mine.read;
         }
 
         hit_own : Given meaning o sizes me g local (slice_set words 0 st.second) (takes_effect_own l p inv s own_seen g (slice_index words 0)) (LeftOwn (slice_index words 0))

@@ -1,16 +1,16 @@
 -- Each step of an execution is one of the table's steps, and so keeps a board whose history is that of the execution.
 use Rattle.uni_small.proofs.Vocabulary.{Act, AreWidths, AreWords, Board, IsShown, IsSound, Image, IsSteady, Last, Linearize, List, Local, Me, Meaning, Moves, Option, Reading, Ready, Sequential, Sizes, Some, Stage, State, Tells, View, Writing, [], ap, brought, brought_own, Seen, Idle, Invoke, IsLeft, slice_set, takes_effect_own, buffer_in, calls_seen, current_word, eqb, false, get_elem?, if◌then◌else◌, length, map, nothing, refl, set_at, slice_index, slice_set, some, step, subst, sym, takes_effect, true, version_in, with_local, ℕ, either, ◌*◌, ◌++◌, ◌+◌, ◌<◌, ◌==◌, ◌∙◌, ◌∷◌, ◌≡◌, ◌≤◌, written_to}
 use Rattle.uni_small.proofs.Vocabulary.{HasAnnounced, HasAsked, HasBegun, HasBrought, HasChecked, HasCheckedOwn, HasCopied, HasFollowed, HasLoaded, HasLooked, HasReplied, HasStarted, HasStored, HasTurned, HasWritten, arith, buffer_word, begins, ends, number_cases, IsAttemptAt, none, read_image, spell, with_seen, ⊎_elim}
-use Rattle.uni_small.proofs.Vocabulary.{Bool, HasConfirmed, HasRecounted, HasReread, HasRestarted, false, has_begun}
+use Rattle.uni_small.proofs.Vocabulary.{Bool, HasConfirmed, HasRecalled, HasRecounted, HasReread, HasRestarted, false, has_begun}
 use Rattle.uni_model.proofs.Executions.{kept_along}
 use Rattle.uni_small.specs.Execution.{Access, CanTake, Execution, Moment, access_of, acts_at, acts_of, after, after_access, last_moment, all_acts}
-use Rattle.uni_small.specs.Execution.Next.{Store, Announce, Follow, Begin, Start, Copy, Look, Ask, Check, CheckOwn, Confirm, Write, Bring, BringOwn, Turn, Load, Reply}
+use Rattle.uni_small.specs.Execution.Next.{Store, Announce, Follow, Recall, Begin, Start, Copy, Look, Ask, Check, CheckOwn, Confirm, Write, Bring, BringOwn, Turn, Load, Reply}
 use Rattle.uni_small.specs.Execution.Next.{Recount, Reread, Restart}
 use Rattle.uni_small.proofs.Stores.{announced, stores, writes}
 use Rattle.uni_small.proofs.Exchange.{brings_in, brings_in_left}
 use Rattle.uni_small.proofs.Reply.{loads, replies}
 use Rattle.uni_small.proofs.Rejoining.{recounts, rereads, restarts}
-use Rattle.uni_small.proofs.Loads.{begins_own, checks_own, reads, starts, copies, looks, asks, checks, turns, follows_on}
+use Rattle.uni_small.proofs.Loads.{begins_own, checks_own, reads, starts, copies, looks, asks, checks, turns, follows_on, recalls_on}
 use Rattle.uni_model.proofs.Each.{at_each, each-set_at, each_of, from_each}
 
 -- the buffer that an attempt copies is one of the buffers
@@ -167,6 +167,12 @@ module _ {O : Type 0} (meaning : O → Meaning) (o : O) (sizes : Sizes) where
         moved widths m acts h p inside (access_of object sizes p (m.local p) (Follow at)) (λ y. y) nothing (λ found me'. HasFollowed st me found me')
         (follows_on meaning o sizes p few st me refl at) refl
         (λ me' said. ((said at).0, subst (λ k. IsCopyingOne sizes k) (sym at) tt)) (λ g words sound. refl)
+    step_holds m acts h p inside (Recall read at had) =
+        let st = step 0 0 0 0 none in let me = me_at m.local p in
+        moved widths m acts h p inside (access_of object sizes p (m.local p) (Recall read at had)) (λ y. y) nothing
+        (λ found me'. (q : O) → me.0.object ≡ Some q → HasRecalled (meaning q) st me found me')
+        (recalls_on meaning o sizes p few st me refl read at had) refl
+        (λ me' said. ((said o refl read at had).0, subst (λ k. IsCopyingOne sizes k) (sym at) tt)) (λ g words sound. refl)
     step_holds m acts h p inside (Begin at untried room) =
         let st = step 0 0 0 0 none in let me = me_at m.local p in
         moved widths m acts h p inside (access_of object sizes p (m.local p) (Begin at untried room)) (λ y. y) nothing (λ found me'. HasBegun st me found me')

@@ -1,5 +1,5 @@
 -- Seats that go on with a call.
-use Rattle.uni_small.proofs.Vocabulary.{AreApplied, AreBuffers, Bool, Buffers, Goes, GoesBy, Image, IsLeft, IsOf, List, Me, None, Option, Reading, Seen, Sequential, Sizes, Some, Stage, View, WritesWithin, [], ap, arith, begun, buffer_in, false, goes, inl, inr, length, local_of, looked, nat_le, number_cases, refl, slice_index, slice_set, stage_of, subst, sym, true, went, with_local, with_seen, words_held, wrote, ℕ, ◌%◌, ◌++◌, ◌+◌, ◌/◌, ◌<◌, ◌∙◌, ◌∷◌, ◌≡◌, ◌≤◌, ◌⊎◌, HasComeTo, Ready, Writing, Idle, Last, written_to, with_row, spell, buffer_words, held_place, lt_cases, ⊎_elim, ◌*◌, ◌-◌}
+use Rattle.uni_small.proofs.Vocabulary.{AreApplied, AreBuffers, Bool, Buffers, Goes, GoesBy, Image, IsLeft, IsOf, List, Me, None, Option, Reading, Seen, Sequential, Sizes, Some, Stage, View, WritesWithin, [], ap, arith, begun, buffer_in, false, goes, inl, inr, length, local_of, looked, nat_le, number_cases, refl, slice_index, slice_set, stage_of, subst, sym, true, went, with_local, with_seen, words_held, wrote, ℕ, ◌%◌, ◌++◌, ◌+◌, ◌/◌, ◌<◌, ◌∙◌, ◌∷◌, ◌≡◌, ◌≤◌, ◌⊎◌, HasComeTo, Ready, Writing, Idle, Last, written_to, with_row, spell, buffer_words, held_place, lt_cases, ⊎_elim, ◌*◌, ◌-◌, IsAnnounced, read_then, recalls, rests, version_in, confirms, after_read}
 use Rattle.uni_small.proofs.Vocabulary.{ReadsWithin, after_read, begins_directly, confirms, if◌then◌else◌, version_in, ◌==◌}
 use Rattle.std.proofs.lemmas.Bool.Decides.{nat_tests}
 use Rattle.uni_small.proofs.Rows.{with_row-before, with_row-index}
@@ -171,16 +171,60 @@ writes_come object sizes me me1 from most held row image seen all written first 
 )
 
 -- a read from its first load to its last one
-pub read_ends : {O : Type 0} (me me1 me2 me3 : Me Seen (View O)) (s again words most : ℕ) (first : List ℕ) (stage : Stage) (version : Option ℕ) → IsLeft me (begins_directly (local_of me) s first) me1
-    → words ≤ most → GoesBy me1 words stage me2 → IsLeft me2 (confirms (local_of me2) s again) me3
-    → (if again == s then version_in s else (local_of me).after) ≡ after_read (local_of me).after version → ReadsWithin (most + 2) me version me3
-read_ends me me1 me2 me3 s again words most first stage version began few copied ended found =
+pub read_ends : {O : Type 0} (me me1 me2 me3 : Me Seen (View O)) (s again words most : ℕ) (first : List ℕ) (stage : Stage) (version : Option ℕ) (state : List ℕ)
+    → IsLeft me (begins_directly (local_of me) s first) me1
+    → words ≤ most → GoesBy me1 words stage me2 → IsLeft me2 (confirms (local_of me2) s state again) me3
+    → (if again == s then version_in s else (local_of me).after) ≡ after_read (local_of me).after version
+    → (if again == s then Some (record { version = version_in s; state = state }) else (local_of me).read) ≡ read_then (local_of me).read version state
+    → ReadsWithin (most + 2) me version state me3
+read_ends me me1 me2 me3 s again words most first stage version state began few copied ended found read =
     let l = local_of me in
     let count : l.steps + 1 + words + 1 ≡ l.steps + (words + 2) = omega arith in (
       words + 2,
+      omega arith,
       omega (arith, few),
       ended
-          ∙ ap (λ (m : Me Seen (View _)). (with_local m.0 (confirms (local_of m) s again), m.1))
+          ∙ ap (λ (m : Me Seen (View _)). (with_local m.0 (confirms (local_of m) s state again), m.1))
           (copied ∙ ap (λ (m : Me Seen (View _)). (with_local m.0 (went (local_of m) words stage), m.1)) began)
-          ∙ (λ k. (with_local me.0 (record l { stage = Idle []; direct = false; after = found k; steps = count k }), me.1)),
+          ∙ (λ k. (with_local me.0 (record l { stage = Idle []; direct = false; after = found k; read = read k; steps = count k }), me.1)),
+    )
+
+-- where the version that was read isn't the present one, the seat is where it was
+pub recalled_no : {O : Type 0} (me me1 : Me Seen (View O)) (version present : ℕ) → IsLeft me (recalls (local_of me) version present) me1 → (present ≡ version → ⊥)
+    → IsLeft me (rests (local_of me)) me1
+recalled_no me me1 version present left apart =
+    let l = local_of me in
+    let found : (if present == version then version else l.after) ≡ l.after = elim (number_cases present version) [ inl h ↦ absurd (apart h.0) | inr h ↦ rw h.1 refl ] in
+    left ∙ (λ k. (with_local me.0 (record l { after = found k; steps = l.steps + 1 }), me.1))
+
+-- and reads from there on
+pub reads_after : {O : Type 0} (me me1 me2 : Me Seen (View O)) (most : ℕ) (version : Option ℕ) (state : List ℕ) → IsLeft me (rests (local_of me)) me1
+    → ReadsWithin most me1 version state me2 → ReadsWithin (most + 1) me version state me2
+reads_after me me1 me2 most version state rested (words, some, few, left) =
+    let l = local_of me in
+    let count : l.steps + 1 + words ≡ l.steps + (words + 1) = omega arith in (
+      words + 1,
+      omega arith,
+      omega (arith, few),
+      left
+          ∙ ap (λ (m : Me Seen (View _)). (
+            with_local m.0 (record (local_of m) {
+              stage = Idle [];
+              direct = false;
+              after = after_read (local_of m).after version;
+              read = read_then (local_of m).read version state;
+              steps = (local_of m).steps + words;
+            }),
+            m.1,
+          )) rested
+          ∙ (λ k. (
+            with_local me.0 (record l {
+              stage = Idle [];
+              direct = false;
+              after = after_read l.after version;
+              read = read_then l.read version state;
+              steps = count k;
+            }),
+            me.1,
+          )),
     )

@@ -3,10 +3,10 @@ use Rattle.uni_small.proofs.Vocabulary.{AreIn, AreWhole, Board, Bool, HasAsked, 
 use Rattle.uni_small.specs.Invariant.{IsCopied}
 use Rattle.std.proofs.lemmas.Bool.Decides.{nat_tests}
 use Rattle.uni_small.proofs.Frame.{Found, load_law}
-use Rattle.uni_small.proofs.Vocabulary.{AreWidths, HasConfirmed, IsOrdered, ProcessReturned, confirms, own_in_view, Contains}
+use Rattle.uni_small.proofs.Vocabulary.{AreWidths, HasConfirmed, HasRecalled, IsOrdered, ProcessReturned, Read, confirms, own_in_view, recalls, Contains}
 use Rattle.uni_small.specs.Final.{IsVersion}
 use Rattle.uni_small.proofs.Finals.{IsDone, version_has}
-use Rattle.uni_small.proofs.Stepping.{ask_steps, begin_steps, check_own_steps, check_steps, confirm_steps, copy_steps, follow_steps, look_steps, start_steps, turn_steps}
+use Rattle.uni_small.proofs.Stepping.{ask_steps, begin_steps, check_own_steps, check_steps, confirm_steps, copy_steps, follow_steps, look_steps, recall_steps, start_steps, turn_steps}
 use Rattle.uni_small.proofs.Lists.{due-set, due_cases, due_last, due_same, due_snoc, get-contains, get_last, get_snoc, index_last, index_snoc, same_list, sum_most}
 use Rattle.uni_small.proofs.Rows.{begins_more}
 use Rattle.uni_small.proofs.Images.{spell-length, spell-applied, read-spell, reached_from, rows-seen, width_is, reply-seen}
@@ -106,7 +106,7 @@ module _ {O : Type 0} (meaning : O → Meaning) (o : O) (sizes : Sizes) (id : �
 
   -- the process goes to another stage, of the same call
   at_next : (g : Board) (stage : Stage) → IsAt object sizes g p l → IsCallAt object sizes g p l stage → IsAttemptAt object sizes g p (2 * p + l.spare) stage → IsAt object sizes g p (goes l stage)
-  at_next g stage was call attempt = record { spare = was.spare; apart = was.apart; held = was.held; told = was.told; call = by_stage stage call; attempt = attempt; ordered = was.ordered } where
+  at_next g stage was call attempt = record { spare = was.spare; apart = was.apart; held = was.held; told = was.told; call = by_stage stage call; attempt = attempt; ordered = was.ordered; read = was.read } where
     by_stage : (stage : Stage) → IsCallAt object sizes g p l stage → IsCallAt object sizes g p (goes l stage) stage
     by_stage (Idle stored) c = c
     by_stage (Ready t) c = c
@@ -465,6 +465,7 @@ module _ {O : Type 0} (meaning : O → Meaning) (o : O) (sizes : Sizes) (id : �
           held = f.mine.held;
           told = f.mine.told;
           call = (call_at object sizes g p l (Idle []) f.mine stage).0;
+          read = f.mine.read;
           attempt = (
             omega arith,
             λ fresh. (
@@ -533,19 +534,43 @@ module _ {O : Type 0} (meaning : O → Meaning) (o : O) (sizes : Sizes) (id : �
                   (may_write object sizes steadily g p (2 * p + l.spare) f.sound.board seen (slice_set seen p (Some inv)) now.1.1 (λ r apart. due-set seen p r (Some inv) apart) mine),
             )
 
+  -- a process with no call pending may follow the present version
+  ordered_now : (g : Board) → IsAt object sizes g p l → IsBoard object sizes g → IsClosed g p l.own → (version : ℕ) → version ≡ g.version
+      → IsOrdered object g.atomic.agreed g.calls_in_version g.version p version l.own
+  ordered_now g mine board closed version here = record {
+    reached = omega arith;
+    later = λ c place at own from. absurd (none_beyond object sizes g p board c place at own (let i = closed.in_is in omega arith));
+    known = mine.ordered.known;
+    stand = mine.ordered.stand;
+  }
+
+  -- or goes on from the one that it followed
+  ordered_if : (g : Board) → IsAt object sizes g p l → IsBoard object sizes g → IsClosed g p l.own → (version : ℕ) (b : Bool) → (b ≡ true → version ≡ g.version)
+      → IsOrdered object g.atomic.agreed g.calls_in_version g.version p (if b then version else l.after) l.own
+  ordered_if g mine board closed version true now = ordered_now g mine board closed version (now refl)
+  ordered_if g mine board closed version false now = mine.ordered
+
+  -- the version that S names
+  present_is : {local : ℕ → Local} {words : List ℕ} (g : Board) → Found meaning o sizes me g local words → version_in (slice_index words 0) ≡ g.version
+  present_is g f = ap version_in f.words_are.current ∙ version_of g.version g.current (let c = f.sound.board.current in omega arith)
+
   -- a read ends
   pub reads : (s : ℕ) → IsCopying 0 s (buffer_words sizes) me → IsDirect me
       → Moves meaning o sizes id me 0 (λ x. x) nothing (λ found me'. (q : O) → me.0.object ≡ Some q → HasConfirmed (meaning q) st me found me')
   reads s copying direct = load_law meaning o sizes id me 0 (λ found me'. (q : O) → me.0.object ≡ Some q → HasConfirmed (meaning q) st me found me') single (confirm_steps meaning o sizes st me s copying direct) (λ g local words f.
       let x = slice_index words 0 in
       let copy = copying.0 in
+      let state = (read_image sizes copy).state in
       let stage : l.stage ≡ Reading 0 s copy [] = copying.1 in
       let was = attempt_at object sizes g p l (Reading 0 s copy []) f.mine stage in
       let closed : IsClosed g p l.own = attempted_closed g direct (call_at object sizes g p l (Reading 0 s copy []) f.mine stage) in
-      let is : x ≡ current_word g.version g.current = f.words_are.current in
       let board = f.sound.board in
-      let version : version_in x ≡ g.version = ap version_in is ∙ version_of g.version g.current (let c = board.current in omega arith) in (
-        confirms l s x,
+      let here : x ≡ s → version_in s ≡ g.version = (λ same. ap version_in (sym same) ∙ present_is g f) in
+      let is_version : x ≡ s → IsVersion object sizes.processes (own_in_view me.0 ∷ []) (version_in s) state = (λ same.
+      let image : read_image sizes copy ≡ g.image
+      = ap (read_image sizes) (copy_is 0 s g copy [] x f copying.2 was f.words_are.current same) ∙ read-spell sizes g.image board.rows in
+      version_has object sizes g board (own_in_view me.0 ∷ []) (done g board f.mine closed) state (ap (λ (i : Image). i.state) (sym image)) (version_in s) (let v = here same in omega arith)) in (
+        confirms l s state x,
         record {
           spare = f.mine.spare;
           apart = f.mine.apart;
@@ -553,39 +578,31 @@ module _ {O : Type 0} (meaning : O → Meaning) (o : O) (sizes : Sizes) (id : �
           told = f.mine.told;
           call = (closed, refl);
           attempt = tt;
-          ordered = by_found g f.mine board closed x version (x == s) refl;
+          ordered = ordered_if g f.mine board closed (version_in s) (x == s) (λ e. here (let h : (x == s) ≡ true = e in grind (arith, nat_tests, h)));
+          read = by_found g f.mine s state (x == s) (λ e. is_version (let h : (x == s) ≡ true = e in grind (arith, nat_tests, h)));
         },
         λ q object_is s' copy' stage'.
             let object_same : o ≡ q = (let e : Some o ≡ Some q = sym f.object ∙ object_is in cc) in
             let e : Reading 0 s copy [] ≡ Reading 0 s' copy' [] = sym stage ∙ stage' in
             let b : s ≡ s' = cc in let c : copy ≡ copy' = cc in (
-              λ k. (with_local me.0 (confirms l (b k) x), me.1),
-              λ same.
-                  let here : version_in s' ≡ g.version = ap version_in (sym same) ∙ version in
-                  let image : read_image sizes copy ≡ g.image
-                  = ap (read_image sizes) (copy_is 0 s g copy [] x f copying.2 was is (same ∙ sym b)) ∙ read-spell sizes g.image board.rows in
-                  let state : g.image.state ≡ (read_image sizes copy').state = ap (λ (i : Image). i.state) (sym image) ∙ ap (λ ws. (read_image sizes ws).state) c in
-                  let is_version : IsVersion object sizes.processes (own_in_view me.0 ∷ []) (version_in s') (read_image sizes copy').state
-                  = version_has object sizes g board (own_in_view me.0 ∷ []) (done g board f.mine closed) (read_image sizes copy').state state (version_in s') (omega arith) in (
-                    subst (λ q. AreWidths (meaning q) me.0.known.sizes) object_same (subst (AreWidths (meaning o)) (sym f.processes) f.widths),
-                    (let r = f.mine.ordered.reached in omega arith),
-                    subst (λ q. IsVersion (meaning q).object me.0.known.sizes.processes (own_in_view me.0 ∷ []) (version_in s') (read_image me.0.known.sizes copy').state) object_same
-                        (subst (λ z. IsVersion object z.processes (own_in_view me.0 ∷ []) (version_in s') (read_image z copy').state) (sym f.processes) is_version),
-                  ),
+              λ k. (with_local me.0 (confirms l (b k) (read_image (sym f.processes k) (c k)).state x), me.1),
+              λ same. (
+                subst (λ q. AreWidths (meaning q) me.0.known.sizes) object_same (subst (AreWidths (meaning o)) (sym f.processes) f.widths),
+                (let r = f.mine.ordered.reached in let v = here (same ∙ sym b) in let w : version_in s ≡ version_in s' = ap version_in b in omega arith),
+                subst (λ q. IsVersion (meaning q).object me.0.known.sizes.processes (own_in_view me.0 ∷ []) (version_in s') (read_image me.0.known.sizes copy').state) object_same
+                    (subst (λ z. IsVersion object z.processes (own_in_view me.0 ∷ []) (version_in s') (read_image z copy').state) (sym f.processes)
+                    (subst (λ ws. IsVersion object sizes.processes (own_in_view me.0 ∷ []) (version_in s') (read_image sizes ws).state) c
+                    (subst (λ z. IsVersion object sizes.processes (own_in_view me.0 ∷ []) (version_in z) state) b (is_version (same ∙ sym b))))),
+              ),
             ),
       )) where
-        by_found : (g : Board) → IsAt object sizes g p l → IsBoard object sizes g → IsClosed g p l.own → (x : ℕ) → version_in x ≡ g.version → (b : Bool) → (x == s) ≡ b
-            → IsOrdered object g.atomic.agreed g.calls_in_version g.version p (if b then version_in s else l.after) l.own
-        by_found g mine board closed x version true e =
-            let same : x ≡ s = (let h : (x == s) ≡ true = e in grind (arith, nat_tests, h)) in
-            let here : version_in s ≡ g.version = ap version_in (sym same) ∙ version in
-            record {
-              reached = omega arith;
-              later = λ c place at own from. absurd (none_beyond object sizes g p board c place at own (let i = closed.in_is in omega arith));
-              known = mine.ordered.known;
-              stand = mine.ordered.stand;
-            }
-        by_found g mine board closed x version false e = mine.ordered
+        by_found : (g : Board) → IsAt object sizes g p l → (s : ℕ) (state : List ℕ) (b : Bool) → (b ≡ true → IsVersion object sizes.processes (own_in_view me.0 ∷ []) (version_in s) state)
+            → (read : Read) → (if b then Some (record { version = version_in s; state = state }) else l.read) ≡ Some read → IsVersion object sizes.processes (own_in_view me.0 ∷ []) read.version read.state
+        by_found g mine s state true now read e =
+            let h : Some (record { version = version_in s; state = state }) ≡ Some read = e in
+            let same : (record { version = version_in s; state = state }) ≡ read = cc in
+            subst (λ (r : Read). IsVersion object sizes.processes (own_in_view me.0 ∷ []) r.version r.state) same (now refl)
+        by_found g mine s state false now read e = mine.read read e
 
         done : (g : Board) (board : IsBoard object sizes g) → IsAt object sizes g p l → IsClosed g p l.own → (its : ProcessReturned) → Contains (own_in_view me.0 ∷ []) its → IsDone object sizes g board its
         done g board mine closed its (zero, below, e) = subst (IsDone object sizes g board) e (record { closed = closed; after = l.after; ordered = mine.ordered })
@@ -595,10 +612,7 @@ module _ {O : Type 0} (meaning : O → Meaning) (o : O) (sizes : Sizes) (id : �
   pub follows_on : stage_of me ≡ Idle [] → Moves meaning o sizes id me 0 (λ x. x) nothing (λ found me'. HasFollowed st me found me')
   follows_on stage = load_law meaning o sizes id me 0 (λ found me'. HasFollowed st me found me') single (follow_steps meaning o sizes st me stage) (λ g local words f.
       let s = slice_index words 0 in
-      let is : s ≡ current_word g.version g.current = f.words_are.current in
-      let b = f.sound.board in
-      let small : g.current < 128 = (let c = b.current in omega arith) in
-      let version : version_in s ≡ g.version = ap version_in is ∙ version_of g.version g.current small in
+      let version = present_is g f in
       let closed = call_at object sizes g p l (Idle []) f.mine stage in (
         knows l (version_in s),
         record {
@@ -608,14 +622,42 @@ module _ {O : Type 0} (meaning : O → Meaning) (o : O) (sizes : Sizes) (id : �
           told = f.mine.told;
           call = subst (IsCallAt object sizes g p (knows l (version_in s))) (sym stage) closed;
           attempt = f.mine.attempt;
-          ordered = record {
-            reached = omega arith;
-            later = λ c place at own from. absurd (none_beyond object sizes g p b c place at own (let i = closed.0.in_is in omega arith));
-            known = f.mine.ordered.known;
-            stand = f.mine.ordered.stand;
-          };
+          ordered = ordered_now g f.mine f.sound.board closed.0 (version_in s) version;
+          read = f.mine.read;
         },
         λ stage'. (refl, (let r = f.mine.ordered.reached in omega arith)),
+      ))
+
+  -- S is loaded to ask whether the version that was read is still the present one
+  pub recalls_on : (read : Read) → stage_of me ≡ Idle [] → l.read ≡ Some read
+      → Moves meaning o sizes id me 0 (λ x. x) nothing (λ found me'. (q : O) → me.0.object ≡ Some q → HasRecalled (meaning q) st me found me')
+  recalls_on read stage had = load_law meaning o sizes id me 0 (λ found me'. (q : O) → me.0.object ≡ Some q → HasRecalled (meaning q) st me found me') single (recall_steps meaning o sizes st me read stage had) (λ g local words f.
+      let present = version_in (slice_index words 0) in
+      let closed = call_at object sizes g p l (Idle []) f.mine stage in (
+        recalls l read.version present,
+        record {
+          spare = f.mine.spare;
+          apart = f.mine.apart;
+          held = f.mine.held;
+          told = f.mine.told;
+          call = subst (IsCallAt object sizes g p (recalls l read.version present)) (sym stage) closed;
+          attempt = f.mine.attempt;
+          ordered = ordered_if g f.mine f.sound.board closed.0 read.version (present == read.version)
+              (λ e. let h : (present == read.version) ≡ true = e in let same : present ≡ read.version = grind (arith, nat_tests, h) in sym same ∙ present_is g f);
+          read = f.mine.read;
+        },
+        λ q object_is read' stage' had'.
+            let object_same : o ≡ q = (let e : Some o ≡ Some q = sym f.object ∙ object_is in cc) in
+            let e : Some read ≡ Some read' = sym had ∙ had' in
+            let b : read ≡ read' = cc in (
+              λ k. (with_local me.0 (recalls l (b k).version present), me.1),
+              λ same. (
+                subst (λ q. AreWidths (meaning q) me.0.known.sizes) object_same (subst (AreWidths (meaning o)) (sym f.processes) f.widths),
+                (let r = f.mine.ordered.reached in let v = present_is g f in omega arith),
+                subst (λ q. IsVersion (meaning q).object me.0.known.sizes.processes (own_in_view me.0 ∷ []) read'.version read'.state) object_same
+                    (subst (λ (z : Sizes). IsVersion object z.processes (own_in_view me.0 ∷ []) read'.version read'.state) (sym f.processes) (f.mine.read read' had')),
+              ),
+            ),
       ))
 
 -- the version of a call that has returned has come

@@ -1,5 +1,5 @@
 -- The table that is made shows the board that is opened.
-use Rattle.uni_small.proofs.Vocabulary.{AreHeld, AreWidths, AreWords, HasRows, IsBoard, IsSound, List, Meaning, Seen, Sequential, ShowsBoard, Sizes, Tells, View, [], ap, append-nil, append_assoc, argument_word, arith, at_rest, buffer_word, buffer_words, first_held, first_image, first_view, get_elem?, get_or-append-add, get_or-replicate, get_or_append_left, held_place, joined, length, length-append, length-replicate, opened, opening, refl, replicate, replicate-append-replicate, slice_get_within, slice_index, some, some-injective, some-ne-none, spell, subst, suc, suc-mul, sym, words_before, words_of, zero, ℕ, ◌*◌, ◌++◌, ◌+◌, ◌<◌, ◌∙◌, ◌∷◌, ◌≡◌, ◌≤◌}
+use Rattle.uni_small.proofs.Vocabulary.{AreHeld, AreWidths, AreWords, HasRows, IsBoard, IsSound, List, Meaning, Seen, Sequential, ShowsBoard, Sizes, Tells, View, [], ap, append-nil, append_assoc, argument_word, arith, at_rest, buffer_word, buffer_words, first_held, first_image, first_view, get_elem?, get_or-append-add, get_or-replicate, get_or_append_left, held_place, joined, length, length-append, length-replicate, opened, opening, refl, replicate, replicate-append-replicate, slice_get_within, slice_index, some, some-injective, some-ne-none, spell, subst, suc, suc-mul, sym, words_before, words_of, zero, ℕ, ◌*◌, ◌++◌, ◌+◌, ◌<◌, ◌∙◌, ◌∷◌, ◌≡◌, ◌≤◌, None, Some}
 use Rattle.uni_model.specs.Executions.Execution.{Ends}
 use Rattle.uni_small.proofs.Images.{spell-length, spell-reply}
 use Rattle.uni_small.proofs.Rows.{later}
@@ -148,6 +148,7 @@ module _ (object : Sequential (List ℕ) (List ℕ) (List ℕ)) (sizes : Sizes) 
         known = λ k call at. absurd (let h = slice_get_within [] k call at in omega arith);
         stand = λ k call at. absurd (let h = slice_get_within [] k call at in omega arith);
       };
+      read = λ read e. absurd (let none : None ≡ Some read = e in cc);
     };
   }
 

@@ -79,4 +79,5 @@ module _ (object : Sequential (List ℕ) (List ℕ) (List ℕ)) (sizes : Sizes) 
     call = call_stays q (2 * q + l.spare) spares l l.stage h.call;
     attempt = attempt_stays q (2 * q + l.spare) spares l.stage h.attempt;
     ordered = subst (λ agreed. IsOrdered object agreed g.calls_in_version g.version q l.after l.own) (sym spares.agreed) h.ordered;
+    read = h.read;
   }

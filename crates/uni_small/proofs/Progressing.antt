@@ -1,11 +1,11 @@
 -- In every execution a process with a call pending can take a step, and each step of a call makes a number smaller.
-use Rattle.uni_small.proofs.Vocabulary.{AreApplied, AreWhole, buffer_in, ◌/◌, ◌%◌, Bool, Idle, Image, Last, List, Local, None, Option, Reading, Ready, Sequential, Sizes, Some, Stage, Writing, [], ap, arith, announced_steps, attempt_steps, buffer_words, call_steps, checked, checked_own, drop, false, most_calls, nat_le, replicate, length-replicate, slice_set, take, goes, held_place, knows, if◌then◌else◌, inl, inr, length, length-append, length-set, looked, number_cases, read_image, refl, get_or-set_other, get_or-set_same, slice_get, slice_get-append_left, slice_get_within, slice_index, spell, subst, suc, suc-mul, sym, true, version_in, with_seen, wrote, zero, ℕ, ⊎_elim, ◌*◌, ◌++◌, ◌+◌, ◌-◌, ◌<◌, ◌==◌, ◌∙◌, ◌∷◌, ◌≡◌, ◌≤◌, ◌⊎◌, lt_cases, HasComeTo, IsWritten, IsWrittenTo, written_to, rests, restarted}
+use Rattle.uni_small.proofs.Vocabulary.{AreApplied, AreWhole, buffer_in, ◌/◌, ◌%◌, Bool, Idle, Image, Last, List, Local, None, Option, Reading, Ready, Sequential, Sizes, Some, Stage, Writing, [], ap, arith, announced_steps, attempt_steps, buffer_words, call_steps, checked, checked_own, drop, false, most_calls, nat_le, replicate, length-replicate, slice_set, take, goes, held_place, knows, if◌then◌else◌, inl, inr, length, length-append, length-set, looked, number_cases, read_image, refl, get_or-set_other, get_or-set_same, slice_get, slice_get-append_left, slice_get_within, slice_index, spell, subst, suc, suc-mul, sym, true, version_in, with_seen, wrote, zero, ℕ, ⊎_elim, ◌*◌, ◌++◌, ◌+◌, ◌-◌, ◌<◌, ◌==◌, ◌∙◌, ◌∷◌, ◌≡◌, ◌≤◌, ◌⊎◌, lt_cases, HasComeTo, IsWritten, IsWrittenTo, written_to, rests, restarted, recalls}
 use Rattle.std.proofs.Math.Nat.{mul_comm}
 use Rattle.uni_small.proofs.Vocabulary.{has_begun}
 use Rattle.uni_model.proofs.Each.{each-set_at}
 use Rattle.uni_model.specs.Executions.Execution.{Ends, Takes}
 use Rattle.uni_small.specs.Execution.{CanTake, Execution, Moment, Next, access_of, after, last_moment, opened_moment}
-use Rattle.uni_small.specs.Execution.Next.{Store, Announce, Follow, Begin, Start, Copy, Look, Ask, Check, CheckOwn, Confirm, Write, Bring, BringOwn, Turn, Load, Reply}
+use Rattle.uni_small.specs.Execution.Next.{Store, Announce, Follow, Recall, Begin, Start, Copy, Look, Ask, Check, CheckOwn, Confirm, Write, Bring, BringOwn, Turn, Load, Reply}
 use Rattle.uni_small.specs.Execution.Next.{Recount, Reread, Restart}
 use Rattle.uni_small.specs.Progress.{IsPending, KeepsBound, NeverBlocks, StepOfCall, counted, steps_of_call}
 use Rattle.uni_small.proofs.Ending.{steps_are}
@@ -227,6 +227,7 @@ module _ (object : Sequential (List ℕ) (List ℕ) (List ℕ)) (sizes : Sizes) 
       record { standing = (let e = length-push stored x in omega (arith, e, inside)); coming = tt; mode = room; long = h.long; either = h.either }
   stands_after p l h (Announce inv at whole few) found = record { standing = tt; coming = tt; mode = refl; long = h.long; either = h.either }
   stands_after p l h (Follow at) found = record { standing = h.standing; coming = subst (λ k. IsComing p (knows l (version_in found)) k) (sym at) tt; mode = h.mode; long = h.long; either = h.either }
+  stands_after p l h (Recall read at had) found = record { standing = h.standing; coming = subst (λ k. IsComing p (recalls l read.version (version_in found)) k) (sym at) tt; mode = h.mode; long = h.long; either = h.either }
   stands_after p l h Recount found = record { standing = h.standing; coming = rests_coming p l l.stage h.coming; mode = h.mode; long = h.long; either = h.either }
   stands_after p l h (Reread which k either below) found = record { standing = h.standing; coming = rests_coming p l l.stage h.coming; mode = h.mode; long = h.long; either = h.either }
   stands_after p l h Restart found = record {
@@ -477,6 +478,7 @@ module _ (object : Sequential (List ℕ) (List ℕ) (List ℕ)) (sizes : Sizes) 
   within_after p l h (Announce (y ∷ inv) at whole few) found taken w =
       let w' = subst (λ k. IsWithin l.direct k taken) at w in let t : (2 - 0) * most sizes ≡ most sizes + most sizes = omega arith in omega (arith, w', t, whole)
   within_after p l h (Follow at) found taken w = w
+  within_after p l h (Recall read at had) found taken w = w
   within_after p l h Recount found taken w = w
   within_after p l h (Reread which k either below) found taken w = w
   within_after p l h Restart found taken w = restarted_within (has_begun l.stage l.direct)

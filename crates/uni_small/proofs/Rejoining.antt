@@ -28,7 +28,7 @@ module _ {O : Type 0} (meaning : O → Meaning) (o : O) (sizes : Sizes) (id : �
 
   -- it is where it was
   at_same : (g : Board) → IsAt object sizes g p l → IsAt object sizes g p (rests l)
-  at_same g was = record { spare = was.spare; apart = was.apart; held = was.held; told = was.told; call = by_stage l.stage was.call; attempt = was.attempt; ordered = was.ordered } where
+  at_same g was = record { spare = was.spare; apart = was.apart; held = was.held; told = was.told; call = by_stage l.stage was.call; attempt = was.attempt; ordered = was.ordered; read = was.read } where
     by_stage : (stage : Stage) → IsCallAt object sizes g p l stage → IsCallAt object sizes g p (rests l) stage
     by_stage (Idle stored) c = c
     by_stage (Ready t) c = c
@@ -114,6 +114,7 @@ module _ {O : Type 0} (meaning : O → Meaning) (o : O) (sizes : Sizes) (id : �
           call = call_again g s l.stage l.direct f.mine.call;
           attempt = attempt_again g (2 * p + spare_at p s) begun (f.sound.board.begun p f.inside);
           ordered = f.mine.ordered;
+          read = f.mine.read;
         },
         λ begun' same i. (with_local me.0 (restarted l p s (same i)), me.1),
       ))

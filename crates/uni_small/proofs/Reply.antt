@@ -51,6 +51,7 @@ module _ {O : Type 0} (meaning : O → Meaning) (o : O) (sizes : Sizes) (id : �
           call = call_at object sizes g p l (Last s loaded) f.mine stage;
           attempt = (was.0, was.1, was.2, reply_found s loaded stage (omega arith) named f);
           ordered = f.mine.ordered;
+          read = f.mine.read;
         },
         λ s' loaded' stage'.
             let e : Last s loaded ≡ Last s' loaded' = sym stage ∙ stage' in
@@ -169,6 +170,7 @@ module _ {O : Type 0} (meaning : O → Meaning) (o : O) (sizes : Sizes) (id : �
                   | inr new ↦ subst (λ (c : Returned). StandsIn object g.atomic.agreed g.calls_in_version p k c) new.1 (subst (λ j. StandsIn object g.atomic.agreed g.calls_in_version p j (ending l s x)) (sym new.0) stands)
                 ];
               };
+              read = λ read e. absurd (let none : None ≡ Some read = e in cc);
             });
         words_are = subst (AreWords sizes g') (sym (set-get_or words (buffer_word sizes (buffer_in s) (reply_place sizes p (length loaded))) 0)) (record {
           wide = f.words_are.wide;

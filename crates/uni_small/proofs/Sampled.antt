@@ -55,10 +55,10 @@ stopped_call =
 one_call : Execution sample_counter sizes (opened_moment sample_counter sizes)
 one_call = goes_on sample_counter sizes stopped_call (Takes 0 one (Reply 129 [] refl refl) Ends)
 
-sample_history : history sample_counter sizes one_call
+sample_acts : all_acts sample_counter sizes one_call
     ≡ Invoke 0 0 (5 ∷ []) ∷ Linearize (record { process = 0; nth = 0; inv = 5 ∷ [] }) ∷ Respond 0 0 (0 ∷ []) ∷ []
 unfolding one_call
-sample_history = refl
+sample_acts = refl
 
 -- it takes 10 of the 37 steps that it may take at most
 sample_steps : steps_of_call sample_counter sizes 0 0 one_call ≡ 10
@@ -83,10 +83,10 @@ taken_over = goes_on sample_counter sizes stopped_call (
     Takes 0 one (Check 0 129 (1 ∷ 0 ∷ 5 ∷ []) (None ∷ []) refl refl none_whole refl refl) (
     Takes 0 one (Reply 129 [] refl refl) Ends))))))
 
-taken_over_history : history sample_counter sizes taken_over
+taken_over_acts : all_acts sample_counter sizes taken_over
     ≡ Invoke 0 0 (5 ∷ []) ∷ Linearize (record { process = 0; nth = 0; inv = 5 ∷ [] }) ∷ Respond 0 0 (0 ∷ []) ∷ []
 unfolding taken_over
-taken_over_history = refl
+taken_over_acts = refl
 
 -- a call that is attempted directly
 direct_call : Execution sample_counter sizes (opened_moment sample_counter sizes)
@@ -99,10 +99,10 @@ direct_call =
     Takes 0 one (BringOwn 0 (read_image sizes (0 ∷ 0 ∷ 0 ∷ [])) (None ∷ []) 3 (5 ∷ []) refl written refl refl room) (
     Takes 0 one (Reply 129 [] refl refl) Ends))))))
 
-direct_history : history sample_counter sizes direct_call
+direct_acts : all_acts sample_counter sizes direct_call
     ≡ Invoke 0 0 (5 ∷ []) ∷ Linearize (record { process = 0; nth = 0; inv = 5 ∷ [] }) ∷ Respond 0 0 (0 ∷ []) ∷ []
 unfolding direct_call
-direct_history = refl
+direct_acts = refl
 
 -- it takes 7 steps, and stores no announcement
 direct_steps : steps_of_call sample_counter sizes 0 0 direct_call ≡ 7
@@ -168,11 +168,11 @@ two_calls =
     Takes 1 (omega arith) (Reply 129 [] refl refl) Ends))))))))))))))))))))))
 
 -- the call of process 1 was invoked first, and takes effect second: it is answered the 5 of process 0
-two_history : history sample_counter pair two_calls
+two_acts : all_acts sample_counter pair two_calls
     ≡ Invoke 1 0 (3 ∷ []) ∷ Invoke 0 0 (5 ∷ []) ∷ Linearize (record { process = 0; nth = 0; inv = 5 ∷ [] }) ∷ Linearize (record { process = 1; nth = 0; inv = 3 ∷ [] })
     ∷ Respond 0 0 (0 ∷ []) ∷ Respond 1 0 (5 ∷ []) ∷ []
 unfolding two_calls
-two_history = refl
+two_acts = refl
 
 -- in 11 steps of process 0 and 12 of process 1, of at most 55
 two_steps : steps_of_call sample_counter pair 0 0 two_calls ≡ 11

@@ -1,19 +1,19 @@
 -- One more seat in order.
-use Rattle.uni_small.proofs.Vocabulary.{All, AreBuffers, AreFirstSeats, Contains, Contains-append_cases, Contains-append_left, Contains-append_right, HasRoom, IsFreshSeat, IsKept, IsSeatOf, List, ProcessReturned, Some, [], ap, append-nil, append_assoc, arith, flat_map, inl, inr, known_calls, length-append, refl, slice_index_or, subst, sym, ℕ, ◌++◌, ◌+◌, ◌<◌, ◌∙◌, ◌∷◌, ◌≡◌}
+use Rattle.uni_small.proofs.Vocabulary.{All, AreBuffers, AreFirstSeats, Contains, Contains-append_cases, Contains-append_left, Contains-append_right, HasRoom, IsFreshSeat, IsKept, IsSeatOf, List, ProcessReturned, Some, [], ap, append-nil, append_assoc, arith, flat_map, inl, inr, known_calls, length-append, refl, slice_index_or, subst, sym, ℕ, ◌++◌, ◌+◌, ◌<◌, ◌∙◌, ◌∷◌, ◌≡◌, None}
 use Rattle.uni_small.specs.declared.log.SmallShared.{SmallShared}
 use Rattle.uni_small.specs.declared.seat.SmallSeat.{SmallSeat}
 use Rattle.uni_small.proofs.Lists.{get_snoc, get-contains, slice_get-index}
 
 pub one_more : {O : Type 0} (shared : SmallShared O) (count : ℕ) (seats later : List (SmallSeat O)) (seat : SmallSeat O) → AreFirstSeats shared count seats → later ≡ seats ++ seat ∷ []
     → seat.seat.table_id ≡ shared.table.shared.table_id → seat.seat.me.0.object ≡ Some shared.setup.object → seat.seat.me.0.known.sizes ≡ shared.setup.sizes → seat.p < shared.setup.sizes.processes → seat.p ≡ count
-    → HasRoom shared.setup.sizes seat.room → AreBuffers shared.setup.sizes seat.seat.me.0.known.local seat.own → IsKept shared.setup.sizes seat.own seat.room → seat.seat.me.0.known.local.own ≡ [] → seat.made ≡ 0 → seat.seat.me.0.known.local.after ≡ 0 → seat.seat.me.0.known.taken ≡ [] → AreFirstSeats shared (count + 1) later
-one_more shared count seats later seat are is table object sizes inside place room buffers kept own made version taken = subst (AreFirstSeats shared (count + 1)) (sym is) (record {
+    → HasRoom shared.setup.sizes seat.room → AreBuffers shared.setup.sizes seat.seat.me.0.known.local seat.own → IsKept shared.setup.sizes seat.own seat.room → seat.read ≡ None → seat.seat.me.0.known.local.own ≡ [] → seat.made ≡ 0 → seat.seat.me.0.known.local.after ≡ 0 → seat.seat.me.0.known.taken ≡ [] → AreFirstSeats shared (count + 1) later
+one_more shared count seats later seat are is table object sizes inside place room buffers kept unread own made version taken = subst (AreFirstSeats shared (count + 1)) (sym is) (record {
   many = length-append seats (seat ∷ []) ∙ (let m = are.many in omega arith);
   each = λ p u e. elim (get_snoc seats seat p u e) [
     | inl old ↦ are.each p u old
     | inr new ↦ (let at : p ≡ count = new.0 ∙ are.many in
         subst (IsFreshSeat shared p) new.1 (record {
-          own = record { table = table; object = object; sizes = sizes; inside = inside; room = room; buffers = buffers; kept = kept };
+          own = record { table = table; object = object; sizes = sizes; inside = inside; room = room; buffers = buffers; kept = kept; read = λ version e. absurd (let none : None ≡ Some version = sym unread ∙ e in cc) };
           process = place ∙ sym at;
           calls = own;
           made = made;

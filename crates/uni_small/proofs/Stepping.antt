@@ -1,7 +1,7 @@
 -- Each word step of a seat is a step of an execution.
-use Rattle.uni_small.proofs.Vocabulary.{HasAnnounced, HasAsked, HasBegun, HasBrought, HasChecked, HasCheckedOwn, HasCopied, HasFollowed, HasLoaded, HasLooked, HasReplied, HasStarted, HasStored, HasTurned, HasWritten, HasWrittenAll, HasWrittenOwn, Idle, Image, Invoke, IsAnnounced, IsDirect, IsAsking, IsAttemptAt, IsCopying, IsLoading, IsLeft, IsLooking, IsStoring, IsWriting, Last, Linearize, List, Local, Me, Meaning, Reading, Ready, Sizes, Some, Step, View, [], ap, arith, announce_word, argument_word, begins, brought, brought_own, buffer_in, buffer_word, buffer_words, calls_seen, checked, checked_own, current_word, either, ends, eqb, false, goes, held_place, if◌then◌else◌, length, map, most_calls, nothing, begins_directly, begun, Seen, takes_effect_own, slice_set, ◌∷◌, number_cases, refl, reply_place, slice_index, stage_of, subst, sym, takes_effect, true, version_in, wrote, ℕ, ⊎_elim, ◌*◌, ◌+◌, ◌<◌, ◌==◌, ◌∙◌, ◌≡◌, ◌≤◌}
-use Rattle.uni_small.proofs.Vocabulary.{HasConfirmed, HasRecounted, HasReread, HasRestarted, has_begun}
-use Rattle.uni_small.specs.Execution.Next.{Store, Announce, Follow, Begin, Start, Copy, Look, Ask, Check, CheckOwn, Confirm, Write, Bring, BringOwn, Turn, Load, Reply}
+use Rattle.uni_small.proofs.Vocabulary.{HasAnnounced, HasAsked, HasBegun, HasBrought, HasChecked, HasCheckedOwn, HasCopied, HasFollowed, HasLoaded, HasLooked, HasReplied, HasStarted, HasStored, HasTurned, HasWritten, HasWrittenAll, HasWrittenOwn, Idle, Image, Invoke, IsAnnounced, IsDirect, IsAsking, IsAttemptAt, IsCopying, IsLoading, IsLeft, IsLooking, IsStoring, IsWriting, Last, Linearize, List, Local, Me, Meaning, Reading, Ready, Sizes, Some, Step, View, [], ap, arith, announce_word, argument_word, begins, brought, brought_own, buffer_in, buffer_word, buffer_words, calls_seen, checked, checked_own, current_word, either, ends, eqb, false, goes, held_place, if◌then◌else◌, length, map, most_calls, nothing, begins_directly, begun, Seen, takes_effect_own, slice_set, ◌∷◌, number_cases, refl, reply_place, slice_index, stage_of, subst, sym, takes_effect, true, version_in, wrote, ℕ, ⊎_elim, ◌*◌, ◌+◌, ◌<◌, ◌==◌, ◌∙◌, ◌≡◌, ◌≤◌, read_image}
+use Rattle.uni_small.proofs.Vocabulary.{HasConfirmed, HasRecalled, HasRecounted, HasReread, HasRestarted, Read, confirms, has_begun}
+use Rattle.uni_small.specs.Execution.Next.{Store, Announce, Follow, Recall, Begin, Start, Copy, Look, Ask, Check, CheckOwn, Confirm, Write, Bring, BringOwn, Turn, Load, Reply}
 use Rattle.uni_small.specs.Execution.Next.{Recount, Reread, Restart}
 use Rattle.uni_small.proofs.Frame.{Steps}
 
@@ -121,7 +121,8 @@ module _ {O : Type 0} (meaning : O → Meaning) (o : O) (sizes : Sizes) (st : St
     Confirm s copying.0 copying.1 copying.2 direct,
     refl,
     refl,
-    left_at me me' _ (said o f.object s copying.0 copying.1).0,
+    ap (λ (z : Sizes). confirms l s (read_image z copying.0).state (slice_index words 0)) (sym f.processes)
+        ∙ left_at me me' _ (said o f.object s copying.0 copying.1).0,
     refl,
   )
 
@@ -193,6 +194,10 @@ module _ {O : Type 0} (meaning : O → Meaning) (o : O) (sizes : Sizes) (st : St
 
   pub follow_steps : stage_of me ≡ Idle [] → Steps meaning o sizes me 0 (λ x. x) nothing (λ found me'. HasFollowed st me found me')
   follow_steps stage = λ g local words f me' said. (Follow stage, refl, refl, left_at me me' _ (said stage).0, refl)
+
+  pub recall_steps : (read : Read) → stage_of me ≡ Idle [] → l.read ≡ Some read
+      → Steps meaning o sizes me 0 (λ x. x) nothing (λ found me'. (q : O) → me.0.object ≡ Some q → HasRecalled (meaning q) st me found me')
+  recall_steps read stage had = λ g local words f me' said. (Recall read stage had, refl, refl, left_at me me' _ (said o f.object read stage had).0, refl)
 
   pub recount_steps : Steps meaning o sizes me (announce_word p) (λ x. x) nothing (λ found me'. HasRecounted st me found me')
   recount_steps = λ g local words f me' said. (Recount, refl, refl, left_at me me' _ said.0, refl)

@@ -113,6 +113,7 @@ module _ {O : Type 0} (meaning : O → Meaning) (o : O) (sizes : Sizes) (id : �
               call = (record { none_open = closed.none_open; next = closed.next; announced = closed.announced; in_is = closed.in_is; acts = closed.acts }, more);
               attempt = tt;
               ordered = f.mine.ordered;
+              read = f.mine.read;
             });
         words_are = words_argument sizes g g' words f.words_are refl refl p k x f.inside room whole refl refl refl;
         said = λ stored' stage'.
@@ -224,6 +225,7 @@ module _ {O : Type 0} (meaning : O → Meaning) (o : O) (sizes : Sizes) (id : �
                 λ inv. record { rows = (was.3 inv).rows; replies = (was.3 inv).replies },
               );
               ordered = f.mine.ordered;
+              read = f.mine.read;
             });
         words_are = words_buffer sizes g g' words f.words_are refl refl (2 * p + l.spare) k x inside_mine room refl refl refl;
         said = λ j at.

@@ -26,12 +26,12 @@ pub use Rattle.uni_small.specs.Image.{AreWhole, AreWidths, HasRows, Image, IsRea
 pub use Rattle.uni_small.specs.Invariant.{AreHeld, AreIn, HasSeen, HasTaken, IfFresh, IsAt, IsAttempted, IsAttemptAt, IsPending, IsBeginning, IsBoard, IsCallAt, IsClosed, IsOpen, IsSound, MayBeWritten, most_calls}
 pub use Rattle.uni_small.specs.Laws.{Moves, begins, ends, nothing, takes_effect, takes_effect_own}
 pub use Rattle.uni_small.specs.Order.{IsOrdered, StandsIn}
-pub use Rattle.uni_small.specs.Plays.{HasConfirmed, HasRecounted, HasReread, HasRestarted, begun_by, has_begun, restarted, rests, spare_at}
+pub use Rattle.uni_small.specs.Plays.{HasConfirmed, HasRecalled, HasRecounted, HasReread, HasRestarted, begun_by, has_begun, restarted, rests, spare_at}
 pub use Rattle.uni_small.specs.Plays.{Goes, HasAnnounced, HasAsked, HasBegun, HasBrought, HasBroughtOwn, HasChecked, HasCheckedOwn, HasCopied, HasFollowed, HasLoaded, HasLooked, HasReplied, HasStarted, HasStored, HasTurned, HasWritten, IsGood, IsLeft, IsNamed, begun, brought, brought_own, checked, checked_own, first_alone, first_view, looked, nobody, others, own_in_view, stage_of, took_in, with_local, words_held}
 pub use Rattle.uni_small.specs.Rule.{Rule}
 pub use Rattle.uni_small.specs.Shown.{AreWords, IsShown, IsTaken, ShowsBoard, Tells}
-pub use Rattle.uni_small.specs.Standing.{AreApplied, CallEnds, HasComeTo, IsWrittenTo, EndsWithin, GoesBy, GoesWithin, HasWrittenAll, HasWrittenOwn, IsAnnounced, IsDirect, IsWritten, IsAsking, IsCopying, IsEnd, IsLoading, IsLooking, IsOf, IsStoring, IsWriting, ReadsWithin, ReplyEnds, TriesWithin, WritesWithin, after_read, announced_steps, attempt_steps, call_steps, end_of, local_of, tried_directly, went}
-pub use Rattle.uni_small.specs.View.{Local, ProcessReturned, Returned, Stage, announces, at_rest, begins_directly, brings, brings_own, confirms, ending, goes, knows, plain, returns, written_to, wrote}
+pub use Rattle.uni_small.specs.Standing.{AreApplied, CallEnds, HasComeTo, IsWrittenTo, EndsWithin, GoesBy, GoesWithin, HasWrittenAll, HasWrittenOwn, IsAnnounced, IsDirect, IsWritten, IsAsking, IsCopying, IsEnd, IsLoading, IsLooking, IsOf, IsStoring, IsWriting, ReadsWithin, ReplyEnds, TriesWithin, WritesWithin, after_read, announced_steps, attempt_steps, call_steps, end_of, local_of, read_steps, read_then, tried_directly, went}
+pub use Rattle.uni_small.specs.View.{Local, ProcessReturned, Read, Returned, Stage, announces, at_rest, begins_directly, brings, brings_own, confirms, ending, goes, knows, plain, recalls, returns, written_to, wrote}
 pub use Rattle.uni_small.specs.View.Stage.{Idle, Last, Reading, Ready, Writing}
 pub use Rattle.uni_small.specs.declared.rule.Setup.{Setup}
 pub use Rattle.uni_small.specs.declared.seat.Buffers.{Buffers}

@@ -1,5 +1,6 @@
 -- Which seats are an object's, and what they have.
-use Rattle.std.specs.Prelude.{All, None, Option, Some, if◌then◌else◌, ◌≡◌, ℕ, ◌*◌, ◌+◌, ◌<◌, ◌≤◌, ◌⊎◌, List, [], ◌∷◌, length, map, slice_get}
+use Rattle.std.specs.Prelude.{All, None, Option, Some, if◌then◌else◌, ◌≡◌, ℕ, ◌*◌, ◌+◌, ◌<◌, ◌≤◌, ◌⊎◌, List, [], ◌∷◌}
+use Rattle.std.specs.Prelude.{length, map, slice_get}
 use Rattle.std.specs.Prelude.{slice_index}
 use Rattle.uni_small.specs.Image.{Image, buffer_words, due_at, held_place, rows, spell}
 use Rattle.uni_small.specs.Plays.{words_held}
@@ -34,8 +35,8 @@ reply_width_of shared = shared.setup.sizes.reply
 abbrev pub sizes_of : {O : Type 0} → SmallShared O → Sizes
 sizes_of shared = shared.setup.sizes
 
--- a seat's process; its calls that have returned; how many they are; the version that its next calls come after; and how many word
--- steps it has taken
+-- a seat's process; its calls that have returned; how many they are; the version that its next calls come after; and
+-- how many word steps it has taken
 abbrev pub process_of : {O : Type 0} → SmallSeat O → ℕ
 process_of seat = seat.p
 
@@ -86,7 +87,8 @@ IsOutsideRows span wide i = IsOutside (span.from * wide) (span.to * wide) i
 abbrev pub IsQuietOutside : Span → List (Option (List ℕ)) → Type 0
 IsQuietOutside span seen = (q : ℕ) → IsOutside span.from span.to q → due_at seen q ≡ 0
 
--- Room for an image, and for what is seen of the processes; `busy` is a range of processes, and of none outside it a call was seen.
+-- Room for an image, and for what is seen of the processes; `busy` is a range of processes, and of none outside it a
+-- call was seen.
 pub record HasRoom (sizes : Sizes) (room : Room) : Type 0 where
   pub applied : length room.applied.items ≡ sizes.processes
   pub reply : length room.reply.items ≡ sizes.processes * sizes.reply
@@ -128,8 +130,9 @@ IsOutsideBoth one two wide i = IsOutsideRows one wide i × IsOutsideRows two wid
 abbrev pub IsUntouchedByBoth : (one two : Touched) → (i : ℕ) → Type 0
 IsUntouchedByBoth one two i = IsUntouched one i × IsUntouched two i
 
--- What a process keeps for itself. The copy in `room` is the buffer that `room.of` names (2 names none). The two buffers differ at most
--- in the rows of the processes `own.apart.calls`, and in the words `own.apart.state` of the state.
+-- What a process keeps for itself. The copy in `room` is the buffer that `room.of` names (2 names none). The two
+-- buffers differ at most in the rows of the processes `own.apart.calls`, and in the words `own.apart.state` of the
+-- state.
 pub record IsKept (sizes : Sizes) (own : Buffers) (room : Room) : Type 0 where
   pub copy : room.of ≤ 1 → spell (image_in sizes room) ≡ words_held sizes own.held.items room.of
   pub ordered : own.apart.calls.from ≤ own.apart.calls.to
@@ -138,8 +141,8 @@ pub record IsKept (sizes : Sizes) (own : Buffers) (room : Room) : Type 0 where
   pub reply : BuffersAgree sizes own sizes.processes (sizes.processes * sizes.reply) (IsOutsideRows own.apart.calls sizes.reply)
   pub state : BuffersAgree sizes own (sizes.processes + sizes.processes * sizes.reply) sizes.state (IsUntouched own.apart.state)
 
--- The seat is one of this object's. A caller reads `table` to `inside`: the rest is what the seat keeps for itself. That it is between
--- calls is so of every seat.
+-- The seat is one of this object's. A caller reads `table` to `inside`: the rest is what the seat keeps for itself.
+-- That it is between calls is so of every seat.
 pub record IsSeatOf {O : Type 0} (shared : SmallShared O) (seat : SmallSeat O) : Type 0 where
   pub table : seat.seat.table_id ≡ shared.table.shared.table_id
   pub object : seat.seat.me.0.object ≡ Some shared.setup.object
@@ -148,6 +151,8 @@ pub record IsSeatOf {O : Type 0} (shared : SmallShared O) (seat : SmallSeat O) :
   pub room : HasRoom shared.setup.sizes seat.room
   pub buffers : AreBuffers shared.setup.sizes seat.seat.me.0.known.local seat.own
   pub kept : IsKept shared.setup.sizes seat.own seat.room
+  pub read : (version : ℕ) → seat.read ≡ Some version
+      → seat.seat.me.0.known.local.read ≡ Some (record { version = version; state = seat.room.state.items })
 
 -- a seat's process with its calls
 abbrev pub calls_of : {O : Type 0} → SmallSeat O → ProcessReturned

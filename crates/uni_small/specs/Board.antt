@@ -6,11 +6,11 @@ use Rattle.uni_model.specs.AtomicObject.{Atomic, Act, at_start}
 use Rattle.uni_small.specs.Image.{AreWidths, Image, Meaning, buffer_words, first_image, spell}
 use Rattle.uni_small.specs.declared.sizes.Sizes.{Sizes}
 
--- The word S names a version and the current buffer, which is one of 2n: buffer 2p or 2p + 1 is of process p. Of each process: what
--- its announcement tells, how many calls it has begun, and the words of its argument. The words of each buffer.
--- And what no word tells: the version at which each process last announced a call; how many calls of a process a buffer had
--- in it when it was last current; what the current buffer means; the atomic object, and how many of its calls are in each version;
--- and its history.
+-- The word S names a version and the current buffer, which is one of 2n: buffer 2p or 2p + 1 is of process p. Of each
+-- process: what its announcement tells, how many calls it has begun, and the words of its argument. The words of each
+-- buffer. And what no word tells: the version at which each process last announced a call; how many calls of a process
+-- a buffer had in it when it was last current; what the current buffer means; the atomic object, and how many of its
+-- calls are in each version; and its history.
 pub record Board : Type 0 where
   pub version : ℕ
   pub current : ℕ
@@ -82,8 +82,8 @@ opened object sizes = record {
   acts = [];
 }
 
--- two processes, with states of one word, invocations of two and replies of one: S, two announcements, two arguments of two words, and
--- four buffers of five words
+-- two processes, with states of one word, invocations of two and replies of one: S, two announcements, two arguments of
+-- two words, and four buffers of five words
 abbrev sample_sizes : Sizes
 sample_sizes = record { processes = 2; state = 1; invocation = 2; reply = 1 }
 

@@ -5,10 +5,13 @@ use Rattle.seq_object.specs.Sequential.{Sequential}
 use Rattle.uni_model.specs.AtomicObject.{Act, set_at}
 use Rattle.uni_model.specs.AtomicObject.Act.{Invoke, Linearize, Respond}
 use Rattle.uni_model.specs.Executions as Executions
-use Rattle.uni_small.specs.Image.{AreWhole, Image, buffer_words, calls_seen, first_held, first_image, held_place, joined, reply_place, spell, with_seen}
-use Rattle.uni_small.specs.View.{Local, announces, at_rest, begins_directly, confirms, goes, knows, returns, wrote}
+use Rattle.uni_small.specs.Image.{AreWhole, Image, buffer_words, calls_seen, first_held, first_image, held_place}
+use Rattle.uni_small.specs.Image.{joined, read_image, reply_place, spell, with_seen}
+use Rattle.uni_small.specs.View.{Local, Read, announces, at_rest, begins_directly, confirms, goes, knows, recalls}
+use Rattle.uni_small.specs.View.{returns, wrote}
 use Rattle.uni_small.specs.View.Stage.{Idle, Ready, Reading, Writing, Last}
-use Rattle.uni_small.specs.Board.{announce_word, argument_word, buffer_in, buffer_word, current_word, version_in, words_before}
+use Rattle.uni_small.specs.Board.{announce_word, argument_word, buffer_in, buffer_word, current_word, version_in}
+use Rattle.uni_small.specs.Board.{words_before}
 use Rattle.uni_small.specs.Invariant.{most_calls}
 use Rattle.uni_small.specs.Plays.{begun, brought, brought_own, checked, checked_own, looked}
 use Rattle.uni_small.specs.Plays.{has_begun, restarted, rests}
@@ -20,8 +23,8 @@ pub record Moment : Type 0 where
   pub words : List ℕ
   pub local : ℕ → Local
 
--- What a step does to one word. By what is found there: what the word becomes, where the process stands then, and which acts of a history the
--- step makes.
+-- What a step does to one word. By what is found there: what the word becomes, where the process stands then, and which
+-- acts of a history the step makes.
 pub record Access : Type 0 where
   pub word : ℕ
   pub becomes : (found : ℕ) → ℕ
@@ -38,53 +41,68 @@ store_of word x l = record { word = word; becomes = λ found. x; leaves = λ fou
 module _ (object : Sequential (List ℕ) (List ℕ) (List ℕ)) (sizes : Sizes) where
   -- The steps that process p can take next, by where it stands.
   pub data Next (p : ℕ) (l : Local) : Type 0 where
-    -- between calls: a word of the next invocation is stored; the call is announced, whose invocation is stored; it is asked which version has
-    -- come
-    Store : (stored : List ℕ) (x : ℕ) → l.stage ≡ Idle stored → length stored < sizes.invocation → length l.own < most_calls
+    -- between calls: a word of the next invocation is stored; the call is announced, whose invocation is stored; it is
+    -- asked which version has come, or whether the one that was read is still the present one
+    Store : (stored : List ℕ) (x : ℕ) → l.stage ≡ Idle stored → length stored < sizes.invocation
+        → length l.own < most_calls
         → Next p l
-    Announce : (inv : List ℕ) → l.stage ≡ Idle inv → length inv ≡ sizes.invocation → length l.own < most_calls → Next p l
+    Announce : (inv : List ℕ) → l.stage ≡ Idle inv → length inv ≡ sizes.invocation → length l.own < most_calls
+        → Next p l
     Follow : l.stage ≡ Idle [] → Next p l
+    Recall : (read : Read) → l.stage ≡ Idle [] → l.read ≡ Some read → Next p l
     -- S is loaded, with which the direct attempt at a call begins, which isn't announced
     Begin : l.stage ≡ Idle [] → l.direct ≡ false → length l.own < most_calls → Next p l
-    -- an attempt: S is loaded; the words of the current buffer are; then each announcement is, after a new one the words of its invocation;
-    -- and S again
+    -- an attempt: S is loaded; the words of the current buffer are; then each announcement is, after a new one the
+    -- words of its invocation; and S again
     Start : (tries : ℕ) → l.stage ≡ Ready tries → tries < 2 → Next p l
-    Copy : (tries s : ℕ) (copy : List ℕ) → l.stage ≡ Reading tries s copy [] → length copy < buffer_words sizes → Next p l
+    Copy : (tries s : ℕ) (copy : List ℕ) → l.stage ≡ Reading tries s copy [] → length copy < buffer_words sizes
+        → Next p l
     Look : (tries s : ℕ) (copy : List ℕ) (seen : List (Option (List ℕ))) → l.stage ≡ Reading tries s copy seen
         → length copy ≡ buffer_words sizes → AreWhole sizes seen → length seen < sizes.processes → Next p l
-    Ask : (tries s : ℕ) (copy : List ℕ) (seen : List (Option (List ℕ))) (part : List ℕ) → l.stage ≡ Reading tries s copy (seen ++ Some part ∷ [])
+    Ask : (tries s : ℕ) (copy : List ℕ) (seen : List (Option (List ℕ))) (part : List ℕ)
+        → l.stage ≡ Reading tries s copy (seen ++ Some part ∷ [])
         → length seen < sizes.processes → length part < sizes.invocation → Next p l
     Check : (tries s : ℕ) (copy : List ℕ) (seen : List (Option (List ℕ))) → l.stage ≡ Reading tries s copy seen
-        → length copy ≡ buffer_words sizes → AreWhole sizes seen → length seen ≡ sizes.processes → l.direct ≡ false → Next p l
+        → length copy ≡ buffer_words sizes → AreWhole sizes seen → length seen ≡ sizes.processes → l.direct ≡ false
+        → Next p l
     CheckOwn : (s : ℕ) (copy : List ℕ) (seen : List (Option (List ℕ))) → l.stage ≡ Reading 0 s copy seen
-        → length copy ≡ buffer_words sizes → AreWhole sizes seen → length seen ≡ sizes.processes → l.direct ≡ true → Next p l
+        → length copy ≡ buffer_words sizes → AreWhole sizes seen → length seen ≡ sizes.processes → l.direct ≡ true
+        → Next p l
     -- a read ends where a direct attempt would look at the announcements: S is loaded again, and no call is made
-    Confirm : (s : ℕ) (copy : List ℕ) → l.stage ≡ Reading 0 s copy [] → length copy ≡ buffer_words sizes → l.direct ≡ true → Next p l
-    -- a word of the spare buffer is stored, with all that was seen applied, and in a direct attempt a call of its own too, where those before it
-    -- are as they are to be; once all are, S is exchanged for one that names this buffer. The invocation of a direct call is known here at the
-    -- exchange alone: an execution may do more than the code does, which has it from the first step on
-    Write : (tries s : ℕ) (image : Image) (seen all : List (Option (List ℕ))) (written k : ℕ) → l.stage ≡ Writing tries s image seen written
+    Confirm : (s : ℕ) (copy : List ℕ) → l.stage ≡ Reading 0 s copy [] → length copy ≡ buffer_words sizes
+        → l.direct ≡ true → Next p l
+    -- a word of the spare buffer is stored, with all that was seen applied, and in a direct attempt a call of its own
+    -- too, where those before it are as they are to be; once all are, S is exchanged for one that names this buffer.
+    -- The invocation of a direct call is known here at the exchange alone: an execution may do more than the code does,
+    -- which has it from the first step on
+    Write : (tries s : ℕ) (image : Image) (seen all : List (Option (List ℕ))) (written k : ℕ)
+        → l.stage ≡ Writing tries s image seen written
         → HasComeTo object sizes p l image seen all written k → k < buffer_words sizes → Next p l
-    Bring : (tries s : ℕ) (image : Image) (seen : List (Option (List ℕ))) (written : ℕ) → l.stage ≡ Writing tries s image seen written
+    Bring : (tries s : ℕ) (image : Image) (seen : List (Option (List ℕ))) (written : ℕ)
+        → l.stage ≡ Writing tries s image seen written
         → IsWritten object sizes l image seen → l.direct ≡ false → Next p l
-    BringOwn : (s : ℕ) (image : Image) (seen : List (Option (List ℕ))) (written : ℕ) (inv : List ℕ) → l.stage ≡ Writing 0 s image seen written
-        → IsWritten object sizes l image (slice_set seen p (Some inv)) → l.direct ≡ true → length inv ≡ sizes.invocation → length l.own < most_calls
+    BringOwn : (s : ℕ) (image : Image) (seen : List (Option (List ℕ))) (written : ℕ) (inv : List ℕ)
+        → l.stage ≡ Writing 0 s image seen written
+        → IsWritten object sizes l image (slice_set seen p (Some inv)) → l.direct ≡ true
+        → length inv ≡ sizes.invocation → length l.own < most_calls
         → Next p l
     -- two attempts have failed: S is loaded once more
     Turn : (tries : ℕ) → l.stage ≡ Ready tries → 2 ≤ tries → l.direct ≡ false → Next p l
     -- the words of the reply are loaded, and with the last one the call returns
     Load : (s : ℕ) (loaded : List ℕ) → l.stage ≡ Last s loaded → length loaded + 1 < sizes.reply → Next p l
     Reply : (s : ℕ) (loaded : List ℕ) → l.stage ≡ Last s loaded → length loaded + 1 ≡ sizes.reply → Next p l
-    -- wherever it stands, its seat may be taken over: its announcement is loaded; a word of its buffers is; and S is, by which its call begins
-    -- again, or, where none has begun, its next call is awaited
+    -- wherever it stands, its seat may be taken over: its announcement is loaded; a word of its buffers is; and S is,
+    -- by which its call begins again, or, where none has begun, its next call is awaited
     Recount : Next p l
     Reread : (which k : ℕ) → which ≤ 1 → k < buffer_words sizes → Next p l
     Restart : Next p l
 
-  -- What such a step of process p does. An announcement invokes a call. An exchange of S that finds what its attempt began with makes the calls
-  -- that the attempt saw take effect, in the order of their processes; that of a direct attempt invokes its own call first, which takes effect
-  -- with them. The load of the last word of a reply responds. No other step makes an act. A direct call is invoked here at its exchange, later than where the
-  -- code begins it. So more calls precede it than in the code, and the law is the stronger; before the exchange no other process can see it.
+  -- What such a step of process p does. An announcement invokes a call. An exchange of S that finds what its attempt
+  -- began with makes the calls that the attempt saw take effect, in the order of their processes; that of a direct
+  -- attempt invokes its own call first, which takes effect with them. The load of the last word of a reply responds. No
+  -- other step makes an act. A direct call is invoked here at its exchange, later than where the code begins it. So
+  -- more calls precede it than in the code, and the law is the stronger; before the exchange no other process can see
+  -- it.
   abbrev pub access_of : (p : ℕ) (l : Local) → Next p l → Access
   access_of p l (Store stored x at inside room) = store_of (argument_word sizes p (length stored)) x (goes l (Idle (stored ++ x ∷ [])))
   access_of p l (Announce inv at whole few) = record {
@@ -94,6 +112,7 @@ module _ (object : Sequential (List ℕ) (List ℕ) (List ℕ)) (sizes : Sizes) 
     acts = λ found. Invoke p (length l.own) inv ∷ [];
   }
   access_of p l (Follow at) = load_of 0 (λ s. knows l (version_in s))
+  access_of p l (Recall read at had) = load_of 0 (λ s. recalls l read.version (version_in s))
   access_of p l (Begin at untried few) = load_of 0 (λ s. begins_directly l s (begun sizes p l.held s))
   access_of p l (Start tries at few) = load_of 0 (λ s. goes l (Reading tries s (begun sizes p l.held s) []))
   access_of p l (Copy tries s copy at more) =
@@ -105,7 +124,7 @@ module _ (object : Sequential (List ℕ) (List ℕ) (List ℕ)) (sizes : Sizes) 
   access_of p l (Check tries s copy seen at copied whole all announced) =
       load_of 0 (λ found. goes l (checked sizes p (length l.own + 1) tries s copy seen found))
   access_of p l (CheckOwn s copy seen at copied whole all direct) = load_of 0 (λ found. goes l (checked_own sizes s copy seen found))
-  access_of p l (Confirm s copy at copied direct) = load_of 0 (λ found. confirms l s found)
+  access_of p l (Confirm s copy at copied direct) = load_of 0 (λ found. confirms l s (read_image sizes copy).state found)
   access_of p l (Write tries s image seen all written k at come inside) =
       let x = slice_index (spell (with_seen object image 0 all)) k in
       store_of (buffer_word sizes (2 * p + l.spare) k) x (wrote l k (held_place sizes l.spare k) x)

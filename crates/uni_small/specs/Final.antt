@@ -10,11 +10,12 @@ use Rattle.uni_small.specs.Image.{sample_counter}
 use Rattle.uni_small.specs.View.{Returned, ProcessReturned, plain}
 use Rattle.uni_small.specs.Order.{StandsIn}
 
--- There is a history that the atomic object accepts, from its start on. What is observed of it is linearizable, in the order in which the
--- calls took effect. The state is that after them. Each is a call of one of n processes; so where all n are known, these are their calls
--- and no others. In the history each known process takes the acts of its calls, each with its reply before the next one begins, and no
--- others. The first calls_in_version v calls of that order are in version v, or all where there are fewer, and a later version has no
--- fewer; and each known call comes after those of one version, and is among those of another one, as its seat was told.
+-- There is a history that the atomic object accepts, from its start on. What is observed of it is linearizable, in the
+-- order in which the calls took effect. The state is that after them. Each is a call of one of n processes; so where
+-- all n are known, these are their calls and no others. In the history each known process takes the acts of its calls,
+-- each with its reply before the next one begins, and no others. The first calls_in_version v calls of that order are
+-- in version v, or all where there are fewer, and a later version has no fewer; and each known call comes after those
+-- of one version, and is among those of another one, as its seat was told.
 pub record IsFinal (object : Sequential (List ℕ) (List ℕ) (List ℕ)) (n : ℕ) (known : List ProcessReturned) (words : List ℕ) : Type 0 where
   pub acts : List (Act (List ℕ) (List ℕ))
   pub atomic : Atomic (List ℕ) (List ℕ)
@@ -27,10 +28,12 @@ pub record IsFinal (object : Sequential (List ℕ) (List ℕ) (List ℕ)) (n : �
   pub calls_in_version : ℕ → ℕ
   pub rising : (v w : ℕ) → v ≤ w → calls_in_version v ≤ calls_in_version w
   pub stand : (its : ProcessReturned) → Contains known its
-      → (k : ℕ) (call : Returned) → slice_get its.calls k ≡ Some call → StandsIn object atomic.agreed calls_in_version its.process k call
+      → (k : ℕ) (call : Returned) → slice_get its.calls k ≡ Some call
+      → StandsIn object atomic.agreed calls_in_version its.process k call
 
--- A version has this state: there is such a history, and all its calls that took effect are in the version. The history and which of its
--- calls are in which version are chosen here: two reads, or a read and a closing, need not have the same.
+-- A version has this state: there is such a history, and all its calls that took effect are in the version. The history
+-- and which of its calls are in which version are chosen here: two reads, or a read and a closing, need not have the
+-- same.
 pub record IsVersion (object : Sequential (List ℕ) (List ℕ) (List ℕ)) (n : ℕ) (known : List ProcessReturned) (version : ℕ)
     (state : List ℕ) : Type 0 where
   pub final : IsFinal object n known state

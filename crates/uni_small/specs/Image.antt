@@ -1,5 +1,7 @@
--- What a buffer contains: for each process how many of its calls are in and the reply to the last one of them, and the state.
-use Rattle.std.specs.Prelude.{◌≡◌, ℕ, zero, suc, ◌+◌, ◌*◌, ◌<◌, List, [], ◌∷◌, ◌++◌, Option, None, Some, take, drop, replicate}
+-- What a buffer contains: for each process how many of its calls are in and the reply to the last one of them, and the
+-- state.
+use Rattle.std.specs.Prelude.{◌≡◌, ℕ, zero, suc, ◌+◌, ◌*◌, ◌<◌, List, [], ◌∷◌, ◌++◌, Option, None, Some, take, drop}
+use Rattle.std.specs.Prelude.{replicate}
 use Rattle.std.specs.Prelude.{length, refl, slice_get, slice_index, slice_index_or, slice_set}
 use Rattle.seq_object.specs.Sequential.{Sequential}
 use Rattle.seq_object.specs.History.{state_after}
@@ -53,7 +55,8 @@ reply_place sizes r k = sizes.processes + (r * sizes.reply + k)
 abbrev pub state_place : Sizes → (i : ℕ) → ℕ
 state_place sizes i = sizes.processes + (sizes.processes * sizes.reply + i)
 
--- where among the words of a process's two buffers, one after the other, word i of the first or second one is: `which` is 0 or 1
+-- where among the words of a process's two buffers, one after the other, word i of the first or second one is: `which`
+-- is 0 or 1
 abbrev pub held_place : Sizes → (which i : ℕ) → ℕ
 held_place sizes which i = which * buffer_words sizes + i
 

@@ -6,9 +6,11 @@ use Rattle.seq_object.specs.History.{response_at}
 use Rattle.uni_model.specs.AtomicObject.{Invoked, AcceptsAll, at_start}
 use Rattle.uni_model.specs.AtomicObject.Act.{Invoke}
 use Rattle.uni_model.specs.ProcessCalls.{acts_by, sequential_acts}
+use Rattle.uni_small.specs.Final.{IsVersion}
 use Rattle.uni_small.specs.Order.{IsOrdered}
-use Rattle.uni_small.specs.Image.{AreWhole, Image, HasRows, buffer_words, spell, due_at, first_image, held_place, image_from, reply_of, reply_place, with_seen}
-use Rattle.uni_small.specs.View.{Local, Returned, Stage, plain}
+use Rattle.uni_small.specs.Image.{AreWhole, Image, HasRows, buffer_words, spell, due_at, first_image, held_place}
+use Rattle.uni_small.specs.Image.{image_from, reply_of, reply_place, with_seen}
+use Rattle.uni_small.specs.View.{Local, Read, Returned, Stage, plain}
 use Rattle.uni_small.specs.View.Stage.{Idle, Ready, Reading, Writing, Last}
 use Rattle.uni_small.specs.declared.sizes.Sizes.{Sizes}
 use Rattle.uni_small.specs.Board.{Board, in_of, current_word, buffer_in, version_in}
@@ -31,8 +33,8 @@ pub record IsClosed (g : Board) (p : ℕ) (own : List Returned) : Type 0 where
   pub in_is : in_of g p ≡ length own
   pub acts : acts_by p g.acts ≡ sequential_acts p 0 (map plain own)
 
--- A process with a call pending, which has begun: all its calls but perhaps this one are in; until it is in, it is announced, with its
--- argument; then its reply is that of the image.
+-- A process with a call pending, which has begun: all its calls but perhaps this one are in; until it is in, it is
+-- announced, with its argument; then its reply is that of the image.
 pub record IsOpen (object : Sequential (List ℕ) (List ℕ) (List ℕ)) (g : Board) (p : ℕ) (inv : List ℕ) (own : List Returned) : Type 0 where
   pub is_open : g.atomic.open_call p ≡ Some (record { process = p; nth = length own; inv = inv })
   pub next : g.atomic.next_nth p ≡ length own + 1
@@ -51,16 +53,19 @@ IsCopied g copy = (i : ℕ) → i < length copy → slice_index copy i ≡ slice
 abbrev pub IsBeginning : (part whole : List ℕ) → Type 0
 IsBeginning part whole = take (length part) whole ≡ part
 
--- Process p has looked at the processes up to some one, and S has not changed since. A call that it saw is pending and not in, and the
--- words that it loaded are the first ones of its argument. A call that it did not see is in, but perhaps one that was announced at the present version by another process.
+-- Process p has looked at the processes up to some one, and S has not changed since. A call that it saw is pending and
+-- not in, and the words that it loaded are the first ones of its argument. A call that it did not see is in, but
+-- perhaps one that was announced at the present version by another process.
 pub record HasSeen (g : Board) (p : ℕ) (seen : List (Option (List ℕ))) : Type 0 where
-  pub told : (r : ℕ) (inv : List ℕ) → slice_get seen r ≡ Some (Some inv) → (g.announced r ≡ in_of g r + 1) × IsBeginning inv (g.argument r)
+  pub told : (r : ℕ) (inv : List ℕ) → slice_get seen r ≡ Some (Some inv) → (g.announced r ≡ in_of g r + 1)
+      × IsBeginning inv (g.argument r)
   pub caught : (r : ℕ) → r < length seen → (r ≡ p) ⊎ (g.since r < g.version) → g.announced r ≤ in_of g r + due_at seen r
 
 -- the version has come; and all calls that process p has announced, where they took effect, are in it
 abbrev pub AreIn : Board → (p version : ℕ) → Type 0
 AreIn g p version = (version ≤ g.version)
-    × ((c : Invoked (List ℕ)) (place : ℕ) → slice_get g.atomic.agreed place ≡ Some c → c.process ≡ p → c.nth < g.announced p
+    × ((c : Invoked (List ℕ)) (place : ℕ) → slice_get g.atomic.agreed place ≡ Some c → c.process ≡ p
+    → c.nth < g.announced p
     → place < g.calls_in_version version)
 
 -- where s is not an earlier S, it is the present one, and this holds
@@ -76,16 +81,18 @@ abbrev pub IsPending : Board → (r : ℕ) → Type 0
 IsPending g r = (c : Invoked (List ℕ)) × (g.atomic.open_call r ≡ Some c)
 
 module _ (object : Sequential (List ℕ) (List ℕ) (List ℕ)) (sizes : Sizes) where
-  -- The image may be written to the spare buffer b: its reply to a call that was in when b was last current, and that is pending, is that
-  -- of the current buffer.
+  -- The image may be written to the spare buffer b: its reply to a call that was in when b was last current, and that
+  -- is pending, is that of the current buffer.
   pub record MayBeWritten (g : Board) (b : ℕ) (image : Image) : Type 0 where
     pub rows : HasRows sizes image
-    pub replies : (r : ℕ) → r < sizes.processes → IsPending g r → g.announced r ≤ g.mark b r → reply_of image r ≡ reply_of g.image r
+    pub replies : (r : ℕ) → r < sizes.processes → IsPending g r → g.announced r ≤ g.mark b r
+        → reply_of image r ≡ reply_of g.image r
 
   -- these are the words of the two buffers of process p
   pub record AreHeld (g : Board) (p : ℕ) (held : List ℕ) : Type 0 where
     pub long : length held ≡ 2 * buffer_words sizes
-    pub words : (which i : ℕ) → which ≤ 1 → i < buffer_words sizes → g.buffer (2 * p + which) i ≡ slice_index held (held_place sizes which i)
+    pub words : (which i : ℕ) → which ≤ 1 → i < buffer_words sizes
+        → g.buffer (2 * p + which) i ≡ slice_index held (held_place sizes which i)
 
   -- the call of a process that makes an attempt, direct or not: a call that is attempted directly hasn't begun
   abbrev pub IsAttempted : Board → (p : ℕ) → Local → (direct : Bool) → Type 0
@@ -108,12 +115,18 @@ module _ (object : Sequential (List ℕ) (List ℕ) (List ℕ)) (sizes : Sizes) 
       IsAfter g p tries s × IfFresh g s (IsCopied g copy × HasSeen g p seen)
   IsAttemptAt g p b (Writing tries s image seen written) =
       IsAfter g p tries s
-      × IfFresh g s ((image ≡ g.image) × (length seen ≡ sizes.processes) × HasSeen g p seen × (IsPending g p → in_of g p < g.announced p) × AreWhole sizes seen)
+      × IfFresh g s ((image ≡ g.image) × (length seen ≡ sizes.processes) × HasSeen g p seen
+      × (IsPending g p → in_of g p < g.announced p) × AreWhole sizes seen)
       × MayBeWritten g b (with_seen object image 0 seen)
       × ((inv : List ℕ) → MayBeWritten g b (with_seen object image 0 (slice_set seen p (Some inv))))
   IsAttemptAt g p b (Last s loaded) =
       (buffer_in s < 2 * sizes.processes) × (g.announced p ≤ g.mark (buffer_in s) p) × AreIn g p (version_in s)
       × IsBeginning loaded (reply_of g.image p)
+
+  -- what process p has read is the state of a version, after a history in which the process takes its own calls
+  abbrev pub IsRead : (p : ℕ) → Local → Type 0
+  IsRead p l = (read : Read) → l.read ≡ Some read
+      → IsVersion object sizes.processes (record { process = p; calls = l.own } ∷ []) read.version read.state
 
   -- process p is where its seat says
   pub record IsAt (g : Board) (p : ℕ) (l : Local) : Type 0 where
@@ -124,11 +137,12 @@ module _ (object : Sequential (List ℕ) (List ℕ) (List ℕ)) (sizes : Sizes) 
     pub call : IsCallAt g p l l.stage
     pub attempt : IsAttemptAt g p (2 * p + l.spare) l.stage
     pub ordered : IsOrdered object g.atomic.agreed g.calls_in_version g.version p l.after l.own
+    pub read : IsRead p l
 
-  -- The board on its own. The current buffer is the image of the calls that took effect, in their order, of which each process has as
-  -- many as are in. What a buffer tells a process whose pending call was in when the buffer was last current is the reply of that call.
-  -- A call is in two versions after it was announced, at the latest. The calls of a version are in each later one. The history is
-  -- accepted by the atomic object.
+  -- The board on its own. The current buffer is the image of the calls that took effect, in their order, of which each
+  -- process has as many as are in. What a buffer tells a process whose pending call was in when the buffer was last
+  -- current is the reply of that call. A call is in two versions after it was announced, at the latest. The calls of a
+  -- version are in each later one. The history is accepted by the atomic object.
   pub record IsBoard (g : Board) : Type 0 where
     pub current : g.current < 2 * sizes.processes
     pub image : image_from object (first_image object sizes) g.atomic.agreed ≡ g.image
@@ -136,7 +150,8 @@ module _ (object : Sequential (List ℕ) (List ℕ) (List ℕ)) (sizes : Sizes) 
     pub exact : (i : ℕ) → i < buffer_words sizes → g.buffer g.current i ≡ slice_index (spell g.image) i
     pub marked : (b r : ℕ) → r < sizes.processes → g.mark b r ≤ in_of g r
     pub at_current : (r : ℕ) → r < sizes.processes → in_of g r ≤ g.mark g.current r
-    pub kept : (b r k : ℕ) → b < 2 * sizes.processes → r < sizes.processes → k < sizes.reply → IsPending g r → g.announced r ≤ g.mark b r
+    pub kept : (b r k : ℕ) → b < 2 * sizes.processes → r < sizes.processes → k < sizes.reply → IsPending g r
+        → g.announced r ≤ g.mark b r
         → g.buffer b (reply_place sizes r k) ≡ slice_index (reply_of g.image r) k
     pub arguments : (r : ℕ) → r < sizes.processes → length (g.argument r) ≡ sizes.invocation
     pub in_most : (r : ℕ) → r < sizes.processes → in_of g r ≤ g.announced r
@@ -146,7 +161,8 @@ module _ (object : Sequential (List ℕ) (List ℕ) (List ℕ)) (sizes : Sizes) 
     pub soon : (r : ℕ) → r < sizes.processes → g.since r + 2 ≤ g.version → g.announced r ≤ in_of g r
     pub versions : g.version ≤ sum g.image.applied
     pub room : (r : ℕ) → r < sizes.processes → g.announced r ≤ most_calls
-    pub agreed : (c : Invoked (List ℕ)) → Contains g.atomic.agreed c → (c.process < sizes.processes) × (c.nth < in_of g c.process)
+    pub agreed : (c : Invoked (List ℕ)) → Contains g.atomic.agreed c → (c.process < sizes.processes)
+        × (c.nth < in_of g c.process)
     pub counted : (v : ℕ) → g.version ≤ v → g.calls_in_version v ≡ length g.atomic.agreed
     pub rising : (v w : ℕ) → v ≤ w → g.calls_in_version v ≤ g.calls_in_version w
     pub start : g.atomic.start ≡ object.initial

@@ -1,5 +1,6 @@
 -- What the steps on words append to the history of the board.
-use Rattle.std.specs.Prelude.{◌≡◌, ℕ, ◌==◌, List, [], ◌∷◌, ◌++◌, map, length, slice_index, slice_set, Option, Some, refl, if◌then◌else◌}
+use Rattle.std.specs.Prelude.{◌≡◌, ℕ, ◌==◌, List, [], ◌∷◌, ◌++◌, map, length, slice_index, slice_set, Option, Some}
+use Rattle.std.specs.Prelude.{refl, if◌then◌else◌}
 use mathlib.Core.Option.{some}
 use lib.ListN.{get_elem?}
 use Rattle.atomic_table.specs.Table.{State, Me, keeps, stepped}
@@ -15,13 +16,14 @@ use Rattle.uni_small.specs.declared.sizes.Sizes.{Sizes}
 use Rattle.uni_small.specs.declared.view.View.{View}
 
 module _ {O : Type 0} (meaning : O → Meaning) (o : O) (sizes : Sizes) (id : ℕ) (me : Me Seen (View O)) where
-  -- A step of seat `id` turns word i from x into f x. If the table showed the board g, it then shows a board whose history is that of g with
-  -- `acts g x` appended; only the seat's process stands elsewhere; and of x and the seat as it is left `says` holds. Each execution that led
-  -- to the first table leads to the second one by one step more.
+  -- A step of seat `id` turns word i from x into f x. If the table showed the board g, it then shows a board whose
+  -- history is that of g with `acts g x` appended; only the seat's process stands elsewhere; and of x and the seat as
+  -- it is left `says` holds. Each execution that led to the first table leads to the second one by one step more.
   abbrev pub Moves : (i : ℕ) → (f : ℕ → ℕ) → (acts : Board → (found : ℕ) → List (Act (List ℕ) (List ℕ)))
       → (says : ℕ → Me Seen (View O) → Type 0) → Type 0
   Moves i f acts says =
-      (s : State Seen (View O)) (g : Board) (local : ℕ → Local) (seat_of : ℕ → ℕ) → IsShown sizes meaning o g local seat_of s
+      (s : State Seen (View O)) (g : Board) (local : ℕ → Local) (seat_of : ℕ → ℕ)
+      → IsShown sizes meaning o g local seat_of s
       → get_elem? s.views id ≡ some me.0
       → (v : View O) × ((g' : Board)
       × IsShown sizes meaning o g' (set_at local me.0.known.first v.known.local) seat_of (stepped s i (f (slice_index s.words i)) id me.1 v keeps)
@@ -37,12 +39,15 @@ nothing g found = []
 abbrev pub begins : Local → (p : ℕ) → (inv : List ℕ) → Board → (found : ℕ) → List (Act (List ℕ) (List ℕ))
 begins l p inv g found = Invoke p (length l.own) inv ∷ []
 
--- where the exchange finds what the attempt began with, the calls that its scan saw take effect, in the order of their processes
+-- where the exchange finds what the attempt began with, the calls that its scan saw take effect, in the order of their
+-- processes
 abbrev pub takes_effect : (s : ℕ) → (seen : List (Option (List ℕ))) → Board → (found : ℕ) → List (Act (List ℕ) (List ℕ))
 takes_effect s seen g found = if found == s then map (λ c. Linearize c) (calls_seen g.image.applied 0 seen) else []
 
--- where the exchange of a direct attempt finds it, the call of process p begins, and takes effect with those that the scan saw
-abbrev pub takes_effect_own : Local → (p : ℕ) → (inv : List ℕ) → (s : ℕ) → (seen : List (Option (List ℕ))) → Board → (found : ℕ) → List (Act (List ℕ) (List ℕ))
+-- where the exchange of a direct attempt finds it, the call of process p begins, and takes effect with those that the
+-- scan saw
+abbrev pub takes_effect_own : Local → (p : ℕ) → (inv : List ℕ) → (s : ℕ) → (seen : List (Option (List ℕ))) → Board
+    → (found : ℕ) → List (Act (List ℕ) (List ℕ))
 takes_effect_own l p inv s seen g found =
     if found == s then Invoke p (length l.own) inv ∷ map (λ c. Linearize c) (calls_seen g.image.applied 0 (slice_set seen p (Some inv))) else []
 

@@ -5,10 +5,11 @@ use Rattle.seq_object.specs.History.{response_at}
 use Rattle.uni_model.specs.AtomicObject.{Invoked}
 use Rattle.uni_small.specs.View.{Returned}
 
-module _ (object : Sequential (List ℕ) (List ℕ) (List ℕ)) (agreed : List (Invoked (List ℕ))) (calls_in_version : ℕ → ℕ) where
-  -- Of the calls, in the order in which they took effect, the first calls_in_version v are in version v. Call k of process p has returned: its
-  -- reply is the object's at its place, it comes after all that are in its version `after`, and is one of those that are in its version
-  -- `version`.
+module _ (object : Sequential (List ℕ) (List ℕ) (List ℕ)) (agreed : List (Invoked (List ℕ))) (calls_in_version : ℕ
+    → ℕ) where
+  -- Of the calls, in the order in which they took effect, the first calls_in_version v are in version v. Call k of
+  -- process p has returned: its reply is the object's at its place, it comes after all that are in its version `after`,
+  -- and is one of those that are in its version `version`.
   pub record StandsIn (p k : ℕ) (call : Returned) : Type 0 where
     pub place : ℕ
     pub there : slice_get agreed place ≡ Some (record { process = p; nth = k; inv = call.inv })
@@ -16,11 +17,12 @@ module _ (object : Sequential (List ℕ) (List ℕ) (List ℕ)) (agreed : List (
     pub after : calls_in_version call.after ≤ place
     pub before : place < calls_in_version call.version
 
-  -- At the version `present`: process p has returned from these calls, each of which stands where it says. Its other calls that took effect
-  -- come after all that are in its version `after`.
+  -- At the version `present`: process p has returned from these calls, each of which stands where it says. Its other
+  -- calls that took effect come after all that are in its version `after`.
   pub record IsOrdered (present p after : ℕ) (own : List Returned) : Type 0 where
     pub reached : after ≤ present
-    pub later : (c : Invoked (List ℕ)) (place : ℕ) → slice_get agreed place ≡ Some c → c.process ≡ p → length own ≤ c.nth → calls_in_version after ≤ place
+    pub later : (c : Invoked (List ℕ)) (place : ℕ) → slice_get agreed place ≡ Some c → c.process ≡ p
+        → length own ≤ c.nth → calls_in_version after ≤ place
     pub known : (k : ℕ) (call : Returned) → slice_get own k ≡ Some call → call.version ≤ present
     pub stand : (k : ℕ) (call : Returned) → slice_get own k ≡ Some call → StandsIn p k call
 

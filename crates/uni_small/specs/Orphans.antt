@@ -35,6 +35,7 @@ calls_after orphan reply (Some version) =
     let l = local_of orphan.seat.me in
     calls_before orphan ++ record { inv = l.inv; reply = reply; after = l.after; version = version } ∷ []
 
--- how many word steps it takes at most to take over a seat: its announcement and both buffers are loaded, and its call begins again
+-- how many word steps it takes at most to take over a seat: its announcement and both buffers are loaded, and its call
+-- begins again
 abbrev pub take_over_steps : Sizes → ℕ
 take_over_steps sizes = 2 * buffer_words sizes + 2 * attempt_steps sizes + sizes.reply + 3

@@ -6,25 +6,27 @@ use Rattle.uni_small.specs.View.{Local, Stage}
 use Rattle.uni_small.specs.View.Stage.{Idle}
 use Rattle.uni_small.specs.Standing.{call_steps}
 use Rattle.uni_small.specs.Execution.{CanTake, Execution, Moment, Next, after, last_moment, opened_moment}
-use Rattle.uni_small.specs.Execution.Next.{Store, Announce, Follow, Begin, Confirm}
+use Rattle.uni_small.specs.Execution.Next.{Store, Announce, Follow, Recall, Begin, Confirm}
 use Rattle.uni_small.specs.Execution.Next.{Recount, Reread, Restart}
 use Rattle.uni_small.specs.declared.sizes.Sizes.{Sizes}
 
--- a process is in the midst of a call, or of a read: it is in an attempt, directly or not, or a direct one has failed, or it has stored words of
--- the invocation; and the call has not returned
+-- a process is in the midst of a call, or of a read: it is in an attempt, directly or not, or a direct one has failed,
+-- or it has stored words of the invocation; and the call has not returned
 abbrev pub IsPending : Stage → (direct : Bool) → Type 0
 IsPending (Idle []) direct = direct ≡ true
 IsPending stage direct = Unit {0}
 
 module _ (object : Sequential (List ℕ) (List ℕ) (List ℕ)) (sizes : Sizes) where
-  -- How many word steps the latest call has taken after `next`, where it had taken `taken` before. A call's first step begins a direct attempt,
-  -- or, where none was made, stores the first word of its invocation, or announces the call where it has no words. To ask which version has
-  -- come is no step of a call, and neither is what a new owner of its seat loads before the call begins again, from which on it is counted. A
-  -- read is no call: it begins as a direct attempt, and where it ends nothing counts.
+  -- How many word steps the latest call has taken after `next`, where it had taken `taken` before. A call's first step
+  -- begins a direct attempt, or, where none was made, stores the first word of its invocation, or announces the call
+  -- where it has no words. To ask which version has come is no step of a call, and neither is what a new owner of its
+  -- seat loads before the call begins again, from which on it is counted. A read is no call: it begins as a direct
+  -- attempt, and where it ends nothing counts.
   abbrev pub counted : {p : ℕ} {l : Local} → Next object sizes p l → (taken : ℕ) → ℕ
   counted {l = l} (Store [] x at inside room) taken = if l.direct then taken + 1 else 1
   counted {l = l} (Announce [] at whole few) taken = if l.direct then taken + 1 else 1
   counted (Follow at) taken = taken
+  counted (Recall read at had) taken = taken
   counted (Begin at untried few) taken = 1
   counted (Confirm s copy at copied direct) taken = 0
   counted Recount taken = taken
@@ -37,7 +39,8 @@ module _ (object : Sequential (List ℕ) (List ℕ) (List ℕ)) (sizes : Sizes) 
   steps_of_call p taken e =
       Executions.steps_of_call sizes.processes (CanTake object sizes) (after object sizes) (λ m q next. counted next) p taken e
 
-  -- no call of an execution from the opening takes more steps than this, counted since it last began again, whatever the other processes do
+  -- no call of an execution from the opening takes more steps than this, counted since it last began again, whatever
+  -- the other processes do
   abbrev pub KeepsBound : Execution object sizes (opened_moment object sizes) → Type 0
   KeepsBound e = (p : ℕ) → p < sizes.processes → steps_of_call p 0 e ≤ call_steps sizes
 
@@ -47,5 +50,6 @@ module _ (object : Sequential (List ℕ) (List ℕ) (List ℕ)) (sizes : Sizes) 
 
   -- wherever an execution from the opening has come to, a process in the midst of a call can take a step of that call
   abbrev pub NeverBlocks : Execution object sizes (opened_moment object sizes) → Type 0
-  NeverBlocks e = (p : ℕ) → p < sizes.processes → IsPending ((last_moment object sizes e).local p).stage ((last_moment object sizes e).local p).direct
+  NeverBlocks e = (p : ℕ) → p < sizes.processes
+      → IsPending ((last_moment object sizes e).local p).stage ((last_moment object sizes e).local p).direct
       → StepOfCall p ((last_moment object sizes e).local p)

@@ -8,8 +8,10 @@ use Rattle.uni_small.specs.Execution.{Execution, Next, goes_on, all_acts, last_m
 use Rattle.uni_small.specs.declared.sizes.Sizes.{Sizes}
 
 module _ (object : Sequential (List ℕ) (List ℕ) (List ℕ)) (sizes : Sizes) where
-  -- An execution from the opening leads to these words and to where each process stands, and its acts are the history of the board.
-  pub record LeadsTo (e : Execution object sizes (opened_moment object sizes)) (g : Board) (local : ℕ → Local) (words : List ℕ) : Type 0 where
+  -- An execution from the opening leads to these words and to where each process stands, and its acts are the history
+  -- of the board.
+  pub record LeadsTo (e : Execution object sizes (opened_moment object sizes)) (g : Board) (local : ℕ
+      → Local) (words : List ℕ) : Type 0 where
     pub words_are : (last_moment object sizes e).words ≡ words
     pub locals_are : (p : ℕ) → p < sizes.processes → (last_moment object sizes e).local p ≡ local p
     pub acts_are : all_acts object sizes e ≡ g.acts
@@ -19,7 +21,8 @@ module _ (object : Sequential (List ℕ) (List ℕ) (List ℕ)) (sizes : Sizes) 
   HasRun g local words = (e : Execution object sizes (opened_moment object sizes)) × LeadsTo e g local words
 
   -- each execution that led to the one place leads, with one step of process p more, to the other one
-  abbrev pub GoesOn : (p : ℕ) → (g : Board) (local : ℕ → Local) (words : List ℕ) → (g' : Board) (local' : ℕ → Local) (words' : List ℕ) → Type 0
+  abbrev pub GoesOn : (p : ℕ) → (g : Board) (local : ℕ → Local) (words : List ℕ)
+      → (g' : Board) (local' : ℕ → Local) (words' : List ℕ) → Type 0
   GoesOn p g local words g' local' words' =
       (e : Execution object sizes (opened_moment object sizes)) → LeadsTo e g local words
       → (inside : p < sizes.processes) × ((next : Next object sizes p ((last_moment object sizes e).local p))

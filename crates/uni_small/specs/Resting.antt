@@ -13,8 +13,8 @@ module _ (object : Sequential (List ℕ) (List ℕ) (List ℕ)) (sizes : Sizes) 
   Rests p Ends = Unit {0}
   Rests p (Takes q inside next rest) = (q ≢ p) × Rests p rest
 
-  -- Two executions make the same acts and end with the same words and all processes at the same places, but for process p, which takes no
-  -- step in the second one.
+  -- Two executions make the same acts and end with the same words and all processes at the same places, but for process
+  -- p, which takes no step in the second one.
   pub record AreAlikeBut (p : ℕ) {m m' : Moment} (e : Execution object sizes m) (e' : Execution object sizes m') : Type 0 where
     pub acts : all_acts object sizes e' ≡ all_acts object sizes e
     pub words : (last_moment object sizes e').words ≡ (last_moment object sizes e).words
@@ -22,8 +22,9 @@ module _ (object : Sequential (List ℕ) (List ℕ) (List ℕ)) (sizes : Sizes) 
     pub rests : Rests p e'
     pub own : (last_moment object sizes e').local p ≡ m'.local p
 
-  -- Where a process, at the end of an execution, can load the last word of its reply, and after that takes no further step: all that goes on
-  -- then goes on without this load as well. So by the words nobody can tell whether the call of a process that stopped there has returned.
+  -- Where a process, at the end of an execution, can load the last word of its reply, and after that takes no further
+  -- step: all that goes on then goes on without this load as well. So by the words nobody can tell whether the call of
+  -- a process that stopped there has returned.
   abbrev pub LeavesNoTrace : {m : Moment} → Execution object sizes m → Type 0
   LeavesNoTrace e = let m = last_moment object sizes e in
       (p s : ℕ) (loaded : List ℕ) (at : (m.local p).stage ≡ Last s loaded) (last : length loaded + 1 ≡ sizes.reply)

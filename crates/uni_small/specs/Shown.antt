@@ -21,7 +21,8 @@ module _ (sizes : Sizes) where
     pub announced : (p : ℕ) → p < sizes.processes → slice_index words (announce_word p) ≡ g.told p
     pub argument : (p k : ℕ) → p < sizes.processes → k < sizes.invocation
         → slice_index words (argument_word sizes p k) ≡ slice_index (g.argument p) k
-    pub buffer : (b i : ℕ) → b < 2 * sizes.processes → i < buffer_words sizes → slice_index words (buffer_word sizes b i) ≡ g.buffer b i
+    pub buffer : (b i : ℕ) → b < 2 * sizes.processes → i < buffer_words sizes
+        → slice_index words (buffer_word sizes b i) ≡ g.buffer b i
 
   -- a process whose seat the seat id has taken in: it has no call pending, and these are its calls
   pub record IsTaken (local : ℕ → Local) (seat_of : ℕ → ℕ) (id : ℕ) (v : Known) (its : ProcessReturned) : Type 0 where

@@ -200,6 +200,7 @@ impl<O: SmallObject> SmallSeat<O> {
         if self.made == MAX_CALLS {
             return Err(CallsSpent);
         }
+        self.read = None;
         let version = shared.call(
             &mut self.seat,
             self.p,
@@ -247,6 +248,7 @@ impl<O: SmallObject> SmallSeat<O> {
         if self.made == MAX_CALLS {
             return Err(CallsSpent);
         }
+        self.read = None;
         let version = shared.call_announced(
             &mut self.seat,
             self.p,

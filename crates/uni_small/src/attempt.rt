@@ -235,7 +235,8 @@ impl<O: SmallObject> SmallShared<O> {
         ensures image { image_of_rows self.now.setup.sizes applied.new reply.new state.new
             ≡ with_seen (O.meaning self.now.setup.object).object
             (image_of_rows self.now.setup.sizes applied.old reply.old state.old) 0 (map seen_in seen.now) }
-        ensures applied { (q : ℕ) → IsOutside busy.from busy.to q → slice_index applied.new q ≡ slice_index applied.old q }
+        ensures applied { (q : ℕ) → IsOutside busy.from busy.to q
+            → slice_index applied.new q ≡ slice_index applied.old q }
         ensures reply { (i : ℕ) → IsOutsideRows busy self.now.setup.sizes.reply i
             → slice_index reply.new i ≡ slice_index reply.old i }
         ensures touched { AreSameOutside result state.old state.new }

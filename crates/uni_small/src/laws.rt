@@ -5,7 +5,7 @@ ghost use Rattle.std.specs.Prelude.{List, Option, Some, [], length, slice_get, s
 ghost use prog.Atomic.{either};
 ghost use Rattle.atomic_table.specs.Table.{State, Me, Step};
 ghost use Rattle.uni_small.specs.Image.{Image, buffer_words, held_place, reply_place};
-ghost use Rattle.uni_small.specs.View.{Local, Returned};
+ghost use Rattle.uni_small.specs.View.{Local, Read, Returned};
 ghost use Rattle.uni_small.specs.View.Stage.{Idle, Last, Ready, Writing};
 ghost use Rattle.uni_small.specs.Board.{AreSizesOf, Board, announce_word, argument_word, buffer_word};
 ghost use Rattle.uni_small.specs.Board.{buffer_in, current_word, version_in};
@@ -15,7 +15,7 @@ ghost use Rattle.uni_small.specs.Plays.{HasAnnounced, HasAsked, HasBrought, HasC
 ghost use Rattle.uni_small.specs.Plays.{HasBegun, HasBroughtOwn, HasCheckedOwn, HasConfirmed, HasFollowed};
 ghost use Rattle.uni_small.specs.Plays.{HasLooked, HasReplied, HasStarted, HasStored};
 ghost use Rattle.uni_small.specs.Plays.{HasTurned, HasWritten, stage_of};
-ghost use Rattle.uni_small.specs.Plays.{HasRecounted, HasReread, HasRestarted};
+ghost use Rattle.uni_small.specs.Plays.{HasRecalled, HasRecounted, HasReread, HasRestarted};
 ghost use Rattle.uni_small.specs.Shown.{IsShown};
 ghost use Rattle.uni_small.specs.Standing.{IsAsking, IsCopying, IsLoading, IsLooking, IsStoring, IsWriting};
 ghost use Rattle.uni_small.specs.Standing.{IsWritten};
@@ -135,6 +135,10 @@ pub fn loads_append_nothing<O: SmallObject>()
     ensures follow { (o : O) (sizes : Sizes) (id : ℕ) (st : Step Seen) (me : Me Seen (View O)) →
         sizes.processes ≤ 64 → me.0.known.count ≡ 1 → stage_of me ≡ Idle []
         → Moves O.meaning o sizes id me 0 (λ x. x) nothing (λ found me'. HasFollowed st me found me') }
+    ensures recall { (o : O) (sizes : Sizes) (id : ℕ) (read : Read) (st : Step Seen) (me : Me Seen (View O)) →
+        sizes.processes ≤ 64 → me.0.known.count ≡ 1 → stage_of me ≡ Idle [] → (local_of me).read ≡ Some read
+        → Moves O.meaning o sizes id me 0 (λ x. x) nothing
+        (λ found me'. (q : O) → me.0.object ≡ Some q → HasRecalled (O.meaning q) st me found me') }
     ensures reply { (o : O) (sizes : Sizes) (id s k : ℕ) (st : Step Seen) (me : Me Seen (View O)) →
         me.0.known.count ≡ 1 → IsLoading s k me → k + 1 < sizes.reply → buffer_in s < 2 * sizes.processes
         → Moves O.meaning o sizes id me

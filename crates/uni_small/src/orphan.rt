@@ -30,13 +30,7 @@ impl<O> SmallSeat<O> {
         ensures steps { steps_before result ≡ word_steps_of self }
         ensures between { IsInCall result → ⊥ }
     {
-        let SmallSeat {
-            seat,
-            p,
-            made: _,
-            own: _,
-            room: _,
-        } = self;
+        let SmallSeat { seat, p, .. } = self;
         SmallOrphan { seat, p }
     }
 }

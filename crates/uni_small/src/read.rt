@@ -5,7 +5,7 @@ ghost use Rattle.uni_small.specs.Belongs.{AreBuffers, HasRoom, IsKept, IsSeatOf,
 ghost use Rattle.uni_small.specs.Belongs.{invocation_width_of, object_of, process_of, processes_of, reply_width_of};
 ghost use Rattle.uni_small.specs.Belongs.{sizes_of, state_read, taken_calls, version_of, word_steps_of};
 ghost use Rattle.uni_small.specs.Final.{IsAnswerAt, IsVersion};
-ghost use Rattle.uni_small.specs.Image.{AreWidths, IsReached};
+ghost use Rattle.uni_small.specs.Image.{AreWidths, IsReached, buffer_words};
 ghost use Rattle.uni_small.specs.Invariant.{most_calls};
 ghost use Rattle.uni_small.specs.Plays.{stage_of};
 ghost use Rattle.uni_small.specs.Standing.{IsAnnounced, IsOf, ReadsWithin, local_of, read_steps};
@@ -37,7 +37,8 @@ impl<O: SmallObject> SmallShared<O> {
         requires room { HasRoom self.now.setup.sizes room.old }
         requires kept { IsKept self.now.setup.sizes own.now room.old }
         ensures same { (seat.new.table_id ≡ seat.old.table_id) × (seat.new.id ≡ seat.old.id) }
-        ensures ends { ReadsWithin (read_steps self.now.setup.sizes) seat.old.me result seat.new.me }
+        ensures ends { ReadsWithin (buffer_words self.now.setup.sizes + 2) seat.old.me result room.new.state.items
+            seat.new.me }
         ensures later { IfSome result (λ version. (local_of seat.old.me).after ≤ version) }
         ensures widths { IsSome result → AreWidths (O.meaning self.now.setup.object) self.now.setup.sizes }
         ensures told { IfSome result (λ version. IsVersion (O.meaning self.now.setup.object).object
@@ -50,6 +51,46 @@ impl<O: SmallObject> SmallShared<O> {
         self.copy(seat, p, 0, s, own, room);
         let again = self.confirm(seat, p, s);
         if again == s { Some(s / 128) } else { None }
+    }
+
+    /// Brings the present state into the room, and its version into `read`, or `None` where another one came meanwhile.
+    /// Where `read` has a version before, the room has its state: as long as that is the present one, it stays.
+    fn find_present(
+        &self,
+        seat: &mut Seat<Seen, View<O>>,
+        p: u64,
+        own: &Buffers,
+        room: &mut Room,
+        read: &mut Option<u64>,
+    )
+        requires table { seat.old.table_id ≡ self.now.table.shared.table_id }
+        requires inside { p < self.now.setup.sizes.processes }
+        requires of { IsOf self.now.setup.object self.now.setup.sizes p seat.old.me }
+        requires stage { stage_of seat.old.me ≡ Idle [] }
+        requires untried { IsAnnounced seat.old.me }
+        requires calls { length (local_of seat.old.me).own + 1 ≤ most_calls }
+        requires own { AreBuffers self.now.setup.sizes (local_of seat.old.me) own.now }
+        requires room { HasRoom self.now.setup.sizes room.old }
+        requires kept { IsKept self.now.setup.sizes own.now room.old }
+        requires read { IfSome read.old (λ version. (local_of seat.old.me).read
+            ≡ Some (record { version = version; state = room.old.state.items })) }
+        ensures same { (seat.new.table_id ≡ seat.old.table_id) × (seat.new.id ≡ seat.old.id) }
+        ensures ends { ReadsWithin (read_steps self.now.setup.sizes) seat.old.me read.new room.new.state.items
+            seat.new.me }
+        ensures later { IfSome read.new (λ version. (local_of seat.old.me).after ≤ version) }
+        ensures widths { IsSome read.new → AreWidths (O.meaning self.now.setup.object) self.now.setup.sizes }
+        ensures told { IfSome read.new (λ version. IsVersion (O.meaning self.now.setup.object).object
+            self.now.setup.sizes.processes (record { process = p; calls = (local_of seat.old.me).own } ∷ [])
+            version room.new.state.items) }
+        ensures room { HasRoom self.now.setup.sizes room.new }
+        ensures kept { IsKept self.now.setup.sizes own.now room.new }
+    {
+        if let Some(version) = *read {
+            if self.recall(seat, p, version) == version {
+                return;
+            }
+        }
+        *read = self.copy_present(seat, p, own, room);
     }
 
     /// What the object answers to an invocation at the state in the room, which stays as it is.
@@ -74,8 +115,9 @@ impl<O: SmallObject> SmallShared<O> {
 
 impl<O: SmallObject> SmallSeat<O> {
     /// Reads the present state, without a call: the answer is its version, and `state` shows it. Nothing is stored in a
-    /// shared word. Where S names a buffer of this seat's own process, as after a call that it brought in itself, no word
-    /// of the state is loaded.
+    /// shared word. Where S names the version that the seat has read last, and hasn't called since, it is the only word
+    /// that is loaded; and where it names a buffer of the seat's own process, as after a call that it brought in itself, no
+    /// word of the state is.
     ///
     /// The version has the state after all calls that took effect in a history that the atomic object accepts, and all
     /// calls of the seat are among them. The seat follows it: its later calls come after all calls that are in that
@@ -85,7 +127,7 @@ impl<O: SmallObject> SmallSeat<O> {
     /// Ask again, as often as you like: how often another version comes is up to the others. Who has to be answered
     /// within a bound makes a call that changes nothing.
     ///
-    /// It returns after at most `W + (1 + R) * n + 2` word steps. The error says that the seat has made all the calls
+    /// It returns after at most `W + (1 + R) * n + 3` word steps. The error says that the seat has made all the calls
     /// that it can make; nothing is changed then.
     pub fn refresh(&mut self, shared: &SmallShared<O>) -> Result<Option<u64>, CallsSpent>
         requires seat { IsSeatOf shared.now self.old }
@@ -99,17 +141,25 @@ impl<O: SmallObject> SmallSeat<O> {
         ensures version { IfOk result (λ found. IfSome found (λ version. version_of self.new ≡ version)) }
         ensures later { version_of self.old ≤ version_of self.new }
         ensures same { IfOk result (λ found. found ≡ None → version_of self.new ≡ version_of self.old) }
+        ensures asks { OnOk result (word_steps_of self.old < word_steps_of self.new) }
         ensures few_steps { OnOk result (word_steps_of self.new
             ≤ word_steps_of self.old + read_steps (sizes_of shared.now)) }
     {
         if self.made == MAX_CALLS {
             return Err(CallsSpent);
         }
-        Ok(shared.copy_present(&mut self.seat, self.p, &self.own, &mut self.room))
+        shared.find_present(
+            &mut self.seat,
+            self.p,
+            &self.own,
+            &mut self.room,
+            &mut self.read,
+        );
+        Ok(self.read)
     }
 
-    /// The words of the state that `refresh` has read last. After a call or a `read` of the seat, or where `refresh` has
-    /// answered `None`, they are of no use.
+    /// The words of the state that `refresh` or `read` has read last. After a call of the seat, or where the answer was
+    /// `None`, they are of no use.
     pub fn state(&self) -> &[u64]
         ensures { result.now ≡ state_read self.now }
     {
@@ -142,16 +192,23 @@ impl<O: SmallObject> SmallSeat<O> {
         ensures later { version_of self.old ≤ version_of self.new }
         ensures none { IfOk result (λ found. found ≡ None
             → (version_of self.new ≡ version_of self.old) × (reply.new ≡ reply.old)) }
+        ensures asks { OnOk result (word_steps_of self.old < word_steps_of self.new) }
         ensures few_steps { OnOk result (word_steps_of self.new
             ≤ word_steps_of self.old + read_steps (sizes_of shared.now)) }
     {
         if self.made == MAX_CALLS {
             return Err(CallsSpent);
         }
-        let found = shared.copy_present(&mut self.seat, self.p, &self.own, &mut self.room);
-        if found.is_some() {
+        shared.find_present(
+            &mut self.seat,
+            self.p,
+            &self.own,
+            &mut self.room,
+            &mut self.read,
+        );
+        if self.read.is_some() {
             shared.answer(&mut self.room, invocation, reply);
         }
-        Ok(found)
+        Ok(self.read)
     }
 }

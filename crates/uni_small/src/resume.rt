@@ -187,6 +187,7 @@ impl<O: SmallObject> SmallOrphan<O> {
             made,
             own,
             room,
+            read: None,
         };
         Ok((seat, version))
     }

@@ -145,6 +145,17 @@ impl<O> Play<Seen, View<O>> for Follows {
     ghost then = { HasFollowed };
 }
 
+/// The load of S by which a process asks whether the version that it has read is still the present one.
+pub struct Recalls;
+
+impl<O: SmallObject> Play<Seen, View<O>> for Recalls {
+    ghost use Rattle.std.specs.Prelude.{◌≡◌, Some};
+    ghost use Rattle.uni_small.specs.Plays.{HasRecalled};
+
+    ghost then = { λ step me found me'. (o : O) → me.0.object ≡ Some o
+        → HasRecalled (O.meaning o) step me found me' };
+}
+
 /// The load of the process's own announcement, whatever it is at.
 pub struct Recounts;
 

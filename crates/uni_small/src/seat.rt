@@ -48,6 +48,8 @@ pub struct SmallSeat<O> {
     pub(crate) made: u64,
     pub(crate) own: Buffers,
     pub(crate) room: Room,
+    /// The version whose state is in the room, which the seat has read and hasn't called since.
+    pub(crate) read: Option<u64>,
     pub ghost stands: { (seat.me.0.known.first ≡ p) × (seat.me.0.known.count ≡ 1) × (seat.me.1 ≡ []) },
     pub ghost idle: { seat.me.0.known.local.stage ≡ Idle [] },
     pub ghost untried: { seat.me.0.known.local.direct ≡ false },

@@ -101,6 +101,7 @@ impl<O: SmallObject> SmallShared<O> {
                 made: 0,
                 own,
                 room,
+                read: None,
             })?;
         }
         let room = room(alloc, sizes)?;
@@ -111,6 +112,7 @@ impl<O: SmallObject> SmallShared<O> {
             made: 0,
             own,
             room,
+            read: None,
         })?;
         Ok(seats)
     }

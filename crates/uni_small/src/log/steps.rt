@@ -4,7 +4,8 @@ ghost use Rattle.std.specs.Prelude.{◌==◌, List, [], ◌∷◌, ◌++◌, Opt
 ghost use Rattle.std.specs.Prelude.{if◌then◌else◌, length, slice_index};
 ghost use Rattle.uni_small.specs.Image.{AreWidths, HasRows, buffer_words, held_place, spell, with_seen, read_image};
 ghost use Rattle.uni_small.specs.Final.{IsVersion};
-ghost use Rattle.uni_small.specs.View.{announces, begins_directly, brings, confirms, goes, knows, returns, wrote};
+ghost use Rattle.uni_small.specs.View.{Read, announces, begins_directly, brings, confirms, goes, knows, recalls};
+ghost use Rattle.uni_small.specs.View.{returns, wrote};
 ghost use Rattle.uni_small.specs.View.Stage.{Idle, Last, Reading, Ready, Writing};
 ghost use Rattle.uni_small.specs.Board.{buffer_in, current_word, version_in};
 ghost use Rattle.uni_small.specs.Invariant.{most_calls};
@@ -20,7 +21,7 @@ use crate::log::SmallShared;
 use crate::object::SmallObject;
 use crate::rule::{
     Announces, Asks, Begins, Brings, BringsOwn, Checks, ChecksOwn, Confirms, Copies, Follows,
-    Loads, Looks, Recounts, Replies, Rereads, Restarts, Starts, Stores, Turns, Writes,
+    Loads, Looks, Recalls, Recounts, Replies, Rereads, Restarts, Starts, Stores, Turns, Writes,
 };
 use crate::seat::Seen;
 use crate::view::View;
@@ -204,7 +205,8 @@ impl<O: SmallObject> SmallShared<O> {
         requires direct { IsDirect seat.old.me }
         requires stage { IsCopying 0 s (buffer_words self.now.setup.sizes) seat.old.me }
         ensures same { (seat.new.table_id ≡ seat.old.table_id) × (seat.new.id ≡ seat.old.id) }
-        ensures left { IsLeft seat.old.me (confirms (local_of seat.old.me) s result) seat.new.me }
+        ensures left { (copy : List ℕ) → stage_of seat.old.me ≡ Reading 0 s copy [] → IsLeft seat.old.me (confirms
+            (local_of seat.old.me) s (read_image self.now.setup.sizes copy).state result) seat.new.me }
         ensures later { result ≡ s → (local_of seat.old.me).after ≤ version_in s }
         ensures widths { result ≡ s → AreWidths (O.meaning self.now.setup.object) self.now.setup.sizes }
         ensures told { (copy : List ℕ) → stage_of seat.old.me ≡ Reading 0 s copy [] → result ≡ s
@@ -351,6 +353,26 @@ impl<O: SmallObject> SmallShared<O> {
         ensures later { (local_of seat.old.me).after ≤ result }
     {
         self.table.shared.load::<Follows>(seat, 0) / 128
+    }
+
+    /// Loads S between calls, where the process has read this version: the present one. Where that is the same, it has
+    /// the state that was read.
+    pub(crate) fn recall(&self, seat: &mut Seat<Seen, View<O>>, p: u64, version: u64) -> u64
+        requires table { seat.old.table_id ≡ self.now.table.shared.table_id }
+        requires inside { p < self.now.setup.sizes.processes }
+        requires of { IsOf self.now.setup.object self.now.setup.sizes p seat.old.me }
+        requires stage { stage_of seat.old.me ≡ Idle [] }
+        requires read { (state : List ℕ)
+            × ((local_of seat.old.me).read ≡ Some (record { version = version; state = state })) }
+        ensures same { (seat.new.table_id ≡ seat.old.table_id) × (seat.new.id ≡ seat.old.id) }
+        ensures left { IsLeft seat.old.me (recalls (local_of seat.old.me) version result) seat.new.me }
+        ensures later { result ≡ version → (local_of seat.old.me).after ≤ version }
+        ensures widths { result ≡ version → AreWidths (O.meaning self.now.setup.object) self.now.setup.sizes }
+        ensures told { (read : Read) → (local_of seat.old.me).read ≡ Some read → result ≡ version
+            → IsVersion (O.meaning self.now.setup.object).object self.now.setup.sizes.processes
+            (record { process = p; calls = (local_of seat.old.me).own } ∷ []) version read.state }
+    {
+        self.table.shared.load::<Recalls>(seat, 0) / 128
     }
 
     /// Loads the announcement of process p, whatever it is at.

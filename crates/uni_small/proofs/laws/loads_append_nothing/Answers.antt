@@ -1,5 +1,5 @@
 use Rattle.uni_small.proofs.Rejoining.{recounts, rereads, restarts}
-use Rattle.uni_small.proofs.Loads.{begins_own, checks_own, reads, starts, copies, looks, asks, checks, turns, follows_on}
+use Rattle.uni_small.proofs.Loads.{begins_own, checks_own, reads, starts, copies, looks, asks, checks, turns, follows_on, recalls_on}
 use Rattle.uni_small.proofs.Reply.{loads}
 use Rattle.uni_small.proofs.laws.loads_append_nothing.Goals as goal
 
@@ -42,6 +42,10 @@ returns-clause-reread g c o sizes id which k st me few single either below at =
 
 pub returns-clause-restart : goal.returns-clause-restart
 returns-clause-restart g c o sizes id st me few single = restarts g.O.SmallObject.meaning o sizes id few st me single
+
+pub returns-clause-recall : goal.returns-clause-recall
+returns-clause-recall g c o sizes id read st me few single stage had =
+    recalls_on g.O.SmallObject.meaning o sizes id few st me single read stage had
 
 pub returns-clause-confirm : goal.returns-clause-confirm
 returns-clause-confirm g c o sizes id s st me few single copying direct = reads g.O.SmallObject.meaning o sizes id few st me single s copying direct

@@ -1,4 +1,4 @@
-use Rattle.uni_small.proofs.Vocabulary.{AreWidths, HasConfirmed, Some, arith, none, nothing, read_image, refl, step, subst, version_in, [], ℕ, ◌∷◌, ◌≡◌}
+use Rattle.uni_small.proofs.Vocabulary.{AreWidths, HasConfirmed, Some, arith, none, nothing, read_image, refl, step, subst, version_in, [], ℕ, ◌∷◌, ◌≡◌, Sizes, IsLeft, local_of, confirms}
 use Rattle.uni_small.proofs.Allowed.{by_key}
 use Rattle.uni_small.proofs.Loads.{reads}
 use Rattle.uni_small.specs.Final.{IsVersion}
@@ -23,7 +23,10 @@ load-requires g c =
     )
 
 pub returns-clause-left : goal.returns-clause-left
-returns-clause-left g c = (c.load.ensures.2 c.args.self.now.setup.object c.requires.of.object c.args.s c.requires.stage.0 c.requires.stage.1).0
+returns-clause-left g c copy stage =
+    let me = c.args.seat.now.me in
+    subst (λ (z : Sizes). IsLeft me (confirms (local_of me) c.args.s (read_image z copy).state c.load.result) c.load.new.seat.me) c.requires.of.sizes
+    (c.load.ensures.2 c.args.self.now.setup.object c.requires.of.object c.args.s copy stage).0
 
 pub returns-clause-later : goal.returns-clause-later
 returns-clause-later g c same = ((c.load.ensures.2 c.args.self.now.setup.object c.requires.of.object c.args.s c.requires.stage.0 c.requires.stage.1).1 same).1

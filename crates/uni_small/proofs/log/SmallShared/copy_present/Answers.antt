@@ -1,4 +1,4 @@
-use Rattle.uni_small.proofs.Vocabulary.{Image, List, None, Reading, Returned, Some, [], ap, buffer_words, if◌then◌else◌, image_in, inl, inr, number_cases, read_image, refl, spell, subst, version_in, ◌/◌, ◌==◌, ◌∷◌, ◌∙◌, ◌≡◌}
+use Rattle.uni_small.proofs.Vocabulary.{Image, List, None, Reading, Returned, Some, [], ap, buffer_words, if◌then◌else◌, image_in, inl, inr, number_cases, read_image, refl, spell, subst, version_in, ◌/◌, ◌==◌, ◌∷◌, ◌∙◌, ◌≡◌, local_of, IsLeft, confirms, Room, Seen, Me, View}
 use Rattle.uni_small.specs.Final.{IsVersion}
 use Rattle.uni_small.proofs.Going.{own_after, read_ends, stage_after}
 use Rattle.uni_small.proofs.Images.{read-spell, spell-length}
@@ -20,21 +20,31 @@ pub returns-then-again-s-clause-ends : goal.returns-then-again-s-clause-ends
 returns-then-again-s-clause-ends g c =
     let s = c.begin-s.result in
     let again = c.confirm-again.result in
+    let state = c.copy.new.room.state.items in
     let copied = c.copy.ensures.goes in
-    let after = c.args.seat.now.me.0.known.local.after in
-    let found : (if again == s then version_in s else after) ≡ s / 128 = elim (number_cases again s) [ inl h ↦ rw h.1 refl | inr h ↦ absurd (h.0 c.if-again-s.true) ] in
-    read_ends c.args.seat.now.me c.begin-s.new.seat.me c.copy.new.seat.me c.confirm-again.new.seat.me s again copied.0 (buffer_words c.args.self.now.setup.sizes) _ _ (Some (s / 128))
-    c.begin-s.ensures.left copied.1 copied.2 c.confirm-again.ensures.left found
+    let image = image_in c.args.self.now.setup.sizes c.copy.new.room in
+    let confirmed = subst (λ (i : Image). IsLeft c.copy.new.seat.me (confirms (local_of c.copy.new.seat.me) s i.state again) c.confirm-again.new.seat.me)
+    (read-spell c.args.self.now.setup.sizes image (room_rows c.args.self.now.setup.sizes c.copy.new.room c.copy.ensures.room))
+    (c.confirm-again.ensures.left (spell image) (stage_after c.begin-s.new.seat.me c.copy.new.seat.me copied.0 (Reading 0 s (spell image) []) copied.2)) in
+    read_ends c.args.seat.now.me c.begin-s.new.seat.me c.copy.new.seat.me c.confirm-again.new.seat.me s again copied.0 (buffer_words c.args.self.now.setup.sizes) _ _ (Some (s / 128)) state
+    c.begin-s.ensures.left copied.1 copied.2 confirmed
+    (elim (number_cases again s) [ inl h ↦ rw h.1 refl | inr h ↦ absurd (h.0 c.if-again-s.true) ])
+    (elim (number_cases again s) [ inl h ↦ rw h.1 refl | inr h ↦ absurd (h.0 c.if-again-s.true) ])
 
 pub returns-else-again-s-clause-ends : goal.returns-else-again-s-clause-ends
 returns-else-again-s-clause-ends g c =
     let s = c.begin-s.result in
     let again = c.confirm-again.result in
+    let state = c.copy.new.room.state.items in
     let copied = c.copy.ensures.goes in
-    let after = c.args.seat.now.me.0.known.local.after in
-    let found : (if again == s then version_in s else after) ≡ after = elim (number_cases again s) [ inl h ↦ absurd (c.if-again-s.false h.0) | inr h ↦ rw h.1 refl ] in
-    read_ends c.args.seat.now.me c.begin-s.new.seat.me c.copy.new.seat.me c.confirm-again.new.seat.me s again copied.0 (buffer_words c.args.self.now.setup.sizes) _ _ None
-    c.begin-s.ensures.left copied.1 copied.2 c.confirm-again.ensures.left found
+    let image = image_in c.args.self.now.setup.sizes c.copy.new.room in
+    let confirmed = subst (λ (i : Image). IsLeft c.copy.new.seat.me (confirms (local_of c.copy.new.seat.me) s i.state again) c.confirm-again.new.seat.me)
+    (read-spell c.args.self.now.setup.sizes image (room_rows c.args.self.now.setup.sizes c.copy.new.room c.copy.ensures.room))
+    (c.confirm-again.ensures.left (spell image) (stage_after c.begin-s.new.seat.me c.copy.new.seat.me copied.0 (Reading 0 s (spell image) []) copied.2)) in
+    read_ends c.args.seat.now.me c.begin-s.new.seat.me c.copy.new.seat.me c.confirm-again.new.seat.me s again copied.0 (buffer_words c.args.self.now.setup.sizes) _ _ None state
+    c.begin-s.ensures.left copied.1 copied.2 confirmed
+    (elim (number_cases again s) [ inl h ↦ absurd (c.if-again-s.false h.0) | inr h ↦ rw h.1 refl ])
+    (elim (number_cases again s) [ inl h ↦ absurd (c.if-again-s.false h.0) | inr h ↦ rw h.1 refl ])
 
 pub returns-then-again-s-clause-told : goal.returns-then-again-s-clause-told
 returns-then-again-s-clause-told g c =

@@ -23,7 +23,7 @@ loop-p-preserved g c = (
       (subst (λ l. AreBuffers c.args.self.now.setup.sizes l c.in_ok-own.own)
       (sym (ap (λ (m : Me Seen (View _)). m.0.known.local) c.split_seat-seat.ensures.4 ∙ ap (λ (m : Me Seen (View _)). m.0.known.local) c.loop-p.invariant.1)) c.in_ok-own.ensures.held)
       (kept_afresh c.args.self.now.setup.sizes c.in_ok-own.own c.in_ok-room.room c.in_ok-room.ensures.of c.in_ok-own.ensures.apart c.args.self.now.few)
-      (search rules) refl (search rules) (search rules),
+      refl (search rules) refl (search rules) (search rules),
 )
 
 pub returns-clause-first : goal.returns-clause-first
@@ -33,7 +33,7 @@ returns-clause-first g c =
     (one_more c.args.self.now c.loop-p.p c.loop-p.seats.items c.push-2.new.self.items _ c.loop-p.invariant.2 c.in_ok-push-2.ensures.items (search rules) (search rules) (search rules) (search rules) (search rules) (search rules)
     (subst (λ l. AreBuffers c.args.self.now.setup.sizes l c.in_ok-own-2.own) (sym (ap (λ (m : Me Seen (View _)). m.0.known.local) c.loop-p.invariant.1)) c.in_ok-own-2.ensures.held)
     (kept_afresh c.args.self.now.setup.sizes c.in_ok-own-2.own c.in_ok-room-2.room c.in_ok-room-2.ensures.of c.in_ok-own-2.ensures.apart c.args.self.now.few)
-    (search rules) refl (search rules) (search rules))
+    refl (search rules) refl (search rules) (search rules))
 
 pub returns-clause-own : goal.returns-clause-own
 returns-clause-own g c = all_own c.args.self.now c.args.self.now.setup.sizes.processes c.push-2.new.self.items (returns-clause-first g c)

@@ -1,5 +1,5 @@
 use Rattle.std.proofs.Common.{rules}
-use Rattle.uni_small.proofs.Vocabulary.{Buffers, IsKept, Room, ap, refl, subst, sym, ◌∙◌}
+use Rattle.uni_small.proofs.Vocabulary.{Buffers, IsKept, Room, ap, refl, subst, sym, ◌∙◌, None, Some, ◌≡◌}
 use Rattle.uni_small.proofs.Kept.{kept_afresh}
 use Rattle.uni_small.proofs.orphan.SmallOrphan.resume.Goals.{else-told-made, then-told-made}
 use Rattle.uni_small.proofs.orphan.SmallOrphan.resume.Goals as goal
@@ -19,6 +19,7 @@ returns-clause-seat g c = (
           (ap (λ (o : Buffers). o.apart) w.own-is ∙ w.rejoin.ensures.apart ∙ c.all.ensures) c.args.shared.now.few
       | else-told-made w ↦ subst (λ (x : Buffers × Room). IsKept c.args.shared.now.setup.sizes x.0 x.1) (λ k. (sym w.own-is k, sym w.room-is k)) w.resume-version.ensures.kept
     ];
+    read = λ version e. absurd (let none : None ≡ Some version = e in cc);
   },
   refl,
 )
