@@ -3,7 +3,8 @@
 //
 // The steps are those of crates/uni_small/specs/Execution.antt, written a second time: no prover reads this. Wherever
 // the rule lets a process choose, both are tried: a call may begin with a direct attempt, or be announced at once; and what
-// begins as a direct attempt may end as a read, once the buffer is copied.
+// begins as a direct attempt may end as a read, once the buffer is copied. Who has read a version, and hasn't called since,
+// may read again by one load of S, which changes nothing: so it is tried wherever it may come.
 //
 // Beside the words it keeps what an atomic object would have: its state, how many calls of each process are in, and
 // their replies. It stops with a word where an exchange applies a call that isn't pending, a call twice, or one with
@@ -34,9 +35,9 @@ constexpr int buffer_words = first_state + state_words;
 constexpr int attempt_steps = 2 * buffer_words + processes + processes * argument_words + 3;
 constexpr int call_steps = attempt_steps + 4 * state_words + (6 + 2 * argument_words + 4 * reply_words) * processes
                            + argument_words + reply_words + 8;
-constexpr int read_steps = buffer_words + 2;
+constexpr int read_steps = buffer_words + 3;
 constexpr int resume_steps = 2 * buffer_words + 2 * attempt_steps + reply_words + 2;
-static_assert(2 * processes * (processes * calls + 1) < 256, "versions don't fit");
+static_assert(2 * processes * (processes * calls + 1) < 255, "versions don't fit");
 
 enum Planted {
     None,
@@ -51,6 +52,7 @@ enum Planted {
     CurrentIsSpare,    // who takes a seat over writes the current buffer
     OneCallLess,       // who takes a seat over forgets its latest call
     UnconfirmedRead,   // a read is told its copy also where S has changed
+    StaleRead,         // a read is told what was read before also where S has changed
 };
 constexpr Planted planted = static_cast<Planted>(PLANTED);
 
@@ -76,8 +78,9 @@ struct Process {
     Byte taken_over; // the call goes on from a take-over
     Byte has_begun;  // at a take-over: its latest call was announced, or is in
     Byte own_spot;   // for `OldReply`: the buffer it brought in last
+    Byte read;       // S of the version that it has read, and hasn't called since, plus 1; or 0
     std::uint16_t steps;
-    Buffer copy, next;
+    Buffer copy, next, kept; // `kept` is the copy of the version that it has read
     std::array<Byte, processes> sees;
     std::array<Argument, processes> arguments;
     Reply reply;
@@ -122,6 +125,8 @@ int buffer_in(Byte s) { return s % (2 * processes); }
 bool has_value(const State &m, const Buffer &buffer) {
     return std::equal(m.value.begin(), m.value.end(), &buffer[first_state]);
 }
+
+void forgets_what_was_read(Process &x) { x.read = 0; x.kept = {}; }
 
 void forget(Process &x) {
     x.copy = {}; x.next = {}; x.sees = {}; x.arguments = {};
@@ -254,13 +259,30 @@ void restarts(State &m, int p) {
 
 bool can_confirm(const Process &x) { return x.stage == Stage::Looking && x.direct && x.other == 0; }
 
-// The load of S that ends a read: no call has begun.
+// A read is told this copy: it is the present state, and counts the calls that are in.
+void told(const State &m, const Buffer &copy) {
+    if (!has_value(m, copy) || !std::equal(m.in.begin(), m.in.end(), copy.begin()))
+        throw Found{"a read is told another state"};
+}
+
+bool can_recall(const Process &x) { return x.stage == Stage::Between && x.read != 0; }
+
+// The load of S by which who has read a version reads it again, where it is still the present one.
+void recalls(const State &m, int p) {
+    const Process &x = m.process[p];
+    if (m.s + 1 == x.read || planted == StaleRead) told(m, x.kept);
+}
+
+// The load of S that ends a read: no call has begun. One load more may have come before, by which another version was found.
 void confirms(State &m, int p) {
     Process &x = m.process[p];
     const bool is_told = m.s == x.s || planted == UnconfirmedRead;
-    if (is_told && (!has_value(m, x.copy) || !std::equal(m.in.begin(), m.in.end(), x.copy.begin())))
-        throw Found{"a read is told another state"};
-    if (x.steps + 1 > read_steps) throw Found{"a read takes more steps than the bound"};
+    if (is_told) {
+        told(m, x.copy);
+        x.read = Byte(m.s + 1);
+        x.kept = x.copy;
+    }
+    if (x.steps + 2 > read_steps) throw Found{"a read takes more steps than the bound"};
     forget(x);
     x.begun--;
     x.direct = 0;
@@ -274,6 +296,7 @@ void steps(State &m, int p, bool directly) {
     x.steps++;
     switch (x.stage) {
     case Stage::Between:
+        forgets_what_was_read(x);
         x.begun++;
         x.steps = 1;
         if (directly) { x.direct = 1; begins_attempt(m, p); break; }
@@ -331,6 +354,7 @@ void stops(State &m, int p) {
     const bool unbegun = x.direct || x.stage == Stage::Storing;
     x.has_begun = !unbegun || m.in[p] == x.begun;
     forget(x);
+    forgets_what_was_read(x);
     x.reply = {};
     x.direct = x.tries = x.taken_over = 0;
     x.steps = 0;
@@ -377,6 +401,7 @@ int main() {
                     steps(next, p, directly);
                     add(next);
                 }
+                if (can_recall(m.process[p])) recalls(m, p);
                 if (can_confirm(m.process[p])) { next = m; confirms(next, p); add(next); }
                 if (can_stop(m, p)) { next = m; stops(next, p); add(next); }
             }
