@@ -313,7 +313,8 @@ uint32_t universal_small_apply(universal_handle *seat, const uint64_t *invocatio
 /* Reads the present state by a seat of a small object: the reply is what a call of this invocation would be answered there, and
  * *version is the one that has that state. No call is made, nothing is stored in a shared word, and no lock and no memory is taken.
  * The version is at least the one that the seat had, and all calls of the seat are in it. The seat has it then: its later calls come
- * after all calls that are in it, and their versions are greater.
+ * after all calls that are in it, and their versions are greater. The first read of a version copies its words; each further one
+ * before the seat's next call loads one word (in no clause).
  *
  * UNIVERSAL_WRONG_HANDLE, UNIVERSAL_BAD_WIDTH, UNIVERSAL_SPENT: as of universal_small_apply; after each nothing is changed.
  * UNIVERSAL_CHANGED: another version came meanwhile, and nothing is known of the state. The reply, *version and the version of the
