@@ -96,10 +96,11 @@ fn check_parts<O: Checkable>(
     }
 }
 
-/// Whether the history is linearizable: an answer of at most `limit` rounds of each search.
+/// Whether the history is linearizable: an order of its calls, or that there is none, or that the judge gave up.
 ///
-/// The object's guess comes first, then a search. Where its calls are of several parts, each part is judged alone.
-/// Gives up where a process is 65,536 or more. An `Err` says that memory was refused.
+/// The object's guess is checked first; then comes a search, of at most `limit` rounds. Where calls are of several
+/// parts, each part is judged alone. It gives up past the limit, and where a process is 65,536 or more: that it does for
+/// no other reason is in no clause. An `Err` says that memory was refused.
 pub fn check<O: Checkable>(
     alloc: Global,
     object: &O,

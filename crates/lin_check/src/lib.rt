@@ -24,6 +24,6 @@ pub use event::Event;
 pub use order::by_return;
 pub use ordered::{OrderVerdict, check_order};
 pub use part::is_part_by_part;
-pub use prefixes::shortest;
+pub use prefixes::good_prefix;
 pub use search::Verdict;
 pub use worked::worked_histories;

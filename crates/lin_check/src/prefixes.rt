@@ -1,4 +1,4 @@
-//! The shortest prefix that is not linearizable.
+//! The longest prefix that is linearizable.
 
 ghost use Rattle.std.specs.Prelude.{◌≡◌, ◌+◌, ◌<◌, ◌≤◌, IfOk, IfSome, length, take};
 ghost use Rattle.lin_check.specs.Verdicts.{IsLinearizable};
@@ -9,9 +9,9 @@ use crate::event::Event;
 use crate::search::Verdict;
 use std::alloc::{AllocError, Global};
 
-/// How many events of a history that is not linearizable are linearizable, where with the next one they are not; `None`
-/// where a search on the way gave up.
-pub fn shortest<O: Checkable>(
+/// How many events of a history can come before it stops being linearizable: the first k events are linearizable, and
+/// the first k + 1 are not. `None` where a search on the way gave up. An `Err` says that memory was refused.
+pub fn good_prefix<O: Checkable>(
     alloc: Global,
     object: &O,
     history: &[Event<O::Inv, O::Resp>],

@@ -2,7 +2,7 @@
 
 use history_text::{ReadError, read_history};
 use judged_objects::{Counter, Map, MapInv, Queue, Register, Set, Stack, Worded};
-use lin_check::{Event, Verdict, check, shortest};
+use lin_check::{Event, Verdict, check, good_prefix};
 use std::alloc::{AllocError, Global};
 
 /// What is found of a history.
@@ -33,7 +33,7 @@ pub(crate) fn found_in<O: Worded>(
     match check(alloc, object, events, 1_000)? {
         Verdict::Linearizable(_) => Ok(Found::Good),
         Verdict::GaveUp => Ok(Found::GaveUp),
-        Verdict::NotLinearizable => Ok(match shortest(alloc, object, events, 1_000)? {
+        Verdict::NotLinearizable => Ok(match good_prefix(alloc, object, events, 1_000)? {
             Some(place) => Found::BadAt(place),
             None => Found::GaveUp,
         }),

@@ -1,6 +1,6 @@
 -- A call ends: each step goes on at a later instruction, or goes back and has one time less left.
 use Rattle.program_object.proofs.Vocabulary.{Bool, List, None, Option, Some, [], ap, arith, false, if◌then◌else◌, inl, inr, length, length-set, nat_lt, refl, replicate, slice_get, slice_index, slice_index_or, slice_set, subst, suc, sym, tests, true, zero, ℕ, ◌*◌, ◌+◌, ◌-◌, ◌<◌, ◌∙◌, ◌∷◌, ◌≡◌, ◌≤◌, ◌⊎◌}
-use Rattle.program_object.proofs.Vocabulary.{Again, Answer, Compute, HasEnded, Instruction, IsProgram, Jump, Load, Machine, Set, Source, Store, Wrap, after, area, begun, computed, gets, goes_on, holds, jump_flaw, most_in, most_steps, place_in, step, turn_by, wrapped}
+use Rattle.program_object.proofs.Vocabulary.{Again, Answer, Compute, HasEnded, Instruction, IsProgram, Jump, Load, Machine, Set, Source, Store, Wrap, after, area, begun, computed, gets, goes_on, holds, jump_flaw, most_in, most_steps, place_in, step, step_by, wrapped}
 use Rattle.program_object.proofs.Lists.{inside_at, more_at, none_at, one_more, outside_at, some_at, zero_at}
 use Rattle.program_object.proofs.Sound.{counted, later, sound_at}
 use Rattle.std.proofs.Math.Nat.{mul-le-mul_left}
@@ -142,7 +142,7 @@ module _ (code : List Instruction) (inv : List ℕ) where
     ends : HasEnded code m ⊎ (left_at m.at m.gone + n ≤ left_at from.at from.gone)
 
   went_by : (from m : Machine) (n : ℕ) → ((i : Instruction) → slice_get code m.at ≡ Some i → jump_flaw (length code) m.at i ≡ None)
-      → HasGone from n m → (o : Option Instruction) → slice_get code m.at ≡ o → HasGone from (suc n) (turn_by m inv o)
+      → HasGone from n m → (o : Option Instruction) → slice_get code m.at ≡ o → HasGone from (suc n) (step_by m inv o)
   went_by from m n good h None here = record { wide = h.wide; ends = inl (outside_at code m.at here) }
   went_by from m n good h (Some i) here =
       let inside = inside_at code m.at i here in
@@ -183,8 +183,8 @@ stays code inv m n none zero j e = ap (after code inv m) (let same : j ≡ n = o
 stays code inv m n none (suc k) j e =
     let more : j ≡ suc (n + k) = omega arith in
     ap (after code inv m) more
-    ∙ ap (λ (x : Machine). turn_by x inv (slice_get code x.at)) (stays code inv m n none k (n + k) refl)
-    ∙ ap (turn_by (after code inv m n) inv) none
+    ∙ ap (λ (x : Machine). step_by x inv (slice_get code x.at)) (stays code inv m n none k (n + k) refl)
+    ∙ ap (step_by (after code inv m n) inv) none
 
 pub ended_by : (code : List Instruction) (inv : List ℕ) (from m : Machine) (n most : ℕ) → m ≡ after code inv from n → length code ≤ m.at → n < most
     → m ≡ after code inv from most
@@ -195,6 +195,6 @@ pub stepped_by : (code : List Instruction) (inv : List ℕ) (from m next : Machi
     → next ≡ step m inv (slice_index_or code m.at d) → next ≡ after code inv from (n + 1)
 stepped_by code inv from m next n d same inside made =
     let more : n + 1 ≡ suc n = omega arith in
-    made ∙ ap (turn_by m inv) (sym (some_at code m.at d inside))
-    ∙ ap (λ (x : Machine). turn_by x inv (slice_get code x.at)) same
+    made ∙ ap (step_by m inv) (sym (some_at code m.at d inside))
+    ∙ ap (λ (x : Machine). step_by x inv (slice_get code x.at)) same
     ∙ ap (after code inv from) (sym more)

@@ -1,7 +1,7 @@
 -- What holds of each instruction of a program: where it goes on.
 use Rattle.program_object.proofs.Vocabulary.{Bool, List, None, Option, Some, [], ap, arith, false, if◌then◌else◌, length, nat_le, nat_lt, option_map, option_or, refl, slice_get, suc, sym, tests, true, zero, ℕ, ◌+◌, ◌<◌, ◌∙◌, ◌∷◌, ◌≡◌}
 use Rattle.program_object.proofs.Vocabulary.{BadInstruction, Flaw, Instruction, IsProgram, ProgramFault, Source, Widths, first_flaw, flaw_of, greatest_register, has_place, jump_flaw, length_fault, loop_flaw, target_flaw, width_fault, widths_of}
-use Rattle.program_object.specs.declared.program.Flaw.TheVariants.{GoesForward, JumpsBack, NoSuchPlace, NoSuchRegister, NoSuchTarget, NoSuchTurn}
+use Rattle.program_object.specs.declared.program.Flaw.TheVariants.{GoesForward, JumpsBack, NoSuchPlace, NoSuchRegister, NoSuchTarget, NoSuchLoop}
 
 none_of_two : (a b : Option ProgramFault) → option_or a b ≡ None → (a ≡ None) × (b ≡ None)
 none_of_two None b h = (refl, h)
@@ -46,7 +46,7 @@ pub later : (count place to : ℕ) → target_flaw count place to ≡ None → p
 later count place to h = target_by count place to (nat_le to place) (nat_lt count to) refl refl h
 
 loop_by : (place back turn : ℕ) (a b : Bool) → nat_lt place back ≡ a → nat_le 16 turn ≡ b
-    → (if a then Some GoesForward else if b then Some NoSuchTurn else None) ≡ None → turn < 16
+    → (if a then Some GoesForward else if b then Some NoSuchLoop else None) ≡ None → turn < 16
 loop_by place back turn true b p q h = cc
 loop_by place back turn false true p q h = cc
 loop_by place back turn false false p q h = grind (arith, tests)

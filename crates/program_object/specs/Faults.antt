@@ -11,7 +11,7 @@ use Rattle.program_object.specs.declared.instruction.Test.TheVariants.{Always}
 use Rattle.program_object.specs.declared.instruction.Instruction.{Instruction}
 use Rattle.program_object.specs.declared.instruction.Instruction.TheVariants.{Set, Load, Store, Answer, Compute, Wrap, Jump, Again}
 use Rattle.program_object.specs.declared.program.Flaw.{Flaw}
-use Rattle.program_object.specs.declared.program.Flaw.TheVariants.{NoSuchRegister, NoSuchPlace, JumpsBack, NoSuchTarget, GoesForward, NoSuchTurn}
+use Rattle.program_object.specs.declared.program.Flaw.TheVariants.{NoSuchRegister, NoSuchPlace, JumpsBack, NoSuchTarget, GoesForward, NoSuchLoop}
 use Rattle.program_object.specs.declared.program.ProgramFault.{ProgramFault}
 use Rattle.program_object.specs.declared.program.ProgramFault.TheVariants.{BadInstruction, TooLong, TooWide}
 use Rattle.program_object.specs.declared.program.Widths.{Widths}
@@ -57,7 +57,7 @@ abbrev pub target_flaw : (count place : ℕ) → (to : ℕ) → Option Flaw
 target_flaw count place to = if nat_le to place then Some JumpsBack else if nat_lt count to then Some NoSuchTarget else None
 
 abbrev pub loop_flaw : (place back turn : ℕ) → Option Flaw
-loop_flaw place back turn = if nat_lt place back then Some GoesForward else if nat_le 16 turn then Some NoSuchTurn else None
+loop_flaw place back turn = if nat_lt place back then Some GoesForward else if nat_le 16 turn then Some NoSuchLoop else None
 
 abbrev pub jump_flaw : (count place : ℕ) → Instruction → Option Flaw
 jump_flaw count place (Set to value) = None
@@ -148,7 +148,7 @@ sample_target = refl
 sample_forward : program_fault (of_one (Again 1 9 16)) ≡ Some (BadInstruction 0 GoesForward)
 sample_forward = refl
 
-sample_turn : program_fault (of_one (Again 0 9 16)) ≡ Some (BadInstruction 0 NoSuchTurn)
+sample_turn : program_fault (of_one (Again 0 9 16)) ≡ Some (BadInstruction 0 NoSuchLoop)
 sample_turn = refl
 
 sample_long : program_fault (of_one (Again 0 (2 ^ 32) 15)) ≡ Some TooLong

@@ -106,14 +106,14 @@ module _ (m : Machine) where
     step (Again back most turn) = loops back most turn
 
     -- the machine after the instruction at its place; it stays as it is where there is none, since the call has ended
-    abbrev pub turn_by : Option Instruction → Machine
-    turn_by None = m
-    turn_by (Some i) = step i
+    abbrev pub step_by : Option Instruction → Machine
+    step_by None = m
+    step_by (Some i) = step i
 
 -- the machine after so many steps
 abbrev pub after : List Instruction → (inv : List ℕ) → Machine → (steps : ℕ) → Machine
 after code inv m zero = m
-after code inv m (suc n) = turn_by (after code inv m n) inv (slice_get code (after code inv m n).at)
+after code inv m (suc n) = step_by (after code inv m n) inv (slice_get code (after code inv m n).at)
 
 -- a call begins: at instruction 0, and all that is not the state is 0
 abbrev pub begun : (state : List ℕ) → (reply : ℕ) → Machine

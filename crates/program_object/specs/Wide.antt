@@ -1,7 +1,7 @@
 -- The lengths of a state and of a reply stay as they are.
 use Rattle.std.specs.Prelude.{Bool, List, None, Option, Some, false, if◌then◌else◌, length, nat_lt, refl, slice_get, slice_index, slice_set, suc, true, zero, ℕ, ◌+◌, ◌≡◌}
 use Rattle.std.proofs.Common.{length-set, ◌∙◌}
-use Rattle.program_object.specs.Machine.{Machine, after, area, computed, gets, goes_on, place_in, step, turn_by}
+use Rattle.program_object.specs.Machine.{Machine, after, area, computed, gets, goes_on, place_in, step, step_by}
 use Rattle.program_object.specs.declared.instruction.Instruction.{Instruction}
 use Rattle.program_object.specs.declared.instruction.Instruction.TheVariants.{Again, Answer, Compute, Jump, Load, Set, Store, Wrap}
 
@@ -38,7 +38,7 @@ step_wide m inv (Again back most turn) =
     either_wide m (record { at = back; registers = m.registers; gone = slice_set m.gone turn (slice_index m.gone turn + 1); state = m.state; reply = m.reply }) (goes_on m (m.at + 1)) (nat_lt (slice_index m.gone turn) most)
     (record { state = refl; reply = refl }) (record { state = refl; reply = refl })
 
-turn_wide : (m : Machine) (inv : List ℕ) (o : Option Instruction) → IsAsWide m (turn_by m inv o)
+turn_wide : (m : Machine) (inv : List ℕ) (o : Option Instruction) → IsAsWide m (step_by m inv o)
 turn_wide m inv None = record { state = refl; reply = refl }
 turn_wide m inv (Some i) = step_wide m inv i
 

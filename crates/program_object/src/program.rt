@@ -40,7 +40,7 @@ pub enum Flaw {
     GoesForward,
     /// Its loop's number isn't below 16.
     #[error("there is no such loop")]
-    NoSuchTurn,
+    NoSuchLoop,
 }
 
 /// What is wrong with a program.
@@ -152,7 +152,7 @@ fn loop_flaw(place: u64, back: u64, turn: u64) -> Option<Flaw>
         return Some(Flaw::GoesForward);
     }
     if turn >= 16 {
-        return Some(Flaw::NoSuchTurn);
+        return Some(Flaw::NoSuchLoop);
     }
     None
 }

@@ -22,6 +22,10 @@ IsLegal object s [] = Unit {0}
 IsLegal object s (call ∷ calls) =
     IfSome call.response (λ r. r ≡ object.answer s call.inv) × IsLegal object (object.next s call.inv) calls
 
+-- a legal history of the counter, whose second response isn't known
+sample_legal : IsLegal counter 0 (record { inv = 5; response = Some 0 } ∷ record { inv = 3; response = None } ∷ [])
+sample_legal = (refl, (tt, tt))
+
 -- the same, place by place
 abbrev pub IsLegalByPlaces : {S I R : Type 0} → Sequential S I R → S → List (Call I R) → Type 0
 IsLegalByPlaces {S} {I} {R} object s calls =

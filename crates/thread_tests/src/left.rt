@@ -17,7 +17,10 @@ fn a_seat_is_left_and_taken_over(rt: HostRuntime) {
     let made = seat.made();
     assert!(rt; made == 1);
     reply[0] = 7;
-    let Ok((mut seat, ended)) = seat.leave().resume(rt.alloc(), &shared, made, &mut reply) else {
+    let Ok((mut seat, ended)) = seat
+        .leave()
+        .take_over(rt.alloc(), &shared, made, &mut reply)
+    else {
         panic!(rt; "no memory")
     };
     assert!(rt; ended.is_none());

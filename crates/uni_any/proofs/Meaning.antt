@@ -6,7 +6,7 @@ use Rattle.uni_any.proofs.Opening.{copies}
 use Rattle.uni_model.proofs.Placed.{AgreesInOrder-holds}
 use Rattle.uni_model.specs.Linearizable.{observed}
 use Rattle.uni_any.specs.Versions.{IsVersionOf}
-use Rattle.uni_any.specs.Final.{IsLinearized, IsKnownVersion, KnownCalls, acts_told, calls_among}
+use Rattle.uni_any.specs.Final.{HasHistory, IsKnownVersion, KnownCalls, acts_told, calls_among}
 use Rattle.uni_any.specs.Laws.{IsToldBy}
 use Rattle.uni_any.specs.News.{first_image}
 
@@ -39,7 +39,7 @@ module _ {O I S R : Type 0} (meaning : O → Sequential S I R) (o : O) (n : ℕ)
       = subst (λ own. IsOrdered object g.atomic.agreed g.calls_in g.number its.process (local its.process).after own) are.1 (is.sound.order.each its.process are.0) in
       order.stand k call at
 
-  pub linearized_with : (known : List (KnownCalls I R)) → ((its : KnownCalls I R) → Contains known its → AreCalls its) → IsLinearized object n known g.image.state
+  pub linearized_with : (known : List (KnownCalls I R)) → ((its : KnownCalls I R) → Contains known its → AreCalls its) → HasHistory object n known g.image.state
   linearized_with known are =
       let history = is.sound.history in
       record {
@@ -55,7 +55,7 @@ module _ {O I S R : Type 0} (meaning : O → Sequential S I R) (o : O) (n : ℕ)
         stand = λ its has k call at. told_order its (are its has) k call at;
       }
 
-  pub linearized_at : (known : List (KnownCalls I R)) → ((its : KnownCalls I R) → Contains known its → IsToldBy c.views its) → IsLinearized object n known g.image.state
+  pub linearized_at : (known : List (KnownCalls I R)) → ((its : KnownCalls I R) → Contains known its → IsToldBy c.views its) → HasHistory object n known g.image.state
   linearized_at known by = linearized_with known (λ its has. told_calls its (by its has))
 
   -- of one process alone

@@ -4,7 +4,7 @@ use Rattle.std.proofs.Common.{◌==◌}
 use Rattle.uni_model.specs.Executions.Execution.{Ends, Takes}
 use Rattle.uni_any.specs.Execution.{CanTake, Execution, Moment, acts_of, effect_of, found_by, all_acts, last_moment, opened_moment}
 use Rattle.uni_any.specs.Execution.Next.{Bring, Fail, Lay, Learn, Post, Return, See, Start, View as Views}
-use Rattle.uni_any.specs.Progress.{HasOwner, KeepsBound, NeverBlocks, StepOfCall, counted, so_far, steps_of_call}
+use Rattle.uni_any.specs.Progress.{HasLetter, KeepsBound, NeverBlocks, StepOfCall, counted, so_far, steps_of_call}
 use Rattle.uni_any.proofs.Bringing.{brings_move}
 use Rattle.uni_any.proofs.Executing.{Holds, contents_at, all_acts_hold, opening_holds, seat_at, shown, step_holds, view_at}
 use Rattle.uni_any.proofs.Learning.{learns_move}
@@ -105,7 +105,7 @@ module _ {O I S R : Type 0} (meaning : O → Sequential S I R) (o : O) (n : ℕ)
           (Bring inv tries image t.0 at same.0 t.1, λ taken. refl)
     ]
 
-    next_of : (k : Stage I S R) → its.stage ≡ k → k ≢ Idle → HasOwner object n its k → StepOfCall object n m p
+    next_of : (k : Stage I S R) → its.stage ≡ k → k ≢ Idle → HasLetter object n its k → StepOfCall object n m p
     next_of Idle at busy own = absurd (busy refl)
     next_of (Posting inv r) at busy own =
         let is = own_stage (Posting inv r) at in

@@ -1,4 +1,4 @@
--- What the rule tells of processes.
+-- What closing, a read, and the rule tell: a history that the atomic object accepts, with the calls that seats know.
 use Rattle.std.specs.Prelude.{◌≡◌, ℕ, ◌<◌, ◌≤◌, ◌==◌, List, [], ◌∷◌, ◌++◌, Option, None, Some}
 use Rattle.std.specs.Prelude.{Contains, count_by, length, map, refl, slice_get}
 use Rattle.seq_object.specs.Sequential.{Sequential}
@@ -31,7 +31,7 @@ pub record KnownCalls (I R : Type 0) : Type 0 where
 -- The first calls_in_version v calls of that order are in version v, or all where there are fewer, and a later version
 -- has no fewer; and each known call that has returned comes after those of one version, and is among those of another
 -- one, as its seat was told.
-pub record IsLinearized {S I R : Type 0} (object : Sequential S I R) (n : ℕ) (known : List (KnownCalls I R))
+pub record HasHistory {S I R : Type 0} (object : Sequential S I R) (n : ℕ) (known : List (KnownCalls I R))
     (state : S) : Type 0 where
   pub acts : List (Act I R)
   pub atomic : Atomic S I
@@ -54,7 +54,7 @@ calls_among q calls = count_by (λ c. c.process == q) calls
 -- A version has the state after such a history, and its rows say how many calls of each process took effect in it.
 pub record IsKnownVersion {S I R : Type 0} (object : Sequential S I R) (n : ℕ) (known : List (KnownCalls I R))
     (version : Image S R) : Type 0 where
-  pub history : IsLinearized object n known version.state
+  pub history : HasHistory object n known version.state
   pub rows : (q : ℕ) → q < n → applied_in version q ≡ calls_among q history.atomic.agreed
 
 -- of three calls two are those of process 1, and none is one of process 0

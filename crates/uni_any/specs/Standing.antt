@@ -1,4 +1,4 @@
--- A process's place at an object.
+-- Where a seat stands.
 use Rattle.std.specs.Prelude.{◌≡◌}
 use Rattle.triple_buffers.specs.Parties.{IsPartyOf, key_of, layout_of, number_of, view_of}
 use Rattle.triple_buffers.specs.declared.party.Party.{Party}

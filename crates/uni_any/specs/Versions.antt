@@ -5,7 +5,7 @@ use Rattle.seq_object.specs.Sequential.{Sequential}
 use Rattle.uni_model.specs.AtomicObject.{Invoked}
 use Rattle.uni_any.specs.Batch.{inv_of}
 use Rattle.uni_any.specs.Content.{applied_in}
-use Rattle.uni_any.specs.Final.{IsLinearized, KnownCalls, calls_among}
+use Rattle.uni_any.specs.Final.{HasHistory, KnownCalls, calls_among}
 use Rattle.uni_any.specs.declared.view.Image.{Image}
 use Rattle.uni_any.specs.declared.view.Returned.{Returned}
 
@@ -15,7 +15,7 @@ use Rattle.uni_any.specs.declared.view.Returned.{Returned}
 pub record IsVersionOf {S I R : Type 0} (object : Sequential S I R) (n : ℕ) (known : List (KnownCalls I R)) (number : ℕ)
     (version : Image S R) : Type 0 where
   pub last : S
-  pub history : IsLinearized object n known last
+  pub history : HasHistory object n known last
   pub calls : List (Invoked I)
   pub calls_are : calls ≡ take (history.calls_in_version number) history.atomic.agreed
   pub state_is : state_after object object.initial (map inv_of calls) ≡ version.state

@@ -5,7 +5,7 @@ ghost use Rattle.std.specs.Prelude.{map, slice_get};
 ghost use prog.Atomic.{either};
 ghost use Rattle.uni_model.specs.AtomicObject.Act.{Invoke, Linearize};
 ghost use Rattle.triple_buffers.specs.Contents.{Contents};
-ghost use Rattle.uni_any.specs.Final.{IsLinearized, KnownCalls};
+ghost use Rattle.uni_any.specs.Final.{HasHistory, KnownCalls};
 ghost use Rattle.uni_any.specs.declared.view.Returned.{Returned};
 ghost use Rattle.uni_any.specs.Board.{Board, announced_by, block_news, call_news, in_of, made_by, number_in};
 ghost use Rattle.uni_any.specs.Board.{process_in, word_of};
@@ -35,7 +35,7 @@ pub fn shown_is_linearizable<O: SeqObject>()
         IsShown n O.sequential o g local seat_of c
         → (known : List (KnownCalls O.Inv O.Resp))
         → ((its : KnownCalls O.Inv O.Resp) → Contains known its → IsToldBy c.views its)
-        → IsLinearized (O.sequential o) n known g.image.state }
+        → HasHistory (O.sequential o) n known g.image.state }
 {}
 
 /// The version of a call that has returned has come: the word S names it, or a later one.
@@ -119,7 +119,8 @@ pub fn other_steps_append_nothing<O: SeqObject>()
 
 /// Every execution from the opening, in which the processes take their steps on words and buffers in any order, is
 /// linearizable in real time: each call takes effect at one of the steps between its announcement and its last one. And
-/// strongly: where an execution goes on, only further calls come behind those that took effect.
+/// strongly: it is so in the order of these steps, which only grows where the execution goes on (`strongly`, true by how
+/// acts are made).
 pub fn every_execution_is_linearizable<O: SeqObject>()
     ensures linearized { (o : O) (n : ℕ) → 1 ≤ n → n ≤ 64
         → (e : Execution {R = O.Resp} (O.sequential o) n (opened_moment (O.sequential o) n))
@@ -131,8 +132,7 @@ pub fn every_execution_is_linearizable<O: SeqObject>()
 {}
 
 /// The construction is wait-free in every execution: a process in the midst of a call can always take a step that the
-/// call counts, where it has an owner of what it writes, as it has where its memory isn't refused; and no call takes
-/// more than `12 * n + 5` steps on words, whatever the other processes do. A call that is left in an attempt, for want
+/// call counts, where the memory for what it writes isn't refused; and no call takes more than `12 * n + 5` steps on words, whatever the other processes do. A call that is left in an attempt, for want
 /// of memory, is counted from the load with which it begins anew.
 pub fn every_call_is_wait_free<O: SeqObject>()
     ensures never_blocks { (o : O) (n : ℕ) → 1 ≤ n → n ≤ 64

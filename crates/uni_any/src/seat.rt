@@ -1,4 +1,4 @@
-//! A process's place at an object.
+//! Seats.
 ghost use Rattle.std.specs.Prelude.{◌≡◌, ◌≤◌};
 ghost use Rattle.triple_buffers.specs.Parties.{key_of, layout_of};
 
@@ -20,7 +20,7 @@ pub struct AnyShared<O: SeqObject> {
 /// A version of an object.
 pub type BlockOf<O> = Block<<O as SeqObject>::State, <O as SeqObject>::Resp>;
 
-/// A process's place at the object.
+/// A seat: the handle for the calls of one process.
 #[derive(Drop)]
 pub struct AnySeat<O: SeqObject> {
     pub(crate) party: ObjectParty<O>,

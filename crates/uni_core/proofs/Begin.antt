@@ -1,5 +1,5 @@
 -- What a call that is begun leaves.
-use Rattle.uni_core.proofs.Vocabulary.{Bool, Call, CallId, ChangesOnly, InvOf, Invocation, IsSome, IsWorld, Local, None, Of, Option, Pending, Sequential, SharedEntries, Some, TakesEffect, Whole, ap, arith, call_accepted, call_at, calls_in_era, current_of, false, first_of, get_or, index_of, is_some, length, made_of, memory_of, memory_with, name_from-index_of, named, not, option_map, pending_of, processes_of, refl, slice_get, slice_get_read, subst, sym, true, world_after_call, world_of, ℕ, ◌+◌, ◌-◌, ◌<◌, ◌∙◌, ◌≡◌, ◌≢◌, ◌≤◌}
+use Rattle.uni_core.proofs.Vocabulary.{Bool, Call, CallId, ChangesOnly, InvOf, Invocation, IsSome, IsWorld, Local, None, Of, Option, Pending, Sequential, SharedEntries, Some, IsSimulated, Whole, ap, arith, call_accepted, call_at, calls_in_era, current_of, false, first_of, get_or, index_of, is_some, length, made_of, memory_of, memory_with, name_from-index_of, named, not, option_map, pending_of, processes_of, refl, slice_get, slice_get_read, subst, sym, true, world_after_call, world_of, ℕ, ◌+◌, ◌-◌, ◌<◌, ◌∙◌, ◌≡◌, ◌≢◌, ◌≤◌}
 use Rattle.uni_model.specs.Stages.{Pending as PendingAt}
 use Rattle.uni_core.proofs.Shown.{begun_whole, world_of-begun, IsWorld-begun}
 
@@ -101,7 +101,7 @@ module _ {O S I R : Type 0} (object : Sequential S I R) (v now : Whole O S I R) 
     world_of-call = world_of-begun object v is p l here inside a' i mine name shape.0 shape.2 among among_is wrote_begun idle
         ∙ ap (λ (x : Whole O S I R). world_after_call (world_of x) p i) view ∙ ap (world_after_call (world_of now) p) same
 
-    pub Follows-call : TakesEffect object (world_of now) (Call p j)
+    pub Follows-call : IsSimulated object (world_of now) (Call p j)
     Follows-call a shows =
         let sound = subst (λ (x : Whole O S I R). IsWorld object x) view is in
         let accepted = call_accepted object (world_of now) sound.sound.0 sound.sound.1 sound.sound.2 p j (subst (λ (x : Whole O S I R). p < processes_of x.shared.cells) view inside) idle_now a shows in

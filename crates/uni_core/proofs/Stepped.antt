@@ -1,5 +1,5 @@
 -- What a step leaves.
-use Rattle.uni_core.proofs.Vocabulary.{Announce, Bool, CanGo, CanStep, DecideAfter, DecideNew, Done, Err, Finish, Going, IsBounded, IsBounded-held, IsSome, IsWithinBound, if◌then◌else◌, is_some, IsWorld, Local, MayBeRefused, MayNeedMemory, MayNeedMemoryAt, None, Ok, OnErr, Option, Pending, ReadAnnounce, ReadHelpSeq, Result, ScanHead, ScanSeq, SeesSettled, Sequential, SharedEntries, Some, Stage, Step, Takes, TakesEffect, Test, Whole, WriteBefore, WriteHead, WriteScan, WriteSeq, ap, arith, get_or, length, memory_of, named, option_map, pending_of, place_of, processes_of, progress_of, refl, response_of_step, slice_get, slice_get-set_same, slice_set, stage_of, stage_left, step_accepted, subst, sym, turn_of, turns_to, world_after, world_of, ℕ, ◌*◌, ◌+◌, ◌<◌, ◌^◌, ◌∙◌, ◌≡◌, ◌≤◌}
+use Rattle.uni_core.proofs.Vocabulary.{Announce, Bool, CanGo, CanStep, DecideAfter, DecideNew, Done, Err, Finish, Going, IsBounded, IsBounded-held, IsSome, IsWithinBound, if◌then◌else◌, is_some, IsWorld, Local, MayBeRefused, MayNeedMemory, MayNeedMemoryAt, None, Ok, OnErr, Option, Pending, ReadAnnounce, ReadHelpSeq, Result, ScanHead, ScanSeq, SeesSettled, Sequential, SharedEntries, Some, Stage, Step, Takes, IsSimulated, Test, Whole, WriteBefore, WriteHead, WriteScan, WriteSeq, ap, arith, get_or, length, memory_of, named, option_map, pending_of, place_of, processes_of, progress_of, refl, response_of_step, slice_get, slice_get-set_same, slice_set, stage_of, stage_left, step_accepted, subst, sym, turn_of, turns_to, world_after, world_of, ℕ, ◌*◌, ◌+◌, ◌<◌, ◌^◌, ◌∙◌, ◌≡◌, ◌≤◌}
 use Rattle.uni_model.specs.Stages.{Pending as PendingAt}
 use Rattle.uni_model.proofs.Seen.{SeesSettled-held}
 use Rattle.uni_core.proofs.Begin.{inside_count, local_here}
@@ -101,7 +101,7 @@ module _ {O S I R : Type 0} (object : Sequential S I R) (v now : Whole O S I R) 
     world_of-left = sym (ap world_of same_whole) ∙ world_of-world_after_step object v is p l here inside a' call pending to response takes after.steps after.turns steps_is turns_counted
         ∙ ap (λ (x : Whole O S I R). world_after object (world_of x) (Step p)) view
 
-    Follows-left : TakesEffect object (world_of now) (Step p)
+    Follows-left : IsSimulated object (world_of now) (Step p)
     Follows-left a shows =
         let sound = subst (λ (x : Whole O S I R). IsWorld object x) view is in
         let pend_now : (world_of now).call p ≡ Some at_v = subst (λ (x : Whole O S I R). (world_of x).call p ≡ Some at_v) view pend in
@@ -121,8 +121,8 @@ module _ {O S I R : Type 0} (object : Sequential S I R) (v now : Whole O S I R) 
       world_of-left_with = world_of-left ∙ ap (λ f. world_after f (world_of now) (Step p)) is_object
           ∙ ap (λ (x : Whole O S I R). world_after (sequential x.object) (world_of now) (Step p)) view
 
-      pub Follows-left_with : TakesEffect (sequential now.object) (world_of now) (Step p)
-      Follows-left_with = subst (λ (x : Whole O S I R). TakesEffect (sequential x.object) (world_of now) (Step p)) view (subst (λ f. TakesEffect f (world_of now) (Step p)) is_object Follows-left)
+      pub Follows-left_with : IsSimulated (sequential now.object) (world_of now) (Step p)
+      Follows-left_with = subst (λ (x : Whole O S I R). IsSimulated (sequential x.object) (world_of now) (Step p)) view (subst (λ f. IsSimulated f (world_of now) (Step p)) is_object Follows-left)
 
     -- what the step answers
     pub answers : progress_of response ≡ progress_of (response_of_step (world_of now) p)

@@ -15,7 +15,7 @@ pub use Rattle.uni_core.specs.Refusals.{CanGo, IsBeginRefused, IsStepRefused}
 pub use Rattle.uni_core.specs.Same.{Outline, Standing, outline, standing_of, without_counts}
 pub use Rattle.uni_core.specs.SharedEntries.{HasShapeOf, IsRenewed, SharedEntries, cell_named, entry_name, first_of, memory_at, memory_of, named}
 pub use Rattle.uni_core.specs.Stage.{CanStep, ChangesAt, IsThere, MayBeRefused, Takes, effect_at, pending_of, stage_left, stage_of, turns_to}
-pub use Rattle.uni_core.specs.World.{CountsNone, Follows, IsWorld, KeepsFixed, MayNeedMemory, MayNeedMemoryAt, TakesEffect, Whole, call_at, current_of, name_in, progress_of, world_at, world_of}
+pub use Rattle.uni_core.specs.World.{CountsNone, Follows, IsWorld, KeepsFixed, MayNeedMemory, MayNeedMemoryAt, IsSimulated, Whole, call_at, current_of, name_in, progress_of, world_at, world_of}
 pub use Rattle.uni_core.specs.declared.fault.Progress.TheVariants.{Done, Going}
 pub use Rattle.uni_core.specs.declared.local.Local.{Local}
 pub use Rattle.uni_core.specs.declared.stage.Pending.{Pending}

@@ -84,9 +84,10 @@ progress_of (Some r) = Done r
 abbrev pub Follows : {S I R : Type 0} → Sequential S I R → (w w' : WorldOf S I R) → List (Act I R) → Type 0
 Follows {S} {I} object w w' acts = (a : Atomic S I) → Shows w a → (b : Atomic S I) × Shows w' b × AcceptsAll object a acts b
 
--- the atomic object takes the acts of an event, from each that w shows to one that the world after it shows
-abbrev pub TakesEffect : {S I R : Type 0} → Sequential S I R → WorldOf S I R → Event I → Type 0
-TakesEffect object w e = Follows object w (world_after object w e) (acts_of object w e)
+-- The atomic object takes the acts of the event (an invocation, linearization points, a response, or none): from each
+-- object that w shows to one that the world after the event shows.
+abbrev pub IsSimulated : {S I R : Type 0} → Sequential S I R → WorldOf S I R → Event I → Type 0
+IsSimulated object w e = Follows object w (world_after object w e) (acts_of object w e)
 
 -- a process that there is has no call pending
 abbrev pub IsIdle : {S I R : Type 0} → WorldOf S I R → ℕ → Type 0
@@ -100,7 +101,7 @@ IsProgress w p progress = progress ≡ progress_of (response_of_step w p)
 abbrev pub GoesOn : {S I R : Type 0} → WorldOf S I R → ℕ → Progress R → Type 0
 GoesOn w p progress = progress ≡ Going → IsSome (w.call p)
 
--- what a call never changes
+-- what no function of a `World` changes
 pub record KeepsFixed {O S I R : Type 0} (old new : Whole O S I R) : Type 0 where
   pub object : new.object ≡ old.object
   pub row : new.row ≡ old.row

@@ -77,10 +77,10 @@ impl<O: SeqObject> World<O> {
         ensures ran { IfOk result (λ outcomes. world_of self.new
             ≡ world_after_all (O.sequential self.old.object) (world_of self.old)
             (events_of commands.now outcomes.items)) }
-        ensures accepted { IfOk result (λ outcomes. Follows (O.sequential self.old.object) (world_of self.old)
+        ensures simulated { IfOk result (λ outcomes. Follows (O.sequential self.old.object) (world_of self.old)
             (world_of self.new)
             (history_of (O.sequential self.old.object) (world_of self.old) (events_of commands.now outcomes.items))) }
-        ensures events { IfOk result (λ outcomes. AreAccepted (O.sequential self.old.object) (world_of self.old)
+        ensures accepted { IfOk result (λ outcomes. AreAccepted (O.sequential self.old.object) (world_of self.old)
             (events_of commands.now outcomes.items)) }
         ensures log { IfOk result (λ outcomes. LogGrows (O.sequential self.old.object) (world_of self.old)
             (events_of commands.now outcomes.items)) }

@@ -5,7 +5,7 @@ ghost use Rattle.uni_model.specs.Bound.{IsBounded};
 ghost use Rattle.uni_model.specs.Worlds.{opened_world, world_after};
 ghost use Rattle.uni_model.specs.Worlds.Event.{Call, Step};
 ghost use Rattle.uni_model.specs.Settled.{SeesSettled};
-ghost use Rattle.uni_core.specs.World.{world_of, TakesEffect, IsProgress, GoesOn, KeepsFixed};
+ghost use Rattle.uni_core.specs.World.{world_of, IsSimulated, IsProgress, GoesOn, KeepsFixed};
 ghost use Rattle.uni_core.specs.Refusals.{CanOpen, CanCall, CanGo, IsOpenRefused, IsBeginRefused, IsStepRefused};
 
 use crate::fault::{BeginFault, OpenFault, Progress, StepFault};
@@ -146,14 +146,15 @@ impl<O: SeqObject> World<O> {
     /// Errors, in this order: `BadProcess` where there is no process `p`; `Busy(p)` where it has a
     /// call pending; `RowFull(p)` where it has made as many calls in this era as a row has; `Memory`
     /// only where the copy of the invocation was refused memory, since the cells of an era are
-    /// reserved when it opens. After each nothing is changed.
+    /// reserved when it opens (in no clause: by the clauses `Memory` may come of any call that could begin). After each
+    /// nothing is changed.
     pub fn begin(&mut self, alloc: Global, p: u64, inv: &O::Inv) -> Result<CallId, BeginFault>
         ensures refused { IfErr result (IsBeginRefused (world_of self.old) self.old.row p) }
         ensures could { OnOk result (CanCall (world_of self.old) self.old.row p) }
         ensures id { IfOk result (λ call. (call.process ≡ p) × (call.nth ≡ (world_of self.old).begun p)) }
         ensures begun { OnOk result (world_of self.new
             ≡ world_after (O.sequential self.old.object) (world_of self.old) (Call p inv.now)) }
-        ensures accepted { OnOk result (TakesEffect (O.sequential self.old.object) (world_of self.old)
+        ensures simulated { OnOk result (IsSimulated (O.sequential self.old.object) (world_of self.old)
             (Call p inv.now)) }
         ensures fixed { KeepsFixed self.old self.new }
         ensures unchanged { OnErr result (self.new ≡ self.old) }
@@ -189,7 +190,8 @@ impl<O: SeqObject> World<O> {
         })
     }
 
-    /// Process `p` takes the next step of its pending call: it touches one shared place.
+    /// Process `p` takes the next step of its pending call: it touches one shared place. The process's calls stay within
+    /// the bound (`bounded`), and beside that place the step sees only what can't change (`beside`).
     ///
     /// Errors, in this order: `BadProcess` where there is no process `p`; `Idle(p)` where it has no
     /// call pending; `Memory`, only at the step that decides the state and the response of a cell
@@ -202,7 +204,7 @@ impl<O: SeqObject> World<O> {
             ≡ world_after (O.sequential self.old.object) (world_of self.old) (Step p)) }
         ensures progress { IfOk result (IsProgress (world_of self.old) p) }
         ensures pending { IfOk result (GoesOn (world_of self.new) p) }
-        ensures accepted { OnOk result (TakesEffect (O.sequential self.old.object) (world_of self.old) (Step p)) }
+        ensures simulated { OnOk result (IsSimulated (O.sequential self.old.object) (world_of self.old) (Step p)) }
         ensures bounded { OnOk result (IsBounded (world_of self.new)) }
         ensures beside { OnOk result (SeesSettled (world_of self.old) p) }
         ensures fixed { KeepsFixed self.old self.new }

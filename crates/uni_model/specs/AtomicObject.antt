@@ -1,7 +1,8 @@
--- The atomic object: a machine that knows no list of cells, no helping, no number and no trim.
+-- The atomic object: each call is invoked, takes effect once, at one instant, and then responds with what the sequential
+-- object answers at its place. It knows no list of cells, no helping, no number and no trim.
 use Rattle.std.specs.Prelude.{◌≡◌, ℕ, ◌+◌, ◌==◌, if◌then◌else◌, List, [], ◌∷◌, ◌++◌, Option, None, Some}
-use Rattle.std.specs.Prelude.{map, slice_get, Contains}
-use Rattle.seq_object.specs.Sequential.{Sequential}
+use Rattle.std.specs.Prelude.{map, slice_get, Contains, refl}
+use Rattle.seq_object.specs.Sequential.{Sequential, counter}
 use Rattle.seq_object.specs.History.{response_at}
 
 -- a call with its invocation: which one of its process, from 0
@@ -14,12 +15,14 @@ pub record Invoked (I : Type 0) : Type 0 where
 abbrev pub set_at : {A : Type 0} → (ℕ → A) → ℕ → A → ℕ → A
 set_at f p v q = if q == p then v else f q
 
--- a start state, the list of the calls in the order in which they took effect, each process's open call, and the number
--- that its next call has
 pub record Atomic (S I : Type 0) : Type 0 where
+  -- the state before any call
   pub start : S
+  -- the calls that took effect, in that order: the linearization
   pub agreed : List (Invoked I)
+  -- the call that each process has invoked, and that has not yet responded
   pub open_call : ℕ → Option (Invoked I)
+  -- the number that its next call has
   pub next_nth : ℕ → ℕ
 
 -- nothing is called yet
@@ -63,3 +66,13 @@ abbrev pub points : {I R : Type 0} → List (Act I R) → List (Invoked I)
 points [] = []
 points (Linearize c ∷ acts) = c ∷ points acts
 points (act ∷ acts) = points acts
+
+-- process 0 calls a counter with 5; the call takes effect; it responds with the sum before
+abbrev sample_call : Invoked ℕ
+sample_call = record { process = 0; nth = 0; inv = 5 }
+
+sample_points : points {R = ℕ} (Invoke 0 0 5 ∷ Linearize sample_call ∷ Respond 0 0 0 ∷ []) ≡ sample_call ∷ []
+sample_points = refl
+
+sample_answer : response_at counter 0 (map (λ (c : Invoked ℕ). c.inv) (sample_call ∷ [])) 0 ≡ Some 0
+sample_answer = refl

@@ -28,7 +28,9 @@ module _ {M : Type 0} (n : ℕ) (Step : (m : M) (p : ℕ) → Type 0) (after : (
   all_acts acts Ends = []
   all_acts acts (Takes {m = m} p inside step rest) = acts m p step ++ all_acts acts rest
 
-  -- what goes on only has further calls behind those that took effect
+  -- The order in which calls took effect only grows where an execution goes on. That is so of any acts, by how `all_acts`
+  -- is made; the weight lies on `IsLinearizedInTime`, which says that this same order linearizes each execution. Both
+  -- together are strong linearizability (Golab, Higham and Woelfel 2011).
   abbrev pub KeepsOrder : {I R : Type 0} → (acts : (m : M) (p : ℕ) → Step m p → List (Act I R)) → {m : M} (e : Execution m)
       → Execution (last_moment e) → Type 0
   KeepsOrder acts e more = points (all_acts acts (goes_on e more)) ≡ points (all_acts acts e) ++ points (all_acts acts more)

@@ -63,10 +63,10 @@ pub record Precedes {I R : Type 0} (history : List (Act I R)) (p k q m : ℕ) : 
   pub split : history ≡ before ++ Respond p k response ∷ (between ++ Invoke q m inv ∷ after)
 
 module _ {S I R : Type 0} (object : Sequential S I R) where
-  -- The history has a completion that is equivalent to the legal sequential history of the calls in this order, in which what precedes
-  -- a call in the history stands before it. Only the calls that the completion keeps are asked: a call can precede a pending one
-  -- that is dropped, which stands nowhere. With one strengthening: Herlihy and Wing order returned calls only; here a returned call
-  -- also precedes a later one that is still pending, where the completion keeps that one.
+  -- The history has a completion that is, process by process, the legal sequential history of the calls in this order; and
+  -- of two calls of the order the one that precedes the other in real time stands before it. (A pending call that the
+  -- completion drops stands nowhere, and is not asked.) Stronger than Herlihy and Wing, who order returned calls alone: a
+  -- returned call also precedes a later kept pending one.
   pub record IsLinearizedByCompletion (start : S) (history : List (Act I R)) (order : List (Invoked I)) : Type 0 where
     pub completed : List (Act I R)
     pub completion : IsCompletion history completed

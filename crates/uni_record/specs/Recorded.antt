@@ -45,19 +45,19 @@ pub record Recording (O S I R : Type 0) : Type 0 where
   pub ended : List (Entry I R)
 
 -- how many events a history can have
-abbrev pub IsHistory : (limit : ℕ) → Type 0
-IsHistory limit = (1 ≤ limit) × (limit ≤ 16777216)
+abbrev pub IsHistoryLimit : (limit : ℕ) → Type 0
+IsHistoryLimit limit = (1 ≤ limit) × (limit ≤ 16777216)
 
 -- a record can be opened: its first world can, and the history can have so many events
 abbrev pub CanRecord : (n k number limit : ℕ) → Type 0
-CanRecord n k number limit = CanOpen n k number × IsHistory limit
+CanRecord n k number limit = CanOpen n k number × IsHistoryLimit limit
 
 -- why it can't: memory only where nothing else refuses it
 abbrev pub IsOpenRefused : (n k number limit : ℕ) → RecordOpenFault → Type 0
 IsOpenRefused n k number limit opening_fault.BadCount = ¬ (IsCount n)
 IsOpenRefused n k number limit opening_fault.BadRow = IsCount n × ¬ (IsRow k)
 IsOpenRefused n k number limit opening_fault.SeqFull = IsCount n × IsRow k × (2 ^ 48 ≤ number + n * k)
-IsOpenRefused n k number limit opening_fault.BadHistory = CanOpen n k number × ¬ (IsHistory limit)
+IsOpenRefused n k number limit opening_fault.BadHistory = CanOpen n k number × ¬ (IsHistoryLimit limit)
 IsOpenRefused n k number limit opening_fault.Memory = CanRecord n k number limit
 
 -- the fault of a record whose first world isn't opened
@@ -179,7 +179,7 @@ IsReshapeRefused s m reshape.SeqFull = IsCount m × IsEndRefused s m trim.SeqFul
 IsReshapeRefused s m reshape.HistoryFull = IsCount m × IsEndRefused s m trim.HistoryFull
 IsReshapeRefused s m reshape.Memory = IsCount m × CanEnd s m
 
--- what no call changes
+-- what no function of a record changes
 pub record KeepsOpening {O S I R : Type 0} (old new : Recording O S I R) : Type 0 where
   pub object : new.world.object ≡ old.world.object
   pub row : new.world.row ≡ old.world.row
@@ -205,16 +205,16 @@ sample_longest_history : 2 ^ 24 ≡ 16777216
 sample_longest_history = refl
 
 -- 1 to 16,777,216 events
-one_event_is_a_history : IsHistory 1
+one_event_is_a_history : IsHistoryLimit 1
 one_event_is_a_history = (omega arith, omega arith)
 
-events_up_to_16777216_are_a_history : IsHistory 16777216
+events_up_to_16777216_are_a_history : IsHistoryLimit 16777216
 events_up_to_16777216_are_a_history = (omega arith, omega arith)
 
-no_event_is_none : ¬ (IsHistory 0)
+no_event_is_none : ¬ (IsHistoryLimit 0)
 no_event_is_none = λ history. let least = history.0 in omega arith
 
-events_up_to_16777217_are_none : ¬ (IsHistory 16777217)
+events_up_to_16777217_are_none : ¬ (IsHistoryLimit 16777217)
 events_up_to_16777217_are_none = λ history. let most = history.1 in omega arith
 
 -- one process with so many events stored, of so many that there can be

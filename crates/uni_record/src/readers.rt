@@ -88,10 +88,10 @@ impl<O: SeqObject> Recorded<O> {
         Log::of(&self.world).entries_after(alloc, ended)
     }
 
-    /// What an audit of the entries of all eras and of the returns says: they agree. The entries are gone
-    /// over one at a time, and not copied as a whole.
+    /// What an audit of the entries of all eras and of the returns says: they agree, in every record. What that means
+    /// says `audited` of `entries` (`IsAudited`). The entries are gone over one at a time, and not copied as a whole.
     ///
-    /// An `Err` says that memory was refused, or that there are more than 2^32 entries.
+    /// An `Err` says that memory was refused.
     pub fn audit(&self, alloc: Global) -> Result<Verdict, AllocError>
         ensures agrees { IfOk result (λ verdict. verdict ≡ Verdict.Agrees) }
     {

@@ -3,7 +3,7 @@
 ghost use Rattle.std.specs.Prelude.{◌≡◌, ◌+◌, ◌*◌, ◌≤◌, ◌↔◌, length, IsTrue, OnOk};
 ghost use Rattle.std.specs.Prelude.{vec_capacity};
 ghost use Rattle.uni_core.specs.World.{world_of};
-ghost use Rattle.uni_record.specs.Recorded.{IsHistory, set_aside};
+ghost use Rattle.uni_record.specs.Recorded.{IsHistoryLimit, set_aside};
 
 use crate::counts::Counts;
 use seq_object::SeqObject;
@@ -16,7 +16,7 @@ pub const MAX_HISTORY: u64 = 16_777_216;
 
 /// Whether a history can have so many events: from 1 to 16,777,216.
 pub(crate) fn is_history(h: u64) -> bool
-    ensures { IsTrue result ↔ IsHistory h }
+    ensures { IsTrue result ↔ IsHistoryLimit h }
 {
     h >= 1 && h <= MAX_HISTORY
 }

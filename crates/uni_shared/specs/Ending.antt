@@ -9,6 +9,8 @@ use Rattle.uni_shared.specs.declared.receipt.Receipt.{Receipt}
 use Rattle.uni_shared.specs.declared.fault.ApplyFault.{ApplyFault}
 use Rattle.uni_shared.specs.contracts.seat.Seat.{the_row}
 
+-- Read the last line of each: `s.now` is the seat before, `last` the seat once the receipt that is lent has been given
+-- back. The rest is how Rattle says "afterwards" of a borrowed value.
 module _ (O S I R : RattleType) (object : seq.Ghosts O.Denot S.Denot I.Denot R.Denot) (inv : eq.Ghosts I.Denot)
     (resp : eq.Ghosts R.Denot) where
   -- after apply: with one receipt more, which is answered; or as a refusal leaves it

@@ -302,6 +302,9 @@ impl<O: SeqObject> Seat<O> {
     /// Makes a call: one hold of the lock for its begin, and one for each step, before which the gate
     /// is asked. The answer is its receipt, which is added to those of the seat.
     ///
+    /// Clauses tell of the seat alone. What each hold does to the record `begin_held` and `step_held` say; that the
+    /// receipts are the calls of its history, with the object's replies, says `close`. That the gate is asked is in none.
+    ///
     /// Errors: `SeatPending` where the seat has a call pending; `Memory` where the room for the receipt
     /// was refused; then at the begin `Stranger` where there is no such process, or it has a call
     /// pending, or the call isn't the one after those that the seat has receipts of, `RowFull`,

@@ -1,5 +1,5 @@
 -- What the words of a closed table show.
-use Rattle.uni_small.proofs.Vocabulary.{AreWords, Board, Contains, Idle, IsBoard, IsClosed, IsFinal, IsOrdered, IsShown, List, Local, Meaning, ProcessReturned, Rule, Seen, Sequential, Setup, Sizes, State, View, [], ap, arith, buffer_in, get_elem?, slice_index, some, state_place, subst, suc, sym, zero, ℕ, ◌*◌, ◌<◌, ◌∙◌, ◌∷◌, ◌≡◌, ◌≤◌}
+use Rattle.uni_small.proofs.Vocabulary.{AreWords, Board, Contains, Idle, IsBoard, IsClosed, HasHistory, IsOrdered, IsShown, List, Local, Meaning, ProcessReturned, Rule, Seen, Sequential, Setup, Sizes, State, View, [], ap, arith, buffer_in, get_elem?, slice_index, some, state_place, subst, suc, sym, zero, ℕ, ◌*◌, ◌<◌, ◌∙◌, ◌∷◌, ◌≡◌, ◌≤◌}
 use Rattle.uni_small.specs.Reading.{IsStateIn}
 use Rattle.uni_small.specs.Ended.{HasRunTo}
 use Rattle.uni_small.proofs.Finals as Finals
@@ -58,7 +58,7 @@ module _ {O : Type 0} (meaning : O → Meaning) (setup : Setup O) (few : setup.s
         ordered = subst (IsOrdered object g.atomic.agreed g.calls_in_version g.version its.process (local its.process).after) d.2 at.ordered;
       }
 
-  final : (known : List ProcessReturned) → ((its : ProcessReturned) → Contains known its → IsDone its) → (state : List ℕ) → IsStateIn sizes words state → IsFinal object sizes.processes known state
+  final : (known : List ProcessReturned) → ((its : ProcessReturned) → Contains known its → IsDone its) → (state : List ℕ) → IsStateIn sizes words state → HasHistory object sizes.processes known state
   final known each state read = final_of object sizes g board known (λ its has. done its (each its has)) state (state_is state read)
 
   acts_are : (known : List ProcessReturned) (each : (its : ProcessReturned) → Contains known its → IsDone its) (state : List ℕ) (read : IsStateIn sizes words state) → (final known each state read).acts ≡ g.acts
@@ -66,7 +66,7 @@ module _ {O : Type 0} (meaning : O → Meaning) (setup : Setup O) (few : setup.s
   acts_are known each state read = acts_of_final object sizes g board known (λ its has. done its (each its has)) state (state_is state read)
 
   -- with no seat
-  pub closes_alone : (state : List ℕ) → IsStateIn sizes words state → IsFinal object sizes.processes [] state
+  pub closes_alone : (state : List ℕ) → IsStateIn sizes words state → HasHistory object sizes.processes [] state
   closes_alone = final [] (λ its has. absurd (let h = has.1 in omega arith))
 
   pub ran_alone : (state : List ℕ) → IsStateIn sizes words state → HasRunTo object sizes [] state
@@ -75,7 +75,7 @@ module _ {O : Type 0} (meaning : O → Meaning) (setup : Setup O) (few : setup.s
 
   -- with a seat of one process that has no call pending, and of those that it has taken in
   pub closes_with : (id : ℕ) (view : View O) → get_elem? last.views id ≡ some view → view.known.count ≡ 1 → view.known.local.stage ≡ Idle []
-      → (state : List ℕ) → IsStateIn sizes words state → IsFinal object sizes.processes (record { process = view.known.first; calls = view.known.local.own } ∷ view.known.taken) state
+      → (state : List ℕ) → IsStateIn sizes words state → HasHistory object sizes.processes (record { process = view.known.first; calls = view.known.local.own } ∷ view.known.taken) state
   closes_with id view seen single idle = final (record { process = view.known.first; calls = view.known.local.own } ∷ view.known.taken) one where
     one : (its : ProcessReturned) → Contains (record { process = view.known.first; calls = view.known.local.own } ∷ view.known.taken) its → IsDone its
     one its (zero, below, e) =
@@ -89,7 +89,7 @@ module _ {O : Type 0} (meaning : O → Meaning) (setup : Setup O) (few : setup.s
   ran_with id view seen single idle state read = (closes_with id view seen single idle state read, holds.1.1.2.0, holds.1.1.2.1.acts_are ∙ sym (acts_are _ _ state read))
 
 -- what tells of more calls tells of fewer
-pub final_of_fewer : (object : Sequential (List ℕ) (List ℕ) (List ℕ)) (n : ℕ) (all known : List ProcessReturned) (state : List ℕ) → ((its : ProcessReturned) → Contains known its → Contains all its) → IsFinal object n all state → IsFinal object n known state
+pub final_of_fewer : (object : Sequential (List ℕ) (List ℕ) (List ℕ)) (n : ℕ) (all known : List ProcessReturned) (state : List ℕ) → ((its : ProcessReturned) → Contains known its → Contains all its) → HasHistory object n all state → HasHistory object n known state
 final_of_fewer _ n all known state among final = record {
   acts = final.acts;
   atomic = final.atomic;

@@ -4,7 +4,7 @@ use Rattle.uni_small.proofs.Vocabulary.{HasAnnounced, HasAsked, HasBegun, HasBro
 use Rattle.uni_small.proofs.Vocabulary.{Bool, HasConfirmed, HasRecalled, HasRecounted, HasReread, HasRestarted, false, has_begun}
 use Rattle.uni_model.proofs.Executions.{kept_along}
 use Rattle.uni_small.specs.Execution.{Access, CanTake, Execution, Moment, access_of, acts_at, acts_of, after, after_access, last_moment, all_acts}
-use Rattle.uni_small.specs.Execution.Next.{Store, Announce, Follow, Recall, Begin, Start, Copy, Look, Ask, Check, CheckOwn, Confirm, Write, Bring, BringOwn, Turn, Load, Reply}
+use Rattle.uni_small.specs.Execution.Next.{Store, Announce, Follow, Recall, TryDirectly, Start, Copy, Look, Ask, Check, CheckOwn, Confirm, Write, Bring, BringOwn, Turn, Load, Reply}
 use Rattle.uni_small.specs.Execution.Next.{Recount, Reread, Restart}
 use Rattle.uni_small.proofs.Stores.{announced, stores, writes}
 use Rattle.uni_small.proofs.Exchange.{brings_in, brings_in_left}
@@ -173,9 +173,9 @@ module _ {O : Type 0} (meaning : O → Meaning) (o : O) (sizes : Sizes) where
         (λ found me'. (q : O) → me.0.object ≡ Some q → HasRecalled (meaning q) st me found me')
         (recalls_on meaning o sizes p few st me refl read at had) refl
         (λ me' said. ((said o refl read at had).0, subst (λ k. IsCopyingOne sizes k) (sym at) tt)) (λ g words sound. refl)
-    step_holds m acts h p inside (Begin at untried room) =
+    step_holds m acts h p inside (TryDirectly at untried room) =
         let st = step 0 0 0 0 none in let me = me_at m.local p in
-        moved widths m acts h p inside (access_of object sizes p (m.local p) (Begin at untried room)) (λ y. y) nothing (λ found me'. HasBegun st me found me')
+        moved widths m acts h p inside (access_of object sizes p (m.local p) (TryDirectly at untried room)) (λ y. y) nothing (λ found me'. HasBegun st me found me')
         (begins_own meaning o sizes p few st me refl at untried room) refl
         (λ me' said. ((said at).0, (said at).1.0)) (λ g words sound. refl)
     step_holds m acts h p inside (Start tries at below) =

@@ -1,5 +1,5 @@
 -- What a board tells of processes that have no call pending.
-use Rattle.uni_small.proofs.Vocabulary.{Board, Contains, Image, IsBoard, IsClosed, IsFinal, IsOrdered, List, ProcessReturned, Sequential, Sizes, ap, refl, sym, ℕ, ◌∙◌, ◌≡◌, ◌≤◌}
+use Rattle.uni_small.proofs.Vocabulary.{Board, Contains, Image, IsBoard, IsClosed, HasHistory, IsOrdered, List, ProcessReturned, Sequential, Sizes, ap, refl, sym, ℕ, ◌∙◌, ◌≡◌, ◌≤◌}
 use Rattle.uni_small.specs.Final.{IsVersion}
 use Rattle.uni_small.proofs.Images.{reached_from}
 
@@ -10,7 +10,7 @@ module _ (object : Sequential (List ℕ) (List ℕ) (List ℕ)) (sizes : Sizes) 
     pub after : ℕ
     pub ordered : IsOrdered object g.atomic.agreed g.calls_in_version g.version its.process after its.calls
 
-  pub final_of : (known : List ProcessReturned) → ((its : ProcessReturned) → Contains known its → IsDone its) → (state : List ℕ) → g.image.state ≡ state → IsFinal object sizes.processes known state
+  pub final_of : (known : List ProcessReturned) → ((its : ProcessReturned) → Contains known its → IsDone its) → (state : List ℕ) → g.image.state ≡ state → HasHistory object sizes.processes known state
   final_of known done state is = record {
     acts = g.acts;
     atomic = g.atomic;
@@ -32,4 +32,4 @@ module _ (object : Sequential (List ℕ) (List ℕ) (List ℕ)) (sizes : Sizes) 
   pub version_has : (known : List ProcessReturned) → ((its : ProcessReturned) → Contains known its → IsDone its) → (state : List ℕ) → g.image.state ≡ state
       → (version : ℕ) → g.version ≤ version → IsVersion object sizes.processes known version state
   unfolding final_of
-  version_has known done state is version from = record { final = final_of known done state is; all_in = board.counted version from }
+  version_has known done state is version from = record { history = final_of known done state is; all_in = board.counted version from }

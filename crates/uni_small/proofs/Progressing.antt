@@ -5,9 +5,9 @@ use Rattle.uni_small.proofs.Vocabulary.{has_begun}
 use Rattle.uni_model.proofs.Each.{each-set_at}
 use Rattle.uni_model.specs.Executions.Execution.{Ends, Takes}
 use Rattle.uni_small.specs.Execution.{CanTake, Execution, Moment, Next, access_of, after, last_moment, opened_moment}
-use Rattle.uni_small.specs.Execution.Next.{Store, Announce, Follow, Recall, Begin, Start, Copy, Look, Ask, Check, CheckOwn, Confirm, Write, Bring, BringOwn, Turn, Load, Reply}
+use Rattle.uni_small.specs.Execution.Next.{Store, Announce, Follow, Recall, TryDirectly, Start, Copy, Look, Ask, Check, CheckOwn, Confirm, Write, Bring, BringOwn, Turn, Load, Reply}
 use Rattle.uni_small.specs.Execution.Next.{Recount, Reread, Restart}
-use Rattle.uni_small.specs.Progress.{IsPending, KeepsBound, NeverBlocks, StepOfCall, counted, steps_of_call}
+use Rattle.uni_small.specs.Progress.{IsUnderWay, KeepsBound, NeverBlocks, StepOfCall, counted, steps_of_call}
 use Rattle.uni_small.proofs.Ending.{steps_are}
 use Rattle.uni_small.proofs.Opening as Opening
 
@@ -237,7 +237,7 @@ module _ (object : Sequential (List ℕ) (List ℕ) (List ℕ)) (sizes : Sizes) 
     long = h.long;
     either = one_or_none (buffer_in found == 2 * p + 1);
   }
-  stands_after p l h (Begin at untried few) found =
+  stands_after p l h (TryDirectly at untried few) found =
       record { standing = inl (refl, begun_most sizes (buffer_in found / 2 == p) (drop (buffer_in found % 2 * buffer_words sizes) l.held)); coming = tt; mode = inr (refl, refl, few); long = h.long; either = h.either }
   stands_after p l h (Start tries at few) found =
       let mode = subst (λ k. IsInMode k l.direct (length l.own)) at h.mode in
@@ -318,7 +318,7 @@ module _ (object : Sequential (List ℕ) (List ℕ) (List ℕ)) (sizes : Sizes) 
       (lt_cases 0 sizes.invocation)
 
   -- a process in the midst of a call can take a step
-  next_of : (1 ≤ sizes.processes) → (p : ℕ) (l : Local) (stage : Stage) → l.stage ≡ stage → IsStanding sizes stage → IsInMode stage l.direct (length l.own) → IsComing p l stage → IsPending stage l.direct → StepOfCall object sizes p l
+  next_of : (1 ≤ sizes.processes) → (p : ℕ) (l : Local) (stage : Stage) → l.stage ≡ stage → IsStanding sizes stage → IsInMode stage l.direct (length l.own) → IsComing p l stage → IsUnderWay stage l.direct → StepOfCall object sizes p l
   next_of some p l (Idle []) at standing mode coming pending = ⊎_elim
       (λ none. absurd (let e : true ≡ false = sym pending ∙ none in cc))
       (λ room. store_or_announce_first p l at room pending)
@@ -482,7 +482,7 @@ module _ (object : Sequential (List ℕ) (List ℕ) (List ℕ)) (sizes : Sizes) 
   within_after p l h Recount found taken w = w
   within_after p l h (Reread which k either below) found taken w = w
   within_after p l h Restart found taken w = restarted_within (has_begun l.stage l.direct)
-  within_after p l h (Begin at untried few) found taken w =
+  within_after p l h (TryDirectly at untried few) found taken w =
       let m = most_is sizes in let a = to_look-all sizes in
       let b = begun_most sizes (buffer_in found / 2 == p) (drop (buffer_in found % 2 * buffer_words sizes) l.held) in omega (arith, m, a, b)
   within_after p l h (Start tries at few) found taken w =

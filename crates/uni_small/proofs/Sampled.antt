@@ -5,7 +5,7 @@ use Rattle.std.proofs.lemmas.List.{get_or-drop, get_or-take}
 use Rattle.uni_model.specs.Executions.Execution.{Ends, Takes}
 use Rattle.uni_small.specs.Image.{counter_sizes, sample_counter}
 use Rattle.uni_small.specs.Execution.{Execution, goes_on, all_acts, last_moment, opened_moment}
-use Rattle.uni_small.specs.Execution.Next.{Store, Announce, Begin, Start, Copy, Look, Ask, Check, CheckOwn, Write, Bring, BringOwn, Recount, Reply, Restart}
+use Rattle.uni_small.specs.Execution.Next.{Store, Announce, TryDirectly, Start, Copy, Look, Ask, Check, CheckOwn, Write, Bring, BringOwn, Recount, Reply, Restart}
 use Rattle.uni_small.specs.Progress.{steps_of_call}
 use Rattle.uni_small.proofs.Progressing.{whole_none, whole_push}
 
@@ -91,7 +91,7 @@ taken_over_acts = refl
 -- a call that is attempted directly
 direct_call : Execution sample_counter sizes (opened_moment sample_counter sizes)
 direct_call =
-    Takes 0 one (Begin refl refl room) (
+    Takes 0 one (TryDirectly refl refl room) (
     Takes 0 one (Look 0 0 (0 ∷ 0 ∷ 0 ∷ []) [] refl refl (whole_none sizes) one) (
     Takes 0 one (CheckOwn 0 (0 ∷ 0 ∷ 0 ∷ []) (None ∷ []) refl refl none_whole refl refl) (
     Takes 0 one (Write 0 0 (read_image sizes (0 ∷ 0 ∷ 0 ∷ [])) (None ∷ []) (Some (5 ∷ []) ∷ []) 0 0 refl (inr (refl, 5 ∷ [], refl, refl), omega arith, λ i below. absurd (omega arith)) none_below) (
@@ -145,7 +145,7 @@ two_calls : Execution sample_counter pair (opened_moment sample_counter pair)
 two_calls =
     Takes 1 (omega arith) (Store [] 3 refl (omega arith) room) (
     Takes 1 (omega arith) (Announce (3 ∷ []) refl refl room) (
-    Takes 0 (omega arith) (Begin refl refl room) (
+    Takes 0 (omega arith) (TryDirectly refl refl room) (
     Takes 0 (omega arith) (Look 0 0 start [] refl refl (whole_none pair) (omega arith)) (
     Takes 0 (omega arith) (Look 0 0 start (None ∷ []) refl refl none_seen_whole (omega arith)) (
     Takes 0 (omega arith) (Ask 0 0 start (None ∷ []) [] refl (omega arith) (omega arith)) (

@@ -1,7 +1,7 @@
 -- Each word step of a seat is a step of an execution.
 use Rattle.uni_small.proofs.Vocabulary.{HasAnnounced, HasAsked, HasBegun, HasBrought, HasChecked, HasCheckedOwn, HasCopied, HasFollowed, HasLoaded, HasLooked, HasReplied, HasStarted, HasStored, HasTurned, HasWritten, HasWrittenAll, HasWrittenOwn, Idle, Image, Invoke, IsAnnounced, IsDirect, IsAsking, IsAttemptAt, IsCopying, IsLoading, IsLeft, IsLooking, IsStoring, IsWriting, Last, Linearize, List, Local, Me, Meaning, Reading, Ready, Sizes, Some, Step, View, [], ap, arith, announce_word, argument_word, begins, brought, brought_own, buffer_in, buffer_word, buffer_words, calls_seen, checked, checked_own, current_word, either, ends, eqb, false, goes, held_place, if◌then◌else◌, length, map, most_calls, nothing, begins_directly, begun, Seen, takes_effect_own, slice_set, ◌∷◌, number_cases, refl, reply_place, slice_index, stage_of, subst, sym, takes_effect, true, version_in, wrote, ℕ, ⊎_elim, ◌*◌, ◌+◌, ◌<◌, ◌==◌, ◌∙◌, ◌≡◌, ◌≤◌, read_image}
 use Rattle.uni_small.proofs.Vocabulary.{HasConfirmed, HasRecalled, HasRecounted, HasReread, HasRestarted, Read, confirms, has_begun}
-use Rattle.uni_small.specs.Execution.Next.{Store, Announce, Follow, Recall, Begin, Start, Copy, Look, Ask, Check, CheckOwn, Confirm, Write, Bring, BringOwn, Turn, Load, Reply}
+use Rattle.uni_small.specs.Execution.Next.{Store, Announce, Follow, Recall, TryDirectly, Start, Copy, Look, Ask, Check, CheckOwn, Confirm, Write, Bring, BringOwn, Turn, Load, Reply}
 use Rattle.uni_small.specs.Execution.Next.{Recount, Reread, Restart}
 use Rattle.uni_small.proofs.Frame.{Steps}
 
@@ -51,7 +51,7 @@ module _ {O : Type 0} (meaning : O → Meaning) (o : O) (sizes : Sizes) (st : St
 
   pub begin_steps : stage_of me ≡ Idle [] → IsAnnounced me → length l.own < most_calls → Steps meaning o sizes me 0 (λ x. x) nothing (λ found me'. HasBegun st me found me')
   begin_steps stage untried few = λ g local words f me' said. (
-    Begin stage untried few,
+    TryDirectly stage untried few,
     refl,
     refl,
     ap (λ (z : Sizes). begins_directly l (slice_index words 0) (begun z p l.held (slice_index words 0))) (sym f.processes) ∙ left_at me me' _ (said stage).0,

@@ -21,7 +21,7 @@ pub use Rattle.uni_model.specs.AtomicObject.Act.{Invoke, Linearize, Respond}
 pub use Rattle.uni_model.specs.ProcessCalls.{acts_by, sequential_acts}
 pub use Rattle.uni_small.specs.Belongs.{BuffersAgree, AreBuffers, AreFirstSeats, SpareHas, HasInvocation, HasRoom, IsFreshSeat, IsOutsideBoth, IsOutsideRows, IsKept, IsOutside, IsQuietOutside, IsSeatOf, IsUntouchedByBoth, all_seen, image_in, image_of_rows, known_calls, seen_in, word_held}
 pub use Rattle.uni_small.specs.Board.{Board, announce_word, argument_word, buffer_in, buffer_word, current_word, in_of, opened, version_in, words_before, words_of}
-pub use Rattle.uni_small.specs.Final.{IsFinal}
+pub use Rattle.uni_small.specs.Final.{HasHistory}
 pub use Rattle.uni_small.specs.Image.{AreWhole, AreWidths, HasRows, Image, IsReached, IsSteady, Meaning, buffer_words, calls_seen, due_at, first_held, first_image, held_place, image_from, joined, read_image, reply_of, reply_place, rows, spell, state_place, taken_in, with_row, with_seen}
 pub use Rattle.uni_small.specs.Invariant.{AreHeld, AreIn, HasSeen, HasTaken, IfFresh, IsAt, IsAttempted, IsAttemptAt, IsPending, IsBeginning, IsBoard, IsCallAt, IsClosed, IsOpen, IsSound, MayBeWritten, most_calls}
 pub use Rattle.uni_small.specs.Laws.{Moves, begins, ends, nothing, takes_effect, takes_effect_own}

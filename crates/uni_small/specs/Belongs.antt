@@ -1,4 +1,5 @@
--- Which seats are an object's, and what they have.
+-- Which seats are an object's, and what they have. A caller reads `object_of` to `announced_by`, and from `IsSeatOf` on (of
+-- it `table` to `inside`); what stands between is what a process keeps for itself.
 use Rattle.std.specs.Prelude.{All, None, Option, Some, if◌then◌else◌, ◌≡◌, ℕ, ◌*◌, ◌+◌, ◌<◌, ◌≤◌, ◌⊎◌, List, [], ◌∷◌}
 use Rattle.std.specs.Prelude.{length, map, slice_get}
 use Rattle.std.specs.Prelude.{slice_index}

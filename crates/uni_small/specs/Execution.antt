@@ -18,7 +18,8 @@ use Rattle.uni_small.specs.Plays.{has_begun, restarted, rests}
 use Rattle.uni_small.specs.Standing.{HasComeTo, IsWritten}
 use Rattle.uni_small.specs.declared.sizes.Sizes.{Sizes}
 
--- the shared words, and where each process stands
+-- the shared words, of which word 0 is S: it names the present version and the buffer that has it; and where each process
+-- stands
 pub record Moment : Type 0 where
   pub words : List ℕ
   pub local : ℕ → Local
@@ -51,7 +52,7 @@ module _ (object : Sequential (List ℕ) (List ℕ) (List ℕ)) (sizes : Sizes) 
     Follow : l.stage ≡ Idle [] → Next p l
     Recall : (read : Read) → l.stage ≡ Idle [] → l.read ≡ Some read → Next p l
     -- S is loaded, with which the direct attempt at a call begins, which isn't announced
-    Begin : l.stage ≡ Idle [] → l.direct ≡ false → length l.own < most_calls → Next p l
+    TryDirectly : l.stage ≡ Idle [] → l.direct ≡ false → length l.own < most_calls → Next p l
     -- an attempt: S is loaded; the words of the current buffer are; then each announcement is, after a new one the
     -- words of its invocation; and S again
     Start : (tries : ℕ) → l.stage ≡ Ready tries → tries < 2 → Next p l
@@ -113,7 +114,7 @@ module _ (object : Sequential (List ℕ) (List ℕ) (List ℕ)) (sizes : Sizes) 
   }
   access_of p l (Follow at) = load_of 0 (λ s. knows l (version_in s))
   access_of p l (Recall read at had) = load_of 0 (λ s. recalls l read.version (version_in s))
-  access_of p l (Begin at untried few) = load_of 0 (λ s. begins_directly l s (begun sizes p l.held s))
+  access_of p l (TryDirectly at untried few) = load_of 0 (λ s. begins_directly l s (begun sizes p l.held s))
   access_of p l (Start tries at few) = load_of 0 (λ s. goes l (Reading tries s (begun sizes p l.held s) []))
   access_of p l (Copy tries s copy at more) =
       load_of (buffer_word sizes (buffer_in s) (length copy)) (λ found. goes l (Reading tries s (copy ++ found ∷ []) []))

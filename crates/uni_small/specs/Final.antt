@@ -1,4 +1,4 @@
--- What a closed object tells.
+-- What closing, a read, and the rule tell: a history that the atomic object accepts, with the calls that seats know.
 use Rattle.std.specs.Prelude.{◌≡◌, ℕ, ◌<◌, ◌≤◌, List, [], ◌∷◌, refl, length, map, slice_get, Some, Contains}
 use Rattle.seq_object.specs.Sequential.{Sequential}
 use Rattle.seq_object.specs.History.{state_after}
@@ -16,7 +16,7 @@ use Rattle.uni_small.specs.Order.{StandsIn}
 -- each with its reply before the next one begins, and no others. The first calls_in_version v calls of that order are
 -- in version v, or all where there are fewer, and a later version has no fewer; and each known call comes after those
 -- of one version, and is among those of another one, as its seat was told.
-pub record IsFinal (object : Sequential (List ℕ) (List ℕ) (List ℕ)) (n : ℕ) (known : List ProcessReturned) (words : List ℕ) : Type 0 where
+pub record HasHistory (object : Sequential (List ℕ) (List ℕ) (List ℕ)) (n : ℕ) (known : List ProcessReturned) (words : List ℕ) : Type 0 where
   pub acts : List (Act (List ℕ) (List ℕ))
   pub atomic : Atomic (List ℕ) (List ℕ)
   pub accepted : AcceptsAll object (at_start object.initial) acts atomic
@@ -36,8 +36,8 @@ pub record IsFinal (object : Sequential (List ℕ) (List ℕ) (List ℕ)) (n : �
 -- same.
 pub record IsVersion (object : Sequential (List ℕ) (List ℕ) (List ℕ)) (n : ℕ) (known : List ProcessReturned) (version : ℕ)
     (state : List ℕ) : Type 0 where
-  pub final : IsFinal object n known state
-  pub all_in : final.calls_in_version version ≡ length final.atomic.agreed
+  pub history : HasHistory object n known state
+  pub all_in : history.calls_in_version version ≡ length history.atomic.agreed
 
 -- This is what the object would answer to an invocation at such a version.
 abbrev pub IsAnswerAt : (object : Sequential (List ℕ) (List ℕ) (List ℕ)) (n : ℕ) (known : List ProcessReturned) (version : ℕ) (inv reply : List ℕ) → Type 0

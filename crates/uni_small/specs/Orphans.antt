@@ -1,6 +1,6 @@
 -- Seats without an owner.
-use Rattle.std.specs.Prelude.{◌≡◌, true, ℕ, ◌+◌, ◌*◌, ◌<◌, List, [], ◌∷◌, ◌++◌, Option, Some, None}
-use Rattle.uni_small.specs.Image.{buffer_words}
+use Rattle.std.specs.Prelude.{◌≡◌, refl, true, ℕ, ◌+◌, ◌*◌, ◌<◌, List, [], ◌∷◌, ◌++◌, Option, Some, None}
+use Rattle.uni_small.specs.Image.{buffer_words, counter_sizes}
 use Rattle.uni_small.specs.View.{Returned}
 use Rattle.uni_small.specs.Plays.{has_begun}
 use Rattle.uni_small.specs.Standing.{IsOf, attempt_steps, local_of}
@@ -24,7 +24,7 @@ calls_before orphan = (local_of orphan.seat.me).own
 abbrev pub steps_before : {O : Type 0} → SmallOrphan O → ℕ
 steps_before orphan = (local_of orphan.seat.me).steps
 
--- a call of it has begun and has not returned
+-- a call of it was announced and has not returned (`has_begun`; a direct call of an orphan has begun none, by `told`)
 abbrev pub IsInCall : {O : Type 0} → SmallOrphan O → Type 0
 IsInCall orphan = has_begun (local_of orphan.seat.me).stage (local_of orphan.seat.me).direct ≡ true
 
@@ -39,3 +39,7 @@ calls_after orphan reply (Some version) =
 -- begins again
 abbrev pub take_over_steps : Sizes → ℕ
 take_over_steps sizes = 2 * buffer_words sizes + 2 * attempt_steps sizes + sizes.reply + 3
+
+-- two processes on a counter of one word; a call takes at most 55 there
+sample_take_over : take_over_steps (counter_sizes 2) ≡ 48
+sample_take_over = refl

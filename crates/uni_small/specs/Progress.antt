@@ -6,15 +6,15 @@ use Rattle.uni_small.specs.View.{Local, Stage}
 use Rattle.uni_small.specs.View.Stage.{Idle}
 use Rattle.uni_small.specs.Standing.{call_steps}
 use Rattle.uni_small.specs.Execution.{CanTake, Execution, Moment, Next, after, last_moment, opened_moment}
-use Rattle.uni_small.specs.Execution.Next.{Store, Announce, Follow, Recall, Begin, Confirm}
+use Rattle.uni_small.specs.Execution.Next.{Store, Announce, Follow, Recall, TryDirectly, Confirm}
 use Rattle.uni_small.specs.Execution.Next.{Recount, Reread, Restart}
 use Rattle.uni_small.specs.declared.sizes.Sizes.{Sizes}
 
 -- a process is in the midst of a call, or of a read: it is in an attempt, directly or not, or a direct one has failed,
 -- or it has stored words of the invocation; and the call has not returned
-abbrev pub IsPending : Stage → (direct : Bool) → Type 0
-IsPending (Idle []) direct = direct ≡ true
-IsPending stage direct = Unit {0}
+abbrev pub IsUnderWay : Stage → (direct : Bool) → Type 0
+IsUnderWay (Idle []) direct = direct ≡ true
+IsUnderWay stage direct = Unit {0}
 
 module _ (object : Sequential (List ℕ) (List ℕ) (List ℕ)) (sizes : Sizes) where
   -- How many word steps the latest call has taken after `next`, where it had taken `taken` before. A call's first step
@@ -27,7 +27,7 @@ module _ (object : Sequential (List ℕ) (List ℕ) (List ℕ)) (sizes : Sizes) 
   counted {l = l} (Announce [] at whole few) taken = if l.direct then taken + 1 else 1
   counted (Follow at) taken = taken
   counted (Recall read at had) taken = taken
-  counted (Begin at untried few) taken = 1
+  counted (TryDirectly at untried few) taken = 1
   counted (Confirm s copy at copied direct) taken = 0
   counted Recount taken = taken
   counted (Reread which k either below) taken = taken
@@ -51,5 +51,5 @@ module _ (object : Sequential (List ℕ) (List ℕ) (List ℕ)) (sizes : Sizes) 
   -- wherever an execution from the opening has come to, a process in the midst of a call can take a step of that call
   abbrev pub NeverBlocks : Execution object sizes (opened_moment object sizes) → Type 0
   NeverBlocks e = (p : ℕ) → p < sizes.processes
-      → IsPending ((last_moment object sizes e).local p).stage ((last_moment object sizes e).local p).direct
+      → IsUnderWay ((last_moment object sizes e).local p).stage ((last_moment object sizes e).local p).direct
       → StepOfCall p ((last_moment object sizes e).local p)

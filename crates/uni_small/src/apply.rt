@@ -165,7 +165,8 @@ impl<O: SmallObject> SmallSeat<O> {
     ///
     /// Where a state has W words, an invocation I and a reply R, it returns after at most
     /// `6 * W + (9 + 3 * I + 6 * R) * n + I + R + 11` word steps with n processes, whatever the other seats do,
-    /// and takes no memory and no lock. Where its direct attempt fails it pauses 40 times, which touches no word.
+    /// and takes no memory and no lock: no allocator and no lock come in. Where its direct attempt fails it pauses 40
+    /// times, which touches no word (in no clause).
     ///
     /// The call comes after all calls that are in the version which the seat follows, and its own version is greater;
     /// the seat follows that one then. That the reply is the object's is the law `every_execution_is_linearizable`,

@@ -6,7 +6,7 @@ use crate::seat::{Seen, SmallSeat};
 use crate::view::View;
 use atomic_table::Seat;
 
-/// A process's place at the object that has no owner: its owner has left it, or has stopped for good. Where it
+/// A seat that has no owner: its owner has left it, or has stopped for good. Where it
 /// stopped isn't known: at any step of a call that was announced, or between calls. In Rattle only `leave` makes an
 /// orphan, between calls; that a seat whose owner died is one is what the caller across processes answers for.
 #[derive(Drop)]

@@ -115,9 +115,9 @@ impl<O: SmallObject> SmallShared<O> {
 
 impl<O: SmallObject> SmallSeat<O> {
     /// Reads the present state, without a call: the answer is its version, and `state` shows it. Nothing is stored in a
-    /// shared word. Where S names the version that the seat has read last, and hasn't called since, it is the only word
-    /// that is loaded; and where it names a buffer of the seat's own process, as after a call that it brought in itself, no
-    /// word of the state is.
+    /// shared word. One word names the present version: where that is still the one that the seat has read last, and it
+    /// hasn't called since, no other word is loaded; where it names a buffer of the seat's own process, as after a call
+    /// that it brought in itself, no word of the state is.
     ///
     /// The version has the state after all calls that took effect in a history that the atomic object accepts, and all
     /// calls of the seat are among them. The seat follows it: its later calls come after all calls that are in that
@@ -129,6 +129,10 @@ impl<O: SmallObject> SmallSeat<O> {
     ///
     /// It returns after at most `W + (1 + R) * n + 3` word steps. The error says that the seat has made all the calls
     /// that it can make; nothing is changed then.
+    ///
+    /// In no clause: that the version is the present one, that `None` comes only where another one came meanwhile, that
+    /// nothing is stored, and which words are loaded. A body that loads one word and always answers `None` would meet the
+    /// clauses.
     pub fn refresh(&mut self, shared: &SmallShared<O>) -> Result<Option<u64>, CallsSpent>
         requires seat { IsSeatOf shared.now self.old }
         ensures kept { IsSeatOf shared.now self.new × (process_of self.new ≡ process_of self.old) }
@@ -171,7 +175,8 @@ impl<O: SmallObject> SmallSeat<O> {
     /// asks, as for the value of a key of a map, needs no call but this, and no other process waits for it.
     ///
     /// The answer is `None` where another version came meanwhile; the reply stays as it was then. What the version is,
-    /// and what the seat follows, how many steps it takes and the error are as `refresh` has them.
+    /// and what the seat follows, how many steps it takes and the error are as `refresh` has them, and so is what is in no
+    /// clause.
     pub fn read(
         &mut self,
         shared: &SmallShared<O>,

@@ -138,10 +138,10 @@ impl<O: SmallObject> SmallOrphan<O> {
     /// Else the answer has none, and the reply stays as it was. The seat goes on with its next call. An orphan has
     /// nothing of what its former owner kept for itself: its handle and its number are all that it is made of.
     ///
-    /// It returns after at most `take_over_steps` word steps, whatever the other seats do.
+    /// It returns after at most `6 * W + (8 + 2 * I + 6 * R) * n + R + 9` word steps, whatever the other seats do.
     ///
     /// The error is the orphan, where memory was refused; nothing is changed then.
-    pub fn resume(
+    pub fn take_over(
         self,
         alloc: Global,
         shared: &SmallShared<O>,

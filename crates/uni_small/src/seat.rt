@@ -1,4 +1,4 @@
-//! A process's place at an object.
+//! Seats.
 ghost use Rattle.std.specs.Prelude.{[], false, ◌≡◌, ◌≤◌, length};
 ghost use Rattle.uni_small.specs.View.Stage.{Idle};
 ghost use Rattle.uni_small.specs.Invariant.{most_calls};
@@ -40,7 +40,7 @@ pub(crate) struct Buffers {
     pub apart: Changes,
 }
 
-/// A process's place at the object.
+/// A seat: the handle for the calls of one process.
 #[derive(Drop)]
 pub struct SmallSeat<O> {
     pub(crate) seat: Seat<Seen, View<O>>,

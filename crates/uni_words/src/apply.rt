@@ -1,7 +1,7 @@
 //! A call from its start to its reply.
 ghost use Rattle.std.specs.Prelude.{◌≡◌, ◌↔◌, ◌+◌, ◌*◌, ◌<◌, ◌≤◌, ◌++◌, ◌∷◌};
 ghost use Rattle.std.specs.Prelude.{[], IsErr, IfOk, OnOk, OnErr};
-ghost use Rattle.uni_words.specs.Standing.{GetsOn, GoesBy, IsCountOf, IsCursor};
+ghost use Rattle.uni_words.specs.Standing.{GetsOn, GoesBy, HasTakenSteps, IsCursor};
 ghost use Rattle.uni_words.specs.Standing.{IsIdle, Stands, IsAtStage, cell_at, head_at};
 ghost use Rattle.uni_words.specs.Words.{cells_of};
 ghost use Rattle.uni_words.specs.Belongs.{IsSeatOf, processes_of, row_of, process_of, calls_made, own_calls};
@@ -129,7 +129,7 @@ impl<O: WordObject> WordLog<O> {
         ensures seen { seat.new.me.0.known.seen ≡ seat.old.me.0.known.seen }
         ensures turns { seat.new.me.0.known.its.turns ≡ result.turns }
         ensures few_turns { result.turns ≤ self.now.setup.n + 1 }
-        ensures steps { IsCountOf self.now.setup.n seat.new.me.0.known.its.turns
+        ensures steps { HasTakenSteps self.now.setup.n seat.new.me.0.known.its.turns
             seat.old.me.0.known seat.new.me.0.known }
     {
         let at = Cursor {
@@ -163,10 +163,13 @@ impl<O: WordObject> WordLog<O> {
 
 impl WordSeat {
     /// Applies the invocation: the call, its reply, its number, and how many turns it took. It returns after a known
-    /// number of word steps, whatever the other seats do, and takes no memory and no lock. The seat
-    /// is one of this log's. With n processes a call of so many turns takes `2n + 5` word steps and
+    /// number of word steps, whatever the other seats do, and takes no memory and no lock: no allocator and no lock come
+    /// in. The seat is one of this log's. With n processes a call of so many turns takes `2n + 5` word steps and
     /// ten a turn; where its last step stores the head that is one more, which the seat counts, and which
     /// comes only after n turns at most. The numbers of a seat's calls rise.
+    ///
+    /// That the reply is the object's is in no clause here: `close_with` says it of all calls of the seat at once, and so
+    /// does the law `every_execution_is_linearizable`.
     ///
     /// The error says that the seat has made all the calls that it can make; nothing is changed then.
     pub fn apply<O: WordObject>(&mut self, log: &WordLog<O>, inv: u64) -> Result<Answer, RowFull>
@@ -185,7 +188,7 @@ impl WordSeat {
         ensures turns { IfOk result (λ answer. latest_turns self.new ≡ answer.turns) }
         ensures few_turns { IfOk result (λ answer. answer.turns ≤ processes_of log.now + 1) }
         ensures steps { IfOk result (λ answer.
-            IsCountOf (processes_of log.now) answer.turns (view_of self.old) (view_of self.new)) }
+            HasTakenSteps (processes_of log.now) answer.turns (view_of self.old) (view_of self.new)) }
         ensures few_steps { OnOk result
             (word_steps_of self.new ≤ word_steps_of self.old + (12 * processes_of log.now + 15)) }
     {

@@ -1,10 +1,10 @@
-//! A process's place at the object.
+//! Seats.
 ghost use Rattle.uni_words.specs.Standing.{IsIdle};
 
 use crate::view::View;
 use atomic_table::Seat;
 
-/// A process's place at the object.
+/// A seat: the handle for the calls of one process.
 #[derive(Drop)]
 pub struct WordSeat {
     pub(crate) seat: Seat<u8, View>,

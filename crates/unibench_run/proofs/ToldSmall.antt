@@ -1,5 +1,5 @@
 -- Threads on an object of several words whose calls are all made: their seats, and what they were told.
-use Rattle.unibench_run.proofs.Vocabulary.{All, All-map, AllocError, AreSmallDone, Contains, Contains-append_left, Contains-append_right, Done, Global, IfOk, InPlace, IsDrawnList, IsFinal, IsReplayed, IsSmallDone, IsSmallDoneOf, IsSmallJob, IsSmallRun, Job, List, Ok, Result, Some, Vec, [], ap, arith, at_of_map, calls_of, drawn_by, drop, flat_map, in_words_of, invocation_width_of, known_calls, length, length-map, map, map-append, placed, processes_of, range_with_len, read_in_place, reply_width_of, seed_of, seeded_word, slice_get, slice_get-index, slice_get-map, slice_index_or, subst, suc, sum_by, sum_by-le, sym, vec_len, zero, ℕ, ◌++◌, ◌+◌, ◌<◌, ◌^◌, ◌∙◌, ◌∷◌, ◌≡◌, ◌≤◌}
+use Rattle.unibench_run.proofs.Vocabulary.{All, All-map, AllocError, AreSmallDone, Contains, Contains-append_left, Contains-append_right, Done, Global, IfOk, InPlace, IsDrawnList, HasHistory, IsReplayed, IsSmallDone, IsSmallDoneOf, IsSmallJob, IsSmallRun, Job, List, Ok, Result, Some, Vec, [], ap, arith, at_of_map, calls_of, drawn_by, drop, flat_map, in_words_of, invocation_width_of, known_calls, length, length-map, map, map-append, placed, processes_of, range_with_len, read_in_place, reply_width_of, seed_of, seeded_word, slice_get, slice_get-index, slice_get-map, slice_index_or, subst, suc, sum_by, sum_by-le, sym, vec_len, zero, ℕ, ◌++◌, ◌+◌, ◌<◌, ◌^◌, ◌∙◌, ◌∷◌, ◌≡◌, ◌≤◌}
 use Rattle.uni_small.specs.Belongs.{AreFirstSeats, IsSeatOf}
 use Rattle.uni_small.specs.Image.{Meaning}
 use Rattle.uni_small.specs.View.{ProcessReturned, Returned}
@@ -101,7 +101,7 @@ module _ {O : Type 0} (shared : SmallShared O) where
 
       -- the closed object's calls, and their replay, are those of a run of the threads
       pub small_run : (meaning : Meaning) (tells : R → List ℕ) (last : List ℕ)
-          → IsFinal (placed meaning).object (processes_of shared) (flat_map known_calls (map seat_done done)) last
+          → HasHistory (placed meaning).object (processes_of shared) (flat_map known_calls (map seat_done done)) last
           → IsReplayed meaning.object asks tells (map items_of (map list_done done)) (drop 1 last)
           → IsSmallRun meaning asks tells reads read (processes_of shared) calls seed (map items_of (map list_done done))
       small_run meaning tells last final replayed = record {

@@ -25,7 +25,7 @@ pub use Rattle.uni_script.specs.Scripts.{scripts}
 pub use Rattle.uni_shared.specs.Agreement.{IsClosed}
 pub use Rattle.uni_shared.specs.Seat.{HasEnded, SeatOf, first_seat, first_seats}
 pub use Rattle.uni_small.specs.Belongs.{calls_of, invocation_width_of, known_calls, processes_of, reply_width_of}
-pub use Rattle.uni_small.specs.Final.{IsFinal}
+pub use Rattle.uni_small.specs.Final.{HasHistory}
 pub use Rattle.uni_words.proofs.Agreeing.{at_of_map}
 pub use Rattle.uni_words.proofs.Comparing.{slice_get-index, slice_get-map}
 pub use Rattle.uni_words.specs.Belongs.{AreAllSeats, AreFirstSeats, IsFreshSeat, IsSeatOf, calls_made, log_in, own_calls, process_of, row_of}

@@ -20,7 +20,7 @@ use Rattle.told_order.specs.declared.order.ReplayFault.TheVariants as replay
 use Rattle.told_order.specs.declared.in_place.InPlace.{InPlace}
 use Rattle.uni_small.specs.Belongs.{IsSeatOf, calls_made, calls_of, invocation_width_of, own_calls, process_of, processes_of}
 use Rattle.uni_small.specs.Belongs.{reply_width_of}
-use Rattle.uni_small.specs.Final.{IsFinal}
+use Rattle.uni_small.specs.Final.{HasHistory}
 use Rattle.uni_small.specs.Image.{Meaning}
 use Rattle.uni_small.specs.View.{ProcessReturned, Returned}
 use Rattle.uni_small.specs.declared.log.SmallShared.{SmallShared}
@@ -70,7 +70,7 @@ pub record IsSmallRun {C R : Type 0} (meaning : Meaning) (asks : C → List ℕ)
   pub each : (p : ℕ) (its : ProcessReturned) → slice_get told p ≡ Some its
       → (own : List (C × InPlace R)) × (slice_get lists p ≡ Some own) × IsDrawnList asks reads read calls (seed_of seed p) p its own
   pub last : List ℕ
-  pub final : IsFinal (placed meaning).object threads told last
+  pub final : HasHistory (placed meaning).object threads told last
   pub replayed : IsReplayed meaning.object asks tells lists (drop 1 last)
 
 -- so many replies are those of all calls of such a run

@@ -8,7 +8,7 @@ ghost use Rattle.small_objects.specs.Placed.{placed};
 ghost use Rattle.told_order.specs.Replay.{IsReplayed};
 ghost use Rattle.uni_small.specs.Belongs.{IsSeatOf, calls_made, invocation_width_of, known_calls, object_of, own_calls};
 ghost use Rattle.uni_small.specs.Belongs.{process_of, processes_of, reply_width_of, width_of};
-ghost use Rattle.uni_small.specs.Final.{IsFinal};
+ghost use Rattle.uni_small.specs.Final.{HasHistory};
 ghost use Rattle.uni_small.specs.Invariant.{most_calls};
 ghost use Rattle.uni_small.specs.View.{Returned};
 ghost use Rattle.unibench_run.specs.Small.{AreSmallDone, HasSmallRun, IsSmallDoneOf, IsSmallJob, IsSmallRun, IsWide};
@@ -121,7 +121,7 @@ fn close_and_replay<O: DrawnCalls>(
     requires seats { All (IsSeatOf shared) seats.items }
     requires few { (length lists.now < 2 ^ 32) × (sum_by vec_len lists.now < 2 ^ 64) }
     ensures closed { OnOk result ((last : List ℕ)
-        × IsFinal (placed (O.meaning object.now)).object (processes_of shared) (flat_map known_calls seats.items) last
+        × HasHistory (placed (O.meaning object.now)).object (processes_of shared) (flat_map known_calls seats.items) last
         × IsReplayed (O.meaning object.now).object O.Call.encode O.Reply.encode (map (λ own. own.items) lists.now)
         (drop 1 last)) }
     ensures others { (IsErrOf result ThreadsFault.NoSuchObject → ⊥)

@@ -24,7 +24,7 @@ pub ok_then : {T E : Type 0} (r : Result T E) {A B : T → Type 0} → IfOk r A 
 ok_then (Ok x) has so = so x has
 ok_then (Err e) has so = tt
 
--- what `shortest` finds is the first event with which there is no order
+-- what `good_prefix` finds is the first event with which there is no order
 pub first_bad : {S I R : Type 0} (object : Sequential S I R) (history : List (Event I R)) (found : Option ℕ) → IfSome found (λ k. k < length history) → IfSome found (λ k. IsLinearizable object (take k history)) → IfSome found (λ k. ¬ (IsLinearizable object (take (k + 1) history))) → IsFirstBadIf object history found
 first_bad object history None within good bad = tt
 first_bad object history (Some k) within good bad = record { within = within; good = good; bad = bad }

@@ -5,7 +5,7 @@ ghost use Rattle.unicheck_run.specs.Found.{IsFound};
 
 use crate::watch::{Stage, Watch};
 use judged_objects::Worded;
-use lin_check::{Event, Verdict, check, shortest};
+use lin_check::{Event, Verdict, check, good_prefix};
 use std::alloc::{AllocError, Global};
 
 /// What is found of a history.
@@ -37,7 +37,7 @@ pub fn judge<O: Worded, P: Watch>(
         Verdict::Linearizable(order) => Ok(Finding::Linearizable(order)),
         Verdict::NotLinearizable => {
             watch.comes_to(Stage::FirstBad);
-            let first = shortest(alloc, object, history, rounds)?;
+            let first = good_prefix(alloc, object, history, rounds)?;
             Ok(Finding::NotLinearizable(first))
         }
         Verdict::GaveUp => Ok(Finding::GaveUp),

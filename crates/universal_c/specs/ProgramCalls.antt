@@ -6,7 +6,7 @@ use Rattle.program_object.specs.Source.{source}
 use Rattle.program_object.specs.Words.{AreSpelled}
 use Rattle.program_object.specs.declared.instruction.Instruction.{Instruction}
 use Rattle.program_object.specs.declared.program.Flaw.{Flaw}
-use Rattle.program_object.specs.declared.program.Flaw.TheVariants.{NoSuchRegister, NoSuchPlace, JumpsBack, NoSuchTarget, GoesForward, NoSuchTurn}
+use Rattle.program_object.specs.declared.program.Flaw.TheVariants.{NoSuchRegister, NoSuchPlace, JumpsBack, NoSuchTarget, GoesForward, NoSuchLoop}
 use Rattle.program_object.specs.declared.program.ProgramFault.{ProgramFault}
 use Rattle.program_object.specs.declared.program.ProgramFault.TheVariants.{BadInstruction, TooLong, TooWide}
 use Rattle.universal_c.specs.SmallCalls.{HasOpenedSmall}
@@ -19,7 +19,7 @@ flaw_status NoSuchPlace = 14
 flaw_status JumpsBack = 15
 flaw_status NoSuchTarget = 16
 flaw_status GoesForward = 17
-flaw_status NoSuchTurn = 18
+flaw_status NoSuchLoop = 18
 
 abbrev pub fault_status : ProgramFault → ℕ
 fault_status (BadInstruction number flaw) = flaw_status flaw

@@ -4,7 +4,7 @@ use Rattle.std.specs.declared.option.Option.{Option}
 use Rattle.std.specs.declared.option.Option.TheVariants.{None, Some}
 use Rattle.uni_small.specs.Belongs.{calls_made, calls_of, invocation_width_of, known_calls, object_of, own_calls, process_of, processes_of}
 use Rattle.uni_small.specs.Belongs.{reply_width_of, sizes_of, taken_calls, version_of, width_of, word_steps_of}
-use Rattle.uni_small.specs.Final.{IsAnswerAt, IsFinal}
+use Rattle.uni_small.specs.Final.{IsAnswerAt, HasHistory}
 use Rattle.uni_small.specs.Invariant.{most_calls}
 use Rattle.uni_small.specs.Standing.{call_steps, read_steps}
 use Rattle.uni_small.specs.View.{ProcessReturned}
@@ -124,4 +124,4 @@ HasOtherWidth old state = IsSomeAnd (shared_in old) (λ shared. length state ≢
 -- own calls, with the replies that it was given, where their versions tell.
 abbrev pub HasEnded : (old : Option Held) (state : List ℕ) → Type 0
 HasEnded old state = IsSomeAnd (shared_in old) (λ shared.
-    IsFinal (small_meaning (object_of shared)).object (processes_of shared) (known_in old) state)
+    HasHistory (small_meaning (object_of shared)).object (processes_of shared) (known_in old) state)

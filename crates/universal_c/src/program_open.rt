@@ -26,7 +26,7 @@ fn flaw_status(flaw: Flaw) -> u32
         Flaw::JumpsBack => JUMPS_BACK,
         Flaw::NoSuchTarget => NO_TARGET,
         Flaw::GoesForward => GOES_FORWARD,
-        Flaw::NoSuchTurn => NO_LOOP,
+        Flaw::NoSuchLoop => NO_LOOP,
     }
 }
 

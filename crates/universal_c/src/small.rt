@@ -4,7 +4,7 @@ ghost use Rattle.std.specs.Prelude.{[], None, IfOk, IfErr, IfSome, IsErrOf, OnEr
 ghost use Rattle.uni_small.specs.Belongs.{AreFirstSeats, IsSeatOf, calls_made, invocation_width_of, known_calls};
 ghost use Rattle.uni_small.specs.Belongs.{object_of, own_calls, process_of, processes_of, reply_width_of, sizes_of};
 ghost use Rattle.uni_small.specs.Belongs.{announced_by, version_of, width_of, word_steps_of};
-ghost use Rattle.uni_small.specs.Final.{IsFinal};
+ghost use Rattle.uni_small.specs.Final.{HasHistory};
 ghost use Rattle.uni_small.specs.Invariant.{most_calls};
 ghost use Rattle.uni_small.specs.Orphans.{IsInCall, IsOrphanOf, calls_after, calls_before, orphan_process};
 ghost use Rattle.uni_small.specs.Orphans.{steps_before, take_over_steps};
@@ -143,7 +143,7 @@ impl SmallOpened {
             × (vec_len opened.seats ≡ vec_len self.seats)) }
         ensures unchanged { OnErr result (state.new ≡ state.old) }
         ensures told { let shared = self.shared.value in let object = (small_meaning (object_of shared)).object in
-            OnOk result (IsFinal object (processes_of shared) [] state.new) }
+            OnOk result (HasHistory object (processes_of shared) [] state.new) }
     {
         let SmallOpened { shared, seats } = self;
         match Arc::try_unwrap(shared) {
@@ -258,7 +258,7 @@ impl SmallPlace {
         ensures busy { IfErr result (λ place. (place.shared ≡ self.shared) × (place.seat ≡ self.seat)) }
         ensures unchanged { OnErr result (state.new ≡ state.old) }
         ensures told { let shared = self.shared.value in let object = (small_meaning (object_of shared)).object in
-            OnOk result (IsFinal object (processes_of shared) (known_calls self.seat) state.new) }
+            OnOk result (HasHistory object (processes_of shared) (known_calls self.seat) state.new) }
     {
         let SmallPlace { shared, seat } = self;
         match Arc::try_unwrap(shared) {
@@ -316,7 +316,7 @@ impl SmallLeft {
             return Err((self, ResumeFault::Width));
         }
         let SmallLeft { shared, orphan } = self;
-        match orphan.resume(alloc, &shared, made, reply) {
+        match orphan.take_over(alloc, &shared, made, reply) {
             Ok((seat, version)) => Ok((SmallPlace { shared, seat }, version)),
             Err(orphan) => Err((SmallLeft { shared, orphan }, ResumeFault::Memory)),
         }

@@ -7,7 +7,7 @@ ghost use Rattle.uni_small.specs.Belongs.{version_of};
 ghost use Rattle.uni_small.specs.Belongs.{invocation_width_of, processes_of, reply_width_of, width_of, word_steps_of};
 ghost use Rattle.uni_small.specs.Board.{AreFew, buffer_in, words_of};
 ghost use Rattle.uni_small.specs.Ended.{HasRunTo};
-ghost use Rattle.uni_small.specs.Final.{IsFinal};
+ghost use Rattle.uni_small.specs.Final.{HasHistory};
 ghost use Rattle.uni_small.specs.Reading.{IsStateIn};
 
 use crate::log::SmallShared;
@@ -64,7 +64,7 @@ impl<O: SmallObject> SmallShared<O> {
     /// was in when its thread died has taken effect whole, or not at all.
     pub fn close(self, state: &mut [u64])
         requires wide { length state.old ≡ width_of self }
-        ensures told { IsFinal (O.meaning (object_of self)).object (processes_of self) [] state.new }
+        ensures told { HasHistory (O.meaning (object_of self)).object (processes_of self) [] state.new }
         ensures ran { HasRunTo (O.meaning (object_of self)).object (sizes_of self) [] state.new }
     {
         let SmallShared { setup, table } = self;
@@ -83,7 +83,7 @@ impl<O: SmallObject> SmallShared<O> {
     pub fn close_with(self, seat: SmallSeat<O>, state: &mut [u64])
         requires seat { IsSeatOf self seat }
         requires wide { length state.old ≡ width_of self }
-        ensures told { IsFinal (O.meaning (object_of self)).object (processes_of self) (known_calls seat) state.new }
+        ensures told { HasHistory (O.meaning (object_of self)).object (processes_of self) (known_calls seat) state.new }
         ensures ran { HasRunTo (O.meaning (object_of self)).object (sizes_of self) (known_calls seat) state.new }
     {
         let SmallShared { setup, table } = self;
@@ -98,7 +98,7 @@ impl<O: SmallObject> SmallShared<O> {
     pub fn close_all(self, seats: Vec<SmallSeat<O>>, state: &mut [u64])
         requires seats { All (IsSeatOf self) seats.items }
         requires wide { length state.old ≡ width_of self }
-        ensures told { IsFinal (O.meaning (object_of self)).object (processes_of self)
+        ensures told { HasHistory (O.meaning (object_of self)).object (processes_of self)
             (flat_map known_calls seats.items) state.new }
         ensures ran { HasRunTo (O.meaning (object_of self)).object (sizes_of self)
             (flat_map known_calls seats.items) state.new }

@@ -1,4 +1,4 @@
-use Rattle.unibench_run.proofs.Vocabulary.{All-same, Global, InPlace, IsFinal, IsReplayed, IsSmallRun, List, Vec, drop, flat_map, known_calls, map, placed, processes_of, subst, sym, ◌∙◌}
+use Rattle.unibench_run.proofs.Vocabulary.{All-same, Global, InPlace, HasHistory, IsReplayed, IsSmallRun, List, Vec, drop, flat_map, known_calls, map, placed, processes_of, subst, sym, ◌∙◌}
 use Rattle.uni_small.specs.Belongs.{IsSeatOf}
 use Rattle.unibench_run.proofs.ToldSmall.{few_told, small_run, small_seats}
 use Rattle.unibench_run.proofs.small.close_small.Goals as goal
@@ -26,7 +26,7 @@ returns-clause-told g c =
     let tells = g.O.Reply.Words.encode in
     let reads = g.O.Reply.Words.decode in
     let closed = c.in_ok-close_and_replay.ensures.closed in
-    let final = subst (λ seats. IsFinal (placed meaning).object (processes_of shared) (flat_map known_calls seats) closed.0) c.in_ok-seats.ensures.seats closed.1 in
+    let final = subst (λ seats. HasHistory (placed meaning).object (processes_of shared) (flat_map known_calls seats) closed.0) c.in_ok-seats.ensures.seats closed.1 in
     let replayed = subst (λ (lists : List (Vec (C × InPlace R) Global)). IsReplayed meaning.object asks tells (map (λ own. own.items) lists) (drop 1 closed.0))
     (c.deref.ensures.value ∙ c.in_ok-seats.ensures.told) closed.2 in
     subst (λ (lists : List (Vec (C × InPlace R) Global)). IsSmallRun meaning asks tells reads g.O.DrawnCalls.call_of_word (processes_of shared) plan.calls plan.seed (map (λ own. own.items) lists))

@@ -1,8 +1,8 @@
 use Rattle.unicheck_run.proofs.Saying.{first_bad}
 use Rattle.unicheck_run.proofs.judging.judge.Goals as goal
 
-pub shortest-requires : goal.shortest-requires
-shortest-requires g c = rw c.in-NotLinearizable.is at c.in_ok-verdict.ensures
+pub good_prefix-requires : goal.good_prefix-requires
+good_prefix-requires g c = rw c.in-NotLinearizable.is at c.in_ok-verdict.ensures
 
 pub returns-in_ok-first-in-NotLinearizable : goal.returns-in_ok-first-in-NotLinearizable
 returns-in_ok-first-in-NotLinearizable g c = (

@@ -15,8 +15,8 @@ returns-clause-begun g c = world_of-call _ _ _ c.self.view_is c.self.invariant c
     c.make-mine.new.self c.in-Ok.inv c.args.inv.now c.in-Ok.ensures c.make-mine.result c.is_some.result c.is_some.ensures c.if-is_some.false (room_left _ _ _ c.room.ensures c.if-room-eq0.false)
     c.make-mine.ensures.id c.make-mine.ensures.memory c.make-mine.ensures.shape c.make-mine.ensures.made c.processes-n.result c.processes-n.ensures
 
-pub returns-clause-accepted : goal.returns-clause-accepted
-returns-clause-accepted g c = Follows-call _ _ _ c.self.view_is c.self.invariant c.args.p c.index.result.now (inside_count _ _ c.args.p c.processes-n.ensures c.if-p-n.false) c.index.ensures
+pub returns-clause-simulated : goal.returns-clause-simulated
+returns-clause-simulated g c = Follows-call _ _ _ c.self.view_is c.self.invariant c.args.p c.index.result.now (inside_count _ _ c.args.p c.processes-n.ensures c.if-p-n.false) c.index.ensures
     c.make-mine.new.self c.in-Ok.inv c.args.inv.now c.in-Ok.ensures c.make-mine.result c.is_some.result c.is_some.ensures c.if-is_some.false (room_left _ _ _ c.room.ensures c.if-room-eq0.false)
     c.make-mine.ensures.id c.make-mine.ensures.memory c.make-mine.ensures.shape c.make-mine.ensures.made c.processes-n.result c.processes-n.ensures
 

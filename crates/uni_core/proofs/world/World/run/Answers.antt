@@ -32,12 +32,12 @@ pub returns-clause-ran : goal.returns-clause-ran
 returns-clause-ran g c = (Ran-all _ _ (world_of c.args.self.now) (world_of c.loop-command.self) c.args.commands.now c.loop-command.command-index c.loop-command.outcomes.items
     (omega arith) c.loop-command-test.false c.loop-command.invariant.leads).ran
 
-pub returns-clause-accepted : goal.returns-clause-accepted
-returns-clause-accepted g c = (Ran-all _ _ (world_of c.args.self.now) (world_of c.loop-command.self) c.args.commands.now c.loop-command.command-index c.loop-command.outcomes.items
+pub returns-clause-simulated : goal.returns-clause-simulated
+returns-clause-simulated g c = (Ran-all _ _ (world_of c.args.self.now) (world_of c.loop-command.self) c.args.commands.now c.loop-command.command-index c.loop-command.outcomes.items
     (omega arith) c.loop-command-test.false c.loop-command.invariant.leads).accepted
 
-pub returns-clause-events : goal.returns-clause-events
-returns-clause-events g c = (Ran-all _ _ (world_of c.args.self.now) (world_of c.loop-command.self) c.args.commands.now c.loop-command.command-index c.loop-command.outcomes.items
+pub returns-clause-accepted : goal.returns-clause-accepted
+returns-clause-accepted g c = (Ran-all _ _ (world_of c.args.self.now) (world_of c.loop-command.self) c.args.commands.now c.loop-command.command-index c.loop-command.outcomes.items
     (omega arith) c.loop-command-test.false c.loop-command.invariant.leads).events
 
 pub returns-clause-log : goal.returns-clause-log

@@ -44,8 +44,8 @@ pub returns-clause-progress : goal.returns-clause-progress
 returns-clause-progress g c = (elim c.match-response.branch [ in-None w ↦ w.result-is ∙ ap progress_of (sym w.in-None.is) | in-Some-response w ↦ w.result-is ∙ ap progress_of (sym w.in-Some-response.is) ]) ∙ answers _ _ _ c.self.view_is c.self.invariant c.args.p c.processes.result c.index_mut-local.result.now c.processes.ensures c.if-p-processes.false c.index_mut-local.ensures.value c.in-Some.call.now (sym c.in-Some.ensures.value)
     c.take_step.new.self.shared c.take_step.new.stage c.in-Ok.response c.in-Ok.ensures.taken c.is_some.result c.is_some.ensures c.advance.new.self c.advance.ensures.call c.advance.ensures.begun c.advance.ensures.among c.advance.ensures.steps c.advance.ensures.turns
 
-pub returns-clause-accepted : goal.returns-clause-accepted
-returns-clause-accepted g c = Follows-left_with _ _ _ c.self.view_is c.self.invariant c.args.p c.processes.result c.index_mut-local.result.now c.processes.ensures c.if-p-processes.false c.index_mut-local.ensures.value c.in-Some.call.now (sym c.in-Some.ensures.value)
+pub returns-clause-simulated : goal.returns-clause-simulated
+returns-clause-simulated g c = Follows-left_with _ _ _ c.self.view_is c.self.invariant c.args.p c.processes.result c.index_mut-local.result.now c.processes.ensures c.if-p-processes.false c.index_mut-local.ensures.value c.in-Some.call.now (sym c.in-Some.ensures.value)
     c.take_step.new.self.shared c.take_step.new.stage c.in-Ok.response c.in-Ok.ensures.taken c.is_some.result c.is_some.ensures c.advance.new.self c.advance.ensures.call c.advance.ensures.begun c.advance.ensures.among c.advance.ensures.steps c.advance.ensures.turns
     c.take_step.new.self.object g.O.SeqObject.sequential refl
 

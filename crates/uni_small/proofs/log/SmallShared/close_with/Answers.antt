@@ -1,4 +1,4 @@
-use Rattle.uni_small.proofs.Vocabulary.{IsFinal, Rule, slots_items, subst, ◌∙◌, ◌∷◌}
+use Rattle.uni_small.proofs.Vocabulary.{HasHistory, Rule, slots_items, subst, ◌∙◌, ◌∷◌}
 use Rattle.uni_small.specs.Ended.{HasRunTo}
 use Rattle.uni_small.proofs.Closing.{closes_with, named_inside, ran_with}
 use Rattle.uni_small.proofs.log.SmallShared.close_with.Goals as goal
@@ -23,7 +23,7 @@ returns-clause-told g c =
     let seat = c.args.seat in
     let final = c.close_with.ensures.values.2 in
     let holds = subst (λ key. Rule g.O.SmallObject.meaning key final.0) self.same final.1.0 in
-    subst (λ p. IsFinal (g.O.SmallObject.meaning self.setup.object).object self.setup.sizes.processes (record { process = p; calls = seat.seat.me.0.known.local.own } ∷ seat.seat.me.0.known.taken) c.write_state.new.state) seat.stands.0
+    subst (λ p. HasHistory (g.O.SmallObject.meaning self.setup.object).object self.setup.sizes.processes (record { process = p; calls = seat.seat.me.0.known.local.own } ∷ seat.seat.me.0.known.taken) c.write_state.new.state) seat.stands.0
     (closes_with g.O.SmallObject.meaning self.setup self.few.1 final.0 holds (slots_items c.close_with.result.words) final.2 seat.seat.id seat.seat.me.0 final.1.1 seat.stands.1 seat.idle c.write_state.new.state c.write_state.ensures.read)
 
 pub returns-clause-ran : goal.returns-clause-ran

@@ -1,8 +1,8 @@
 use Rattle.std.proofs.Common.{take, ◌/◌}
 use Rattle.std.proofs.lemmas.List.{take_all}
 use Rattle.lin_check.proofs.Vocabulary.{IsLinearizableHistory, [], acts_of, arith, at_start, length, refl, subst, sym, ◌+◌, ◌-◌, ◌≢◌, ◌≡◌, ◌≤◌}
-use Rattle.lin_check.proofs.prefixes.shortest.Goals as goal
-use Rattle.lin_check.proofs.prefixes.shortest.Goals.{in-Linearizable, in-NotLinearizable}
+use Rattle.lin_check.proofs.prefixes.good_prefix.Goals as goal
+use Rattle.lin_check.proofs.prefixes.good_prefix.Goals.{in-Linearizable, in-NotLinearizable}
 
 pub loop-good-init : goal.loop-good-init
 loop-good-init g c = record {

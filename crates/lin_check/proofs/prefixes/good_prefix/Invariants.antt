@@ -1,5 +1,5 @@
 use Rattle.lin_check.proofs.Vocabulary.{IsLinearizableHistory, acts_of, length, take, ◌-◌, ◌≤◌}
-use Rattle.lin_check.proofs.prefixes.shortest.Given as goal
+use Rattle.lin_check.proofs.prefixes.good_prefix.Given as goal
 
 abbrev pub invariant-loop-good : goal.invariant-loop-good
 invariant-loop-good g l = record {

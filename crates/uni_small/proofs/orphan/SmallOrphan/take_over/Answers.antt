@@ -1,8 +1,8 @@
 use Rattle.std.proofs.Common.{rules}
 use Rattle.uni_small.proofs.Vocabulary.{Buffers, IsKept, Room, ap, refl, subst, sym, ◌∙◌, None, Some, ◌≡◌}
 use Rattle.uni_small.proofs.Kept.{kept_afresh}
-use Rattle.uni_small.proofs.orphan.SmallOrphan.resume.Goals.{else-told-made, then-told-made}
-use Rattle.uni_small.proofs.orphan.SmallOrphan.resume.Goals as goal
+use Rattle.uni_small.proofs.orphan.SmallOrphan.take_over.Goals.{else-told-made, then-told-made}
+use Rattle.uni_small.proofs.orphan.SmallOrphan.take_over.Goals as goal
 
 pub returns-clause-seat : goal.returns-clause-seat
 returns-clause-seat g c = (
