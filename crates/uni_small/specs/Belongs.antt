@@ -1,5 +1,6 @@
 -- Which seats are an object's, and what they have. A caller reads `object_of` to `announced_by`, and from `IsSeatOf` on (of
--- it `table` to `inside`); what stands between is what a process keeps for itself.
+-- it `table` to `inside`); what stands between is what a process keeps for itself. `seat.seat` is the handle that the kit
+-- gives for a table of words, and `seat.seat.me.0` what is known by it.
 use Rattle.std.specs.Prelude.{All, None, Option, Some, if◌then◌else◌, ◌≡◌, ℕ, ◌*◌, ◌+◌, ◌<◌, ◌≤◌, ◌⊎◌, List, [], ◌∷◌}
 use Rattle.std.specs.Prelude.{length, map, slice_get}
 use Rattle.std.specs.Prelude.{slice_index}

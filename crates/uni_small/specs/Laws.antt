@@ -1,4 +1,7 @@
--- What the steps on words append to the history of the board.
+-- What the steps on words append to the history of the board. The words are those of a table of the kit (`atomic_table`):
+-- a `State` is the words with the view of each seat. `me` is the seat that takes the step: `me.0` is its view, and `me.1`
+-- the slots that it has taken, which the table of a small object hasn't. `stepped s i x id me.1 v keeps` is s with x in
+-- word i and v as the view of seat id; all else stays. `get_elem? s.views id` is the view of seat id.
 use Rattle.std.specs.Prelude.{◌≡◌, ℕ, ◌==◌, List, [], ◌∷◌, ◌++◌, map, length, slice_index, slice_set, Option, Some}
 use Rattle.std.specs.Prelude.{refl, if◌then◌else◌}
 use mathlib.Core.Option.{some}

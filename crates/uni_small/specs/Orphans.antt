@@ -24,7 +24,8 @@ calls_before orphan = (local_of orphan.seat.me).own
 abbrev pub steps_before : {O : Type 0} → SmallOrphan O → ℕ
 steps_before orphan = (local_of orphan.seat.me).steps
 
--- a call of it was announced and has not returned (`has_begun`; a direct call of an orphan has begun none, by `told`)
+-- a call of it was announced and has not returned (`has_begun`; a direct call of an
+-- orphan has begun none, by the field `told` of `SmallOrphan`)
 abbrev pub IsInCall : {O : Type 0} → SmallOrphan O → Type 0
 IsInCall orphan = has_begun (local_of orphan.seat.me).stage (local_of orphan.seat.me).direct ≡ true
 
