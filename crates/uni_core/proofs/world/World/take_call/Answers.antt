@@ -6,7 +6,7 @@ pub returns-in-Ok-clause-takes : goal.returns-in-Ok-clause-takes
 returns-in-Ok-clause-takes g c = record {
   is = (c.in-Ok.ensures.could, λ i. record { process = c.in-Ok.ensures.id.0 i; nth = c.in-Ok.ensures.id.1 i });
   left = c.in-Ok.ensures.begun;
-  accepted = c.in-Ok.ensures.accepted;
+  accepted = c.in-Ok.ensures.simulated;
 }
 
 pub returns-in-Err-BadProcess-clause-takes : goal.returns-in-Err-BadProcess-clause-takes

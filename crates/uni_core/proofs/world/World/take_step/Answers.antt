@@ -14,7 +14,7 @@ returns-in-Ok-Going-clause-takes g c = record {
     going_none _ (sym c.in-Ok-Going.field-0-is ∙ c.in-Ok-Going.ensures.progress),
   );
   left = c.in-Ok-Going.ensures.step;
-  accepted = c.in-Ok-Going.ensures.accepted;
+  accepted = c.in-Ok-Going.ensures.simulated;
 }
 
 pub returns-in-Ok-Done-clause-takes : goal.returns-in-Ok-Done-clause-takes
@@ -25,7 +25,7 @@ returns-in-Ok-Done-clause-takes g c = record {
     done_some _ c.in-Ok-Done.response (sym c.in-Ok-Done.field-0-is ∙ c.in-Ok-Done.ensures.progress),
   );
   left = c.in-Ok-Done.ensures.step;
-  accepted = c.in-Ok-Done.ensures.accepted;
+  accepted = c.in-Ok-Done.ensures.simulated;
 }
 
 pub returns-in-Err-clause-takes : goal.returns-in-Err-clause-takes
