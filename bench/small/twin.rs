@@ -1,6 +1,6 @@
 // A plain twin of the wait-free form for objects of several words, and two locks round the same object, beside which
-// it is measured: `twin FORM OBJECT N T K R`, with FORM `small`, `mutex` or `ticket` and the rest as in program.txt; a read
-// is a call that changes nothing. It prints the nanoseconds that each round took.
+// it is measured: `twin FORM OBJECT N T K R`, with FORM `small`, `mutex`, `ticket` or `rwlock` and the rest as in program.txt; a
+// read is a call that changes nothing, or under `rwlock` the question alone. It prints the nanoseconds that each round took.
 //
 // The twin has the words of the proved form, in their order: S, the announcements, the arguments, and 2n buffers, each
 // with how many calls of each process are in, a reply for each, and the state. Each of its kinds of step is one
@@ -9,7 +9,7 @@
 
 use std::cell::UnsafeCell;
 use std::hint::{black_box, spin_loop};
-use std::sync::Mutex;
+use std::sync::{Mutex, RwLock};
 use std::sync::atomic::{AtomicU64, AtomicUsize, Ordering::SeqCst};
 use std::time::Instant;
 
@@ -22,6 +22,10 @@ trait Object: Sync {
     /// A word that stands for a call which changes nothing.
     fn reading(_word: u64) -> u64 {
         0
+    }
+    /// What such a call is answered.
+    fn answer(state: &[u64], _inv: &[u64], reply: &mut [u64]) {
+        reply[0] = state[0];
     }
 }
 
@@ -139,6 +143,10 @@ impl Object for Map {
     fn reading(word: u64) -> u64 {
         word - word % 3
     }
+    fn answer(state: &[u64], inv: &[u64], reply: &mut [u64]) {
+        let found = (0..state[0] as usize).find(|i| state[1 + 2 * i] == inv[1]);
+        (reply[0], reply[1]) = found.map_or((0, 0), |i| (1, state[2 + 2 * i]));
+    }
 }
 
 /// What a thread keeps for its process.
@@ -155,6 +163,9 @@ struct Seat {
 
 trait Form: Sync {
     fn apply(&self, seat: &mut Seat, inv: &[u64], reply: &mut [u64]);
+    fn read(&self, seat: &mut Seat, inv: &[u64], reply: &mut [u64]) {
+        self.apply(seat, inv, reply);
+    }
 }
 
 struct Small<O> {
@@ -268,6 +279,21 @@ impl<O: Object> Form for Locked<O> {
     }
 }
 
+/// A lock that many readers have at once.
+struct ManyRead<O> {
+    state: RwLock<Vec<u64>>,
+    object: std::marker::PhantomData<O>,
+}
+
+impl<O: Object> Form for ManyRead<O> {
+    fn apply(&self, _seat: &mut Seat, inv: &[u64], reply: &mut [u64]) {
+        O::apply(&mut self.state.write().unwrap(), inv, reply);
+    }
+    fn read(&self, _seat: &mut Seat, inv: &[u64], reply: &mut [u64]) {
+        O::answer(&self.state.read().unwrap(), inv, reply);
+    }
+}
+
 /// A lock that is taken in the order of tickets. A thread that waits for long lets others run.
 struct Ticket<O> {
     next: AtomicU64,
@@ -300,6 +326,7 @@ fn opened<O: Object + 'static>(form: &str, n: usize) -> Box<dyn Form> {
     match form {
         "small" => Box::new(Small::<O>::new(n)),
         "mutex" => Box::new(Locked { state: Mutex::new(state), object }),
+        "rwlock" => Box::new(ManyRead { state: RwLock::new(state), object }),
         _ => Box::new(Ticket {
             next: AtomicU64::new(0),
             serving: AtomicU64::new(0),
@@ -338,7 +365,11 @@ fn calls<O: Object>(form: &dyn Form, p: usize, plan: Plan, ready: &AtomicUsize, 
             word ^= word >> 7;
             word ^= word << 17;
             O::fill(if reads { O::reading(word) } else { word }, &mut inv);
-            form.apply(&mut seat, &inv, &mut reply);
+            if reads {
+                form.read(&mut seat, &inv, &mut reply);
+            } else {
+                form.apply(&mut seat, &inv, &mut reply);
+            }
             black_box(&reply);
         }
     };
