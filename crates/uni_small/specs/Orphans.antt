@@ -24,8 +24,9 @@ calls_before orphan = (local_of orphan.seat.me).own
 abbrev pub steps_before : {O : Type 0} → SmallOrphan O → ℕ
 steps_before orphan = (local_of orphan.seat.me).steps
 
--- a call of it was announced and has not returned (`has_begun`; a direct call of an
--- orphan has begun none, by the field `told` of `SmallOrphan`)
+-- A call of it was announced and has not returned. `has_begun` is true also of a direct call that has taken effect; no
+-- orphan is in one, since by the field `told` of `SmallOrphan` a call of it that has begun is announced. A direct attempt
+-- that hasn't taken effect has begun no call.
 abbrev pub IsInCall : {O : Type 0} → SmallOrphan O → Type 0
 IsInCall orphan = has_begun (local_of orphan.seat.me).stage (local_of orphan.seat.me).direct ≡ true
 

@@ -169,8 +169,9 @@ impl<O: SmallObject> SmallSeat<O> {
     /// times, which touches no word (in no clause).
     ///
     /// The call comes after all calls that are in the version which the seat follows, and its own version is greater;
-    /// the seat follows that one then. That the reply is the object's is the law `every_execution_is_linearizable`,
-    /// and what closing says.
+    /// the seat follows that one then. That the reply is the object's is the law `every_execution_is_linearizable` (by
+    /// the rule, `ShowsBoard` in Shown, what seats know is at each moment that of such an execution), and what closing
+    /// says.
     ///
     /// The error says that the seat has made all the calls that it can make; nothing is changed then.
     pub fn apply(

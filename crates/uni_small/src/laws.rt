@@ -98,7 +98,9 @@ pub fn stores_append_nothing<O: SmallObject>()
         nothing (λ found me'. HasWritten st me x me') }
 {}
 
-/// The other loads append nothing.
+/// The other loads append nothing. Each clause is a kind of step: `Next` in Execution tells them in the order of a call
+/// (`start` is `Start`, `begin` `TryDirectly`, `check_own` `CheckOwn`, `reply` `Load`; the others have the same name), and
+/// the README, 'The steps', names the functions.
 pub fn loads_append_nothing<O: SmallObject>()
     ensures start { (o : O) (sizes : Sizes) (id tries : ℕ) (st : Step Seen) (me : Me Seen (View O)) →
         sizes.processes ≤ 64 → me.0.known.count ≡ 1 → tries < 2 → stage_of me ≡ Ready tries

@@ -6,9 +6,10 @@ use crate::seat::{Seen, SmallSeat};
 use crate::view::View;
 use atomic_table::Seat;
 
-/// A seat that has no owner: its owner has left it, or has stopped for good. Where it
-/// stopped isn't known: at any step of a call that was announced, or between calls. In Rattle only `leave` makes an
-/// orphan, between calls; that a seat whose owner died is one is what the caller across processes answers for.
+/// A seat that has no owner: its owner has left it, or has stopped for good. Where it stopped isn't known: at any step
+/// of a call that was announced, between calls, or in a direct attempt that hasn't taken effect (but in no direct call
+/// that has: the field `told`). In Rattle only `leave` makes an orphan, between calls; that a seat whose owner died is
+/// one is what the caller across processes answers for.
 #[derive(Drop)]
 pub struct SmallOrphan<O> {
     pub(crate) seat: Seat<Seen, View<O>>,

@@ -141,6 +141,11 @@ impl<O: SmallObject> SmallOrphan<O> {
     /// It returns after at most `6 * W + (8 + 2 * I + 6 * R) * n + R + 9` word steps, whatever the other seats do.
     ///
     /// The error is the orphan, where memory was refused; nothing is changed then.
+    ///
+    /// A call whose reply wasn't kept is not among `made`, even if its owner had loaded it
+    /// (`last_load_leaves_no_trace`): it is ended here, and that its reply is the same is argued by hand. In no clause:
+    /// that the reply is the object's (as of `apply`, the law `every_execution_is_linearizable` and closing say so), that
+    /// the version is greater than those which the seat had before, and which calls of other seats it had taken in.
     pub fn take_over(
         self,
         alloc: Global,
