@@ -4,7 +4,7 @@ ghost use Rattle.std.specs.Prelude.{ℕ, ◌≡◌, ◌↔◌, true, false, [], 
 ghost use Rattle.std.specs.Prelude.{IsErrOf, option_map};
 ghost use Rattle.std.specs.Str.{bytes_eq};
 ghost use Rattle.ready_objects.specs.Words.{bytes_of};
-ghost use Rattle.uni_record.specs.Recorded.{IsHistory};
+ghost use Rattle.uni_record.specs.Recorded.{IsHistoryLimit};
 ghost use Rattle.uni_script.specs.declared.grammar.Header.{Header};
 ghost use Rattle.uni_script.specs.declared.options.Options.{Options};
 ghost use Rattle.uni_script.specs.declared.script_run.Ran.{Ran};
@@ -80,7 +80,7 @@ pub(crate) trait Catalogue: Drop {
         listener: &mut L,
     ) -> Result<Ran<Self::Record>, BenchFault>
         requires range { IsInRange header }
-        requires history { IsHistory options.now.history }
+        requires history { IsHistoryLimit options.now.history }
         requires held { IsHeld lines.old }
         requires reader { I.has_failed reader.old ≡ false }
         requires writer { W.has_failed writer.old ≡ false }
@@ -142,7 +142,7 @@ impl Catalogue for Ready {
         listener: &mut L,
     ) -> Result<Ran<ScriptRecord>, BenchFault>
         requires range { IsInRange header }
-        requires history { IsHistory options.now.history }
+        requires history { IsHistoryLimit options.now.history }
         requires held { IsHeld lines.old }
         requires reader { I.has_failed reader.old ≡ false }
         requires writer { W.has_failed writer.old ≡ false }
@@ -276,7 +276,7 @@ impl<'a, O: Spoken> Catalogue for Own<'a, O> {
         listener: &mut L,
     ) -> Result<Ran<Recorded<O>>, BenchFault>
         requires range { IsInRange header }
-        requires history { IsHistory options.now.history }
+        requires history { IsHistoryLimit options.now.history }
         requires held { IsHeld lines.old }
         requires reader { I.has_failed reader.old ≡ false }
         requires writer { W.has_failed writer.old ≡ false }

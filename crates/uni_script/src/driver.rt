@@ -3,7 +3,7 @@
 ghost use Rattle.std.specs.Prelude.{ℕ, ◌+◌, ◌≡◌, ◌≢◌, ◌↔◌, ◌⊎◌, [], true, false, List};
 ghost use Rattle.std.specs.Prelude.{Option, None, Some, Err, is_none, IfSome, IfNone, IfOk, IfErr, OnOk, OnErr};
 ghost use Rattle.std.specs.Prelude.{IsErrOf};
-ghost use Rattle.uni_record.specs.Recorded.{IsHistory};
+ghost use Rattle.uni_record.specs.Recorded.{IsHistoryLimit};
 ghost use Rattle.uni_script.specs.declared.options.Options.{Options};
 ghost use Rattle.uni_script.specs.Ends.{AppendsPrefix, Moves};
 ghost use Rattle.uni_script.specs.Grammar.{IsInRange, is_note};
@@ -50,7 +50,7 @@ pub(crate) fn run_script<C: Catalogue, I: TextIn, W: TextOut, L: Listener>(
     writer: &mut W,
     listener: &mut L,
 ) -> Result<Ran<C::Record>, BenchFault>
-    requires history { IsHistory options.now.history }
+    requires history { IsHistoryLimit options.now.history }
     requires reader { I.has_failed reader.old ≡ false }
     requires writer { W.has_failed writer.old ≡ false }
     ensures run { HasEnded (C.kind catalogue options.now) (I.remaining reader.old) (I.remaining reader.new)
@@ -189,7 +189,7 @@ pub(crate) fn run_object<S: Scripts, O: Spoken, N: Copy, I: TextIn, W: TextOut, 
     listener: &mut L,
 ) -> Result<Ran<Recorded<O>>, BenchFault>
     requires range { IsInRange header }
-    requires history { IsHistory options.now.history }
+    requires history { IsHistoryLimit options.now.history }
     requires held { IsHeld lines.old }
     requires reader { I.has_failed reader.old ≡ false }
     requires writer { W.has_failed writer.old ≡ false }

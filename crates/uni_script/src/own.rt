@@ -2,7 +2,7 @@
 
 ghost use Rattle.std.specs.Prelude.{◌≡◌, ◌↔◌, true, false, None, Some, IfOk, IfErr, OnOk, IsErrOf};
 ghost use Rattle.std.specs.Io.KnownBytes.{IsAtEnd};
-ghost use Rattle.uni_record.specs.Recorded.{IsHistory};
+ghost use Rattle.uni_record.specs.Recorded.{IsHistoryLimit};
 ghost use Rattle.uni_script.specs.Objects.{spoken};
 ghost use Rattle.uni_script.specs.Promises.{IsPromised};
 ghost use Rattle.uni_script.specs.Replay.{IsReplay, Leaves, HasAnswered, HasFault, IsPartOfReplay, IsFaultOfScript};
@@ -37,7 +37,7 @@ pub fn bench_object<O: Spoken, I: TextIn, W: TextOut>(
     writer: &mut W,
     options: &Options,
 ) -> Result<Summary, BenchFault>
-    requires history { IsHistory options.now.history }
+    requires history { IsHistoryLimit options.now.history }
     requires reader { I.has_failed reader.old ≡ false }
     requires writer { W.has_failed writer.old ≡ false }
     ensures replayed { OnOk result (IsReplay (own_scripts (spoken O.sequential O.language object) name.now options.now)
@@ -81,7 +81,7 @@ pub fn run_of_object<O: Spoken, I: TextIn>(
     reader: &mut I,
     options: &Options,
 ) -> Result<ScriptRun<Recorded<O>>, BenchFault>
-    requires history { IsHistory options.now.history }
+    requires history { IsHistoryLimit options.now.history }
     requires reader { I.has_failed reader.old ≡ false }
     ensures run { IfOk result (λ run. HasRunWhole
         (own_scripts (spoken O.sequential O.language object) name.now options.now) (I.remaining reader.old)

@@ -2,7 +2,7 @@
 
 ghost use Rattle.std.specs.Prelude.{◌≡◌, ◌↔◌, true, false, None, Some, IfOk, IfErr, OnOk, IsErrOf};
 ghost use Rattle.std.specs.Io.KnownBytes.{IsAtEnd};
-ghost use Rattle.uni_record.specs.Recorded.{IsHistory};
+ghost use Rattle.uni_record.specs.Recorded.{IsHistoryLimit};
 ghost use Rattle.uni_script.specs.Scripts.{scripts};
 ghost use Rattle.uni_script.specs.Replay.{IsReplay, IsSummary, IsPromisedScript, HasAnswered, IsPartOfReplay};
 ghost use Rattle.uni_script.specs.Replay.{IsFaultOfScript};
@@ -30,7 +30,7 @@ pub fn bench<I: TextIn, O: TextOut>(
     writer: &mut O,
     options: &Options,
 ) -> Result<Summary, BenchFault>
-    requires history { IsHistory options.now.history }
+    requires history { IsHistoryLimit options.now.history }
     requires reader { I.has_failed reader.old ≡ false }
     requires writer { O.has_failed writer.old ≡ false }
     ensures replayed { OnOk result (IsReplay (scripts options.now) (I.remaining reader.old) (O.contents writer.old)

@@ -2,7 +2,7 @@
 
 ghost use Rattle.std.specs.Prelude.{◌≡◌, false, true, IfOk, IfErr, OnOk, IsErrOf};
 ghost use Rattle.std.specs.Io.KnownBytes.{IsAtEnd};
-ghost use Rattle.uni_record.specs.Recorded.{IsHistory};
+ghost use Rattle.uni_record.specs.Recorded.{IsHistoryLimit};
 ghost use Rattle.uni_script.specs.Replay.{HasFault, IsFaultOfScript};
 ghost use Rattle.uni_script.specs.Scripts.{scripts};
 ghost use Rattle.uni_script.specs.ScriptRun.{IsScriptRun};
@@ -70,7 +70,7 @@ pub fn run_of_script<I: TextIn>(
     reader: &mut I,
     options: &Options,
 ) -> Result<ScriptRun<ScriptRecord>, BenchFault>
-    requires history { IsHistory options.now.history }
+    requires history { IsHistoryLimit options.now.history }
     requires reader { I.has_failed reader.old ≡ false }
     ensures run { IfOk result (IsScriptRun options.now (I.remaining reader.old)) }
     ensures all_read { OnOk result (IsAtEnd (I.remaining reader.new)) }

@@ -2,7 +2,7 @@
 
 ghost use Rattle.std.specs.Prelude.{◌≡◌, ◌⊎◌, ◌↔◌, ◌<◌, ◌≤◌, IsSome};
 ghost use Rattle.std.specs.declared.option.Option.TheVariants.{None};
-ghost use Rattle.uni_record.specs.Recorded.{IsHistory};
+ghost use Rattle.uni_record.specs.Recorded.{IsHistoryLimit};
 ghost use Rattle.uni_script.specs.Scripts.{scripts_of};
 ghost use Rattle.uni_script.specs.Replay.{fault_of_script};
 ghost use Rattle.universal_text.specs.Told.{IsTooLong, IsWritten, answer_to};
@@ -16,7 +16,7 @@ use uni_script::{Checked, Echo, Options, bench};
 
 /// Runs a script whose history can have so many events.
 fn replay(alloc: Global, script: &[u8], history: u64, out: &mut [u8], written: &mut usize) -> u32
-    requires { IsHistory history }
+    requires { IsHistoryLimit history }
     ensures status { result ≤ 3 }
     ensures good { result ≡ 0 → fault_of_script (scripts_of history) script.now ≡ None }
     ensures bad { result ≡ 1 → IsSome (fault_of_script (scripts_of history) script.now) }
