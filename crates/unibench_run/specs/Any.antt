@@ -12,7 +12,7 @@ use Rattle.told_order.specs.Replay.{IsReplayed, itself}
 use Rattle.told_order.specs.declared.counted.CountedState.{CountedState}
 use Rattle.told_order.specs.declared.in_place.InPlace.{InPlace}
 use Rattle.uni_any.specs.Closed.{HasRunTo}
-use Rattle.uni_any.specs.Final.{ProcessCalls}
+use Rattle.uni_any.specs.Final.{KnownCalls}
 use Rattle.uni_any.specs.Seats.{IsSeatOf, own_calls, pending_call, process_of, processes_of}
 use Rattle.uni_any.specs.declared.seat.AnySeat.{AnySeat}
 use Rattle.uni_any.specs.declared.seat.AnyShared.{AnyShared}
@@ -32,7 +32,7 @@ told_of {I} {R} own = map (λ (call : Returned I (InPlace R)). (call.inv, call.r
 -- The calls of these lists, one list a process, made one after another in the order that they were told, are answered as they were, and
 -- lead to a state. An object that counts its calls is closed with the seat of a process, of which these calls are known: its last version
 -- has counted so many calls, and the text of its state is that of the state that was reached.
-pub record HasClosed {S I R : Type 0} (object : Sequential S I R) (text : S → List ℕ) (threads calls : ℕ) (closing : ProcessCalls I (InPlace R))
+pub record HasClosed {S I R : Type 0} (object : Sequential S I R) (text : S → List ℕ) (threads calls : ℕ) (closing : KnownCalls I (InPlace R))
     (lists : List (List (I × InPlace R))) : Type 0 where
   pub reached : S
   pub replayed : IsReplayed object itself itself lists reached
@@ -47,7 +47,7 @@ pub record IsAnyRun {S I R : Type 0} (object : Sequential S I R) (read : ℕ →
     (lists : List (List (I × InPlace R))) : Type 0 where
   pub many : length lists ≡ threads
   pub each : (p : ℕ) (own : List (I × InPlace R)) → slice_get lists p ≡ Some own → asked_in own ≡ drawn_by read (seed_of seed p) calls
-  pub closing : ProcessCalls I (InPlace R)
+  pub closing : KnownCalls I (InPlace R)
   pub own : slice_get lists closing.process ≡ Some (told_of closing.own)
   pub idle : closing.pending ≡ None
   pub closed : HasClosed object text threads (threads * calls) closing lists
