@@ -24,7 +24,7 @@ words-after word word_after seed count before next i =
     let on : count + (1 + i) ≡ count + 1 + i = omega arith in next i ∙ before (1 + i) ∙ ap (seeded_word seed) on
 
 -- an element of a list by places
-at_of_range : {A : Type 0} (f : ℕ → A) (a n i : ℕ) (x : A) → slice_get (map f (range_with_len a n)) i ≡ Some x → x ≡ f (a + i)
+pub at_of_range : {A : Type 0} (f : ℕ → A) (a n i : ℕ) (x : A) → slice_get (map f (range_with_len a n)) i ≡ Some x → x ≡ f (a + i)
 at_of_range f a zero i x e = absurd (let g : None ≡ Some x = e in cc)
 at_of_range f a (suc n) zero x e = let g : Some (f a) ≡ Some x = e in let same : f a ≡ x = cc in let here : a ≡ a + 0 = omega arith in sym same ∙ ap f here
 at_of_range f a (suc n) (suc i) x e = let on : a + 1 + i ≡ a + suc i = omega arith in at_of_range f (a + 1) n i x e ∙ ap f on

@@ -1,7 +1,7 @@
 -- Threads under a lock whose calls are made: their seats, and what the record has.
-use Rattle.unibench_run.proofs.Vocabulary.{AllocError, Err, IfOk, IsClosed, IsLockedRun, IsPromised, Job, List, MakesCalls, Ok, OnOk, Recording, Result, SeatOf, Sequential, Some, ap, arith, asked_by, drawn_by, first_seat, first_seats, length, length-map, map, range_with_len, refl, seed_of, slice_get, slice_get-index, slice_get-map, slice_index_or, subst, suc, sym, zero, ℕ, ◌<◌, ◌∙◌, ◌≡◌, ◌≤◌}
+use Rattle.unibench_run.proofs.Vocabulary.{AreJobsDone, Err, IfOk, IsClosed, IsJobOf, IsLockedRun, IsPromised, Job, List, MakesCalls, Ok, OnOk, Recording, Result, SeatOf, Sequential, Some, ap, arith, asked_by, drawn_by, first_seat, first_seats, length, length-map-range_with_len, refl, seed_of, slice_get, slice_get-index, slice_get-map, slice_index_or, subst, suc, sym, zero, zero-add, ℕ, ◌<◌, ◌∙◌, ◌≡◌, ◌≤◌}
 use Rattle.std.specs.List.{All}
-use Rattle.unibench_run.proofs.DrawnBy.{none_is, of_place}
+use Rattle.unibench_run.proofs.DrawnBy.{at_of_range, none_is}
 use Rattle.unibench_run.proofs.Told.{at_below}
 
 -- a fact of a value, and others that hold where there is one
@@ -13,11 +13,10 @@ pub on_ok : {T E P : Type 0} (r : Result T E) → P → OnOk r P
 on_ok (Ok x) p = p
 on_ok (Err e) p = tt
 
-abbrev pub seat_of : {I R : Type 0} → Job (SeatOf I R) → SeatOf I R
-seat_of job = job.seat
-
-abbrev pub seed_in : {I R : Type 0} → Job (SeatOf I R) → ℕ
-seed_in job = job.seed
+-- the seat of a process's job is its first one
+pub first_at : {I R : Type 0} (n seed p : ℕ) (seats : List (SeatOf I R)) → seats ≡ first_seats n → (job : Job (SeatOf I R)) → IsJobOf seats seed p job
+    → job.seat ≡ first_seat n p
+first_at n seed p seats are job is = at_of_range (first_seat n) 0 n p job.seat (subst (λ l. slice_get l p ≡ Some job.seat) are is.0) ∙ ap (first_seat n) (zero-add p)
 
 module _ {I R : Type 0} (read : ℕ → I) where
   -- the seats of so many processes, in order, each with receipts of the first calls that are drawn from its seed
@@ -26,25 +25,17 @@ module _ {I R : Type 0} (read : ℕ → I) where
     pub each : (p : ℕ) (seat : SeatOf I R) → slice_get seats p ≡ Some seat
         → (seat.process ≡ p) × (length seat.receipts ≤ calls) × (asked_by seat ≡ drawn_by read (seed_of seed p) (length seat.receipts))
 
-  -- what is done with all jobs, each result being that of the job at its place
-  pub all_called : (n calls seed : ℕ) (jobs : List (Job (SeatOf I R))) → map seat_of jobs ≡ first_seats n
-      → map seed_in jobs ≡ map (seed_of seed) (range_with_len 0 (length jobs)) → length jobs ≡ n
-      → (results : List (Result (SeatOf I R) AllocError)) (seats : List (SeatOf I R)) → results ≡ map Ok seats → length results ≡ length jobs
-      → ((p : ℕ) (d : Result (SeatOf I R) AllocError) → p < length jobs → (job : Job (SeatOf I R)) × (job ≡ slice_index_or jobs p job)
-      × IfOk (slice_index_or results p d) (MakesCalls read job calls))
-      → AreCalled n calls seed seats
-  all_called n calls seed jobs of seeds long results seats are count given = record {
-    many = sym (length-map {B = Result (SeatOf I R) AllocError} seats Ok) ∙ ap length (sym are) ∙ count ∙ long;
+  -- what came of the jobs of the first seats
+  pub all_called : (n calls seed : ℕ) (seats done : List (SeatOf I R)) → seats ≡ first_seats n → AreJobsDone (λ job. MakesCalls read job calls) seats seed done
+      → AreCalled n calls seed done
+  all_called n calls seed seats done first are = record {
+    many = are.many ∙ ap length first ∙ length-map-range_with_len (first_seat n) 0 n;
     each = λ p seat at.
-        let result : slice_get results p ≡ Some (Ok seat) = ap (λ l. slice_get l p) are ∙ slice_get-map Ok seats p seat at in
-        let below : p < length results = at_below results p (Ok seat) result in
-        let within : p < length jobs = omega (arith, below, count) in
-        let its = given p (Ok seat) within in
-        let here : slice_index_or results p (Ok seat) ≡ Ok seat = (let e = sym (slice_get-index results p (Ok seat) below) ∙ result in cc) in
-        let made : MakesCalls read its.0 calls seat = subst (λ r. IfOk r (MakesCalls read its.0 calls)) here its.2 in
-        let first : its.0.seat ≡ first_seat n p = of_place seat_of (first_seat n) n jobs of p its.0 within its.1 in
-        let seeded : its.0.seed ≡ seed_of seed p = of_place seed_in (seed_of seed) (length jobs) jobs seeds p its.0 within its.1 in
-        (made.process ∙ ap (λ s. s.process) first, made.few, made.asked ∙ ap (λ s. drawn_by read s (length seat.receipts)) seeded);
+        let its = are.each p seat at in (
+          its.2.process ∙ ap (λ s. s.process) (first_at n seed p seats first its.0 its.1),
+          its.2.few,
+          its.2.asked ∙ ap (λ s. drawn_by read s (length seat.receipts)) its.1.1,
+        );
   }
 
   module _ (n calls seed : ℕ) (seats : List (SeatOf I R)) (are : AreCalled n calls seed seats) where

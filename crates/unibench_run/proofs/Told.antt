@@ -1,12 +1,11 @@
 -- Threads whose calls are all made: their seats, and what they were told.
-use Rattle.unibench_run.proofs.Vocabulary.{Agrees, All, All-map, AllocError, AreAllSeats, AreDone, AreFirstSeats, Done, Global, IfOk, IsDoneOf, IsFreshSeat, IsRunOfThreads, IsSeatOf, Job, List, None, Ok, Result, Sequential, Some, Vec, [], ap, arith, asked_in, at_of_map, below_1000, drawn_by, length, length-map, map, own_calls, process_of, range_with_len, refl, row_of, seed_of, slice_get, slice_get-index, slice_get-map, slice_index_or, subst, suc, sym, told_to, vec_len, zero, ℕ, ◌<◌, ◌∙◌, ◌∷◌, ◌≡◌}
+use Rattle.unibench_run.proofs.Vocabulary.{Agrees, All, All-map, AreAllSeats, AreDone, AreFirstSeats, AreJobsDone, Done, Global, IfOk, IsDoneOf, IsFreshSeat, IsRunOfThreads, IsSeatOf, Job, List, None, Ok, Result, Sequential, Some, Vec, [], ap, arith, asked_in, at_of_map, below_1000, drawn_by, length, length-map, map, own_calls, process_of, range_with_len, refl, row_of, seed_of, slice_get, slice_get-index, slice_get-map, slice_index_or, subst, suc, sym, told_to, vec_len, zero, ℕ, ◌<◌, ◌∙◌, ◌∷◌, ◌≡◌}
 use Rattle.uni_model.specs.Chain.{Entry}
 use Rattle.uni_words.specs.Belongs.{calls_of, processes_of}
 use Rattle.uni_words.specs.Run.{IsLogOfRun}
 use Rattle.uni_model.specs.ProcessCalls.{ProcessCalls}
 use Rattle.uni_words.specs.declared.log.WordLog.{WordLog}
 use Rattle.uni_words.specs.declared.seat.WordSeat.{WordSeat}
-use Rattle.unibench_run.proofs.DrawnBy.{of_place}
 
 pub at_below : {A : Type 0} (l : List A) (i : ℕ) (a : A) → slice_get l i ≡ Some a → i < length l
 at_below [] i a e = absurd (let f : None ≡ Some a = e in cc)
@@ -28,39 +27,14 @@ seat_in one = one.seat
 abbrev pub list_in : Done WordSeat (ℕ × ℕ) → Vec (ℕ × ℕ) Global
 list_in one = one.told
 
-abbrev pub seat_of : Job WordSeat → WordSeat
-seat_of job = job.seat
-
-abbrev pub seed_in : Job WordSeat → ℕ
-seed_in job = job.seed
-
--- a job has the seat of its place, which has made no call
-pub fresh_job : {O : Type 0} (log : WordLog O) (count : ℕ) (jobs : List (Job WordSeat)) (seats : List WordSeat) → map seat_of jobs ≡ seats → AreFirstSeats log count seats
-    → (i : ℕ) (job : Job WordSeat) → i < length jobs → job ≡ slice_index_or jobs i job → IsFreshSeat log i job.seat
-fresh_job log count jobs seats of first i job below here =
-    first.each i job.seat (subst (λ l. slice_get l i ≡ Some job.seat) of (slice_get-map seat_of jobs i job (slice_get-index jobs i job below ∙ ap Some (sym here))))
-
--- what is done with all jobs, each result being that of the job at its place
-pub all_are_done : {O : Type 0} (log : WordLog O) (seed : ℕ) (jobs : List (Job WordSeat)) (seats : List WordSeat) → map seat_of jobs ≡ seats
-    → map seed_in jobs ≡ map (seed_of seed) (range_with_len 0 (length jobs)) → AreFirstSeats log (processes_of log) seats
-    → (results : List (Result (Done WordSeat (ℕ × ℕ)) AllocError)) (done : List (Done WordSeat (ℕ × ℕ))) → results ≡ map Ok done → length results ≡ length jobs
-    → ((p : ℕ) (d : Result (Done WordSeat (ℕ × ℕ)) AllocError) → p < length jobs → (job : Job WordSeat) × (job ≡ slice_index_or jobs p job)
-    × IfOk (slice_index_or results p d) (IsDoneOf log job))
-    → AreDone log seed done
-all_are_done log seed jobs seats of seeds first results done are count given = record {
-  many = sym (length-map {B = Result (Done WordSeat (ℕ × ℕ)) AllocError} done Ok) ∙ ap length (sym are) ∙ count ∙ sym (length-map jobs seat_of) ∙ ap length of ∙ first.many;
+-- what came of the jobs of the first seats
+pub all_are_done : {O : Type 0} (log : WordLog O) (seed : ℕ) (seats : List WordSeat) (done : List (Done WordSeat (ℕ × ℕ))) → AreFirstSeats log (processes_of log) seats
+    → AreJobsDone (IsDoneOf log) seats seed done → AreDone log seed done
+all_are_done log seed seats done first are = record {
+  many = are.many ∙ first.many;
   each = λ p one at.
-      let result : slice_get results p ≡ Some (Ok one) = ap (λ l. slice_get l p) are ∙ slice_get-map Ok done p one at in
-      let below : p < length results = at_below results p (Ok one) result in
-      let its = given p (Ok one) (omega (arith, below, count)) in
-      let here : slice_index_or results p (Ok one) ≡ Ok one = (let e = sym (slice_get-index results p (Ok one) below) ∙ result in cc) in
-      let within : p < length jobs = omega (arith, below, count) in
-      let made : IsDoneOf log its.0 one = subst (λ r. IfOk r (IsDoneOf log its.0)) here its.2 in
-      let seeded : its.0.seed ≡ seed_of seed p = of_place seed_in (seed_of seed) (length jobs) jobs seeds p its.0 within its.1 in (
-        made.made,
-        made.process ∙ (fresh_job log (processes_of log) jobs seats of first p its.0 within its.1).process,
-        made.asked ∙ ap (λ s. drawn_by below_1000 s (row_of log)) seeded,
-      );
+      let its = are.each p one at in
+      (its.2.made, its.2.process ∙ (first.each p its.0.seat its.1.0).process, its.2.asked ∙ ap (λ s. drawn_by below_1000 s (row_of log)) its.1.1);
 }
 
 module _ {O : Type 0} (log : WordLog O) (seed : ℕ) (done : List (Done WordSeat (ℕ × ℕ))) (are : AreDone log seed done) where

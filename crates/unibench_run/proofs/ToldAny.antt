@@ -1,13 +1,12 @@
 -- Threads on any object whose calls are all made: their seats, and what they were told.
-use Rattle.unibench_run.proofs.Vocabulary.{All-map, AllocError, Done, Global, IfOk, InPlace, Job, List, None, Ok, Result, Sequential, Some, Vec, [], ap, arith, at_of_map, drawn_by, length, length-map, map, map-append, range_with_len, seed_of, seeded_word, slice_get, slice_get-index, slice_get-map, slice_index_or, subst, sum_by, sum_by-le, sym, vec_len, ℕ, ◌*◌, ◌++◌, ◌+◌, ◌<◌, ◌^◌, ◌∙◌, ◌∷◌, ◌≡◌, ◌≤◌}
+use Rattle.unibench_run.proofs.Vocabulary.{All-map, AreJobsDone, Done, Global, InPlace, IsJobOf, Job, List, None, Sequential, Some, Vec, [], ap, arith, at_of_map, drawn_by, length, length-map, map, map-append, range_with_len, seed_of, seeded_word, slice_get, slice_get-index, slice_get-map, slice_index_or, subst, sum_by, sum_by-le, sym, vec_len, ℕ, ◌*◌, ◌++◌, ◌+◌, ◌<◌, ◌^◌, ◌∙◌, ◌∷◌, ◌≡◌, ◌≤◌}
 use Rattle.uni_any.specs.Seats.{AreFirstSeats, IsSeatOf, known_calls, own_calls, pending_call, process_of, processes_of}
 use Rattle.uni_any.specs.declared.seat.AnySeat.{AnySeat}
 use Rattle.uni_any.specs.declared.seat.AnyShared.{AnyShared}
 use Rattle.uni_any.specs.declared.view.Returned.{Returned}
-use Rattle.unibench_run.specs.Any.{AreAnyDone, AreAnyJobs, AreAnyResults, HasClosed, IsAnyDone, IsAnyDoneOf, IsAnyJob, IsAnyRun, told_of}
+use Rattle.unibench_run.specs.Any.{AreAnyDone, HasClosed, IsAnyDone, IsAnyDoneOf, IsAnyJob, IsAnyRun, told_of}
 use Rattle.unibench_run.specs.Small.{asked_in}
-use Rattle.unibench_run.proofs.DrawnBy.{drawn-next, length-drawn, of_place}
-use Rattle.unibench_run.proofs.Told.{at_below}
+use Rattle.unibench_run.proofs.DrawnBy.{drawn-next, length-drawn}
 
 -- one call more is told as it was kept, and asked for as it was drawn
 module _ {I R : Type 0} (own more : List (I × InPlace R)) (inv : I) (told : InPlace R) (longer : more ≡ own ++ (inv, told) ∷ []) where
@@ -26,58 +25,25 @@ module _ {O S I R : Type 0} (shared : AnyShared O S I (InPlace R)) where
   abbrev Seat : Type 0
   Seat = AnySeat O S I (InPlace R)
 
-  abbrev any_seat : Job Seat → Seat
-  any_seat job = job.seat
-
-  abbrev any_seed : Job Seat → ℕ
-  any_seed job = job.seed
-
-  -- the jobs of the seats of an opening
-  pub any_jobs : (calls seed : ℕ) (jobs : List (Job Seat)) (seats : List Seat) → map any_seat jobs ≡ seats
-      → map any_seed jobs ≡ map (seed_of seed) (range_with_len 0 (length jobs)) → AreFirstSeats shared (processes_of shared) seats → calls ≤ 10000000
-      → AreAnyJobs shared calls seed jobs
-  any_jobs calls seed jobs seats of seeds first few = record {
-    many = sym (length-map jobs any_seat) ∙ ap length of ∙ first.many;
-    each = λ p job at.
-        let below : p < length jobs = at_below jobs p job at in
-        let here : job ≡ slice_index_or jobs p job = (let e = sym (slice_get-index jobs p job below) ∙ at in cc) in
-        let fresh = first.each p job.seat (subst (λ l. slice_get l p ≡ Some job.seat) of (slice_get-map any_seat jobs p job at)) in
-        (record { seat = fresh.own; unused = fresh.none; idle = fresh.idle; few = few }, fresh.process, of_place any_seed (seed_of seed) (length jobs) jobs seeds p job below here);
-  }
-
-  -- a job among them, by its place
-  pub any_job : (calls seed : ℕ) (jobs : List (Job Seat)) → AreAnyJobs shared calls seed jobs
-      → (i : ℕ) (job : Job Seat) → i < length jobs → job ≡ slice_index_or jobs i job → IsAnyJob shared calls job
-  any_job calls seed jobs are i job below here = (are.each i job (slice_get-index jobs i job below ∙ ap Some (sym here))).0
+  -- the job of a first seat
+  pub any_job : (count calls seed : ℕ) (seats : List Seat) → AreFirstSeats shared count seats → calls ≤ 10000000
+      → (p : ℕ) (job : Job Seat) → IsJobOf seats seed p job → IsAnyJob shared calls job
+  any_job count calls seed seats first few p job is =
+      let fresh = first.each p job.seat is.0 in record { seat = fresh.own; unused = fresh.none; idle = fresh.idle; few = few }
 
   module _ (read : ℕ → I) where
     abbrev DoneOf : Type 0
     DoneOf = Done Seat (I × InPlace R)
 
-    -- what comes of all jobs, each result being that of the job at its place
-    pub any_results : (calls seed : ℕ) (jobs : List (Job Seat)) → AreAnyJobs shared calls seed jobs
-        → (results : List (Result DoneOf AllocError)) → length results ≡ length jobs
-        → ((p : ℕ) (d : Result DoneOf AllocError) → p < length jobs → (job : Job Seat) × (job ≡ slice_index_or jobs p job)
-        × IfOk (slice_index_or results p d) (IsAnyDoneOf shared read calls job))
-        → AreAnyResults shared read calls seed results
-    any_results calls seed jobs are results count given = record {
-      many = count ∙ are.many;
+    -- what came of the jobs of the first seats
+    pub any_done : (calls seed : ℕ) (seats : List Seat) (done : List DoneOf) → AreFirstSeats shared (processes_of shared) seats
+        → AreJobsDone (IsAnyDoneOf shared read calls) seats seed done → AreAnyDone shared read calls seed done
+    any_done calls seed seats done first are = record {
+      many = are.many ∙ first.many;
       each = λ p one at.
-          let below : p < length results = at_below results p (Ok one) at in
-          let within : p < length jobs = omega (arith, below, count) in
-          let its = given p (Ok one) within in
-          let here : slice_index_or results p (Ok one) ≡ Ok one = (let e = sym (slice_get-index results p (Ok one) below) ∙ at in cc) in
-          let made : IsAnyDone shared read calls its.0.seed (process_of its.0.seat) one = subst (λ r. IfOk r (IsAnyDoneOf shared read calls its.0)) here its.2 in
-          let job = are.each p its.0 (slice_get-index jobs p its.0 within ∙ ap Some (sym its.1)) in
-          subst (λ s. IsAnyDone shared read calls s p one) job.2 (subst (λ q. IsAnyDone shared read calls its.0.seed q one) job.1 made);
-    }
-
-    -- where no thread was refused memory
-    pub any_done : (calls seed : ℕ) (results : List (Result DoneOf AllocError)) (done : List DoneOf) → results ≡ map Ok done
-        → AreAnyResults shared read calls seed results → AreAnyDone shared read calls seed done
-    any_done calls seed results done are its = record {
-      many = sym (length-map {B = Result DoneOf AllocError} done Ok) ∙ ap length (sym are) ∙ its.many;
-      each = λ p one at. its.each p one (ap (λ l. slice_get l p) are ∙ slice_get-map Ok done p one at);
+          let its = are.each p one at in
+          subst (λ s. IsAnyDone shared read calls s p one) its.1.1
+          (subst (λ q. IsAnyDone shared read calls its.0.seed q one) (first.each p its.0.seat its.1.0).process its.2);
     }
 
     abbrev pub any_seat_done : DoneOf → Seat

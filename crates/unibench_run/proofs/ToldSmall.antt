@@ -1,5 +1,5 @@
 -- Threads on an object of several words whose calls are all made: their seats, and what they were told.
-use Rattle.unibench_run.proofs.Vocabulary.{All, All-map, AllocError, AreSmallDone, Contains, Contains-append_left, Contains-append_right, Done, Global, IfOk, InPlace, IsDrawnList, HasHistory, IsReplayed, IsSmallDone, IsSmallDoneOf, IsSmallJob, IsSmallRun, Job, List, Ok, Result, Some, Vec, [], ap, arith, at_of_map, calls_of, drawn_by, drop, flat_map, in_words_of, invocation_width_of, known_calls, length, length-map, map, map-append, placed, processes_of, range_with_len, read_in_place, reply_width_of, seed_of, seeded_word, slice_get, slice_get-index, slice_get-map, slice_index_or, subst, suc, sum_by, sum_by-le, sym, vec_len, zero, ℕ, ◌++◌, ◌+◌, ◌<◌, ◌^◌, ◌∙◌, ◌∷◌, ◌≡◌, ◌≤◌}
+use Rattle.unibench_run.proofs.Vocabulary.{All, All-map, AreJobsDone, AreSmallDone, Contains, Contains-append_left, Contains-append_right, Done, Global, IfOk, InPlace, IsDrawnList, HasHistory, IsJobOf, IsReplayed, IsSmallDone, IsSmallDoneOf, IsSmallJob, IsSmallRun, Job, List, Ok, Result, Some, Vec, [], ap, arith, at_of_map, calls_of, drawn_by, drop, flat_map, in_words_of, invocation_width_of, known_calls, length, length-map, map, map-append, placed, processes_of, range_with_len, read_in_place, reply_width_of, seed_of, seeded_word, slice_get, slice_get-index, slice_get-map, slice_index_or, subst, suc, sum_by, sum_by-le, sym, vec_len, zero, ℕ, ◌++◌, ◌+◌, ◌<◌, ◌^◌, ◌∙◌, ◌∷◌, ◌≡◌, ◌≤◌}
 use Rattle.uni_small.specs.Belongs.{AreFirstSeats, IsSeatOf}
 use Rattle.uni_small.specs.Image.{Meaning}
 use Rattle.uni_small.specs.View.{ProcessReturned, Returned}
@@ -7,8 +7,7 @@ use Rattle.uni_small.specs.declared.log.SmallShared.{SmallShared}
 use Rattle.uni_small.specs.declared.seat.SmallSeat.{SmallSeat}
 use Rattle.uni_words.proofs.Views.{first_there}
 use Rattle.unibench_run.specs.Small.{asked_in}
-use Rattle.unibench_run.proofs.DrawnBy.{drawn-next, of_place}
-use Rattle.unibench_run.proofs.Told.{at_below}
+use Rattle.unibench_run.proofs.DrawnBy.{drawn-next}
 
 -- one call more is told as it was kept, and asked for as it was drawn
 module _ {C R : Type 0} (own more : List (C × InPlace R)) (call : C) (told : InPlace R) (longer : more ≡ own ++ (call, told) ∷ []) where
@@ -23,48 +22,26 @@ module _ {C R : Type 0} (own more : List (C × InPlace R)) (call : C) (told : In
   asked_more read seed count word before asked is = drawn-next read (λ (one : C × InPlace R). one.0) seed count word own more (call, told) before longer asked is
 
 module _ {O : Type 0} (shared : SmallShared O) where
-  abbrev small_seat : Job (SmallSeat O) → SmallSeat O
-  small_seat job = job.seat
-
-  abbrev small_seed : Job (SmallSeat O) → ℕ
-  small_seed job = job.seed
-
-  -- a job has the seat of its place, which has made no call
-  small_job_at : (count : ℕ) (jobs : List (Job (SmallSeat O))) (seats : List (SmallSeat O)) → map small_seat jobs ≡ seats → AreFirstSeats shared count seats
-      → (i : ℕ) (job : Job (SmallSeat O)) → i < length jobs → job ≡ slice_index_or jobs i job → slice_get seats i ≡ Some job.seat
-  small_job_at count jobs seats of first i job below here =
-      subst (λ l. slice_get l i ≡ Some job.seat) of (slice_get-map small_seat jobs i job (slice_get-index jobs i job below ∙ ap Some (sym here)))
-
-  pub small_job : (count call reply calls : ℕ) (jobs : List (Job (SmallSeat O))) (seats : List (SmallSeat O)) → map small_seat jobs ≡ seats → AreFirstSeats shared count seats
-      → calls ≤ 10000000 → invocation_width_of shared ≡ call → reply_width_of shared ≡ suc reply
-      → (i : ℕ) (job : Job (SmallSeat O)) → i < length jobs → job ≡ slice_index_or jobs i job → IsSmallJob shared call reply calls job
-  small_job count call reply calls jobs seats of first few call_wide reply_wide i job below here =
-      let fresh = first.each i job.seat (small_job_at count jobs seats of first i job below here) in
+  pub small_job : (count call reply calls seed : ℕ) (seats : List (SmallSeat O)) → AreFirstSeats shared count seats → calls ≤ 10000000
+      → invocation_width_of shared ≡ call → reply_width_of shared ≡ suc reply
+      → (p : ℕ) (job : Job (SmallSeat O)) → IsJobOf seats seed p job → IsSmallJob shared call reply calls job
+  small_job count call reply calls seed seats first few call_wide reply_wide p job is =
+      let fresh = first.each p job.seat is.0 in
       record { seat = fresh.own; unused = fresh.calls; made = fresh.made; few = few; call_wide = call_wide; reply_wide = reply_wide }
 
   module _ {C R : Type 0} (asks : C → List ℕ) (reads : List ℕ → R) (read : ℕ → C) where
     abbrev DoneOf : Type 0
     DoneOf = Done (SmallSeat O) (C × InPlace R)
 
-    -- what is done with all jobs, each result being that of the job at its place
-    pub all_small_done : (calls seed : ℕ) (jobs : List (Job (SmallSeat O))) (seats : List (SmallSeat O)) → map small_seat jobs ≡ seats
-        → map small_seed jobs ≡ map (seed_of seed) (range_with_len 0 (length jobs)) → AreFirstSeats shared (processes_of shared) seats
-        → (results : List (Result DoneOf AllocError)) (done : List DoneOf) → results ≡ map Ok done → length results ≡ length jobs
-        → ((p : ℕ) (d : Result DoneOf AllocError) → p < length jobs → (job : Job (SmallSeat O)) × (job ≡ slice_index_or jobs p job)
-        × IfOk (slice_index_or results p d) (IsSmallDoneOf shared asks reads read calls job))
-        → AreSmallDone shared asks reads read calls seed done
-    all_small_done calls seed jobs seats of seeds first results done are count given = record {
-      many = sym (length-map {B = Result DoneOf AllocError} done Ok) ∙ ap length (sym are) ∙ count ∙ sym (length-map jobs small_seat) ∙ ap length of ∙ first.many;
+    -- what came of the jobs of the first seats
+    pub all_small_done : (calls seed : ℕ) (seats : List (SmallSeat O)) (done : List DoneOf) → AreFirstSeats shared (processes_of shared) seats
+        → AreJobsDone (IsSmallDoneOf shared asks reads read calls) seats seed done → AreSmallDone shared asks reads read calls seed done
+    all_small_done calls seed seats done first are = record {
+      many = are.many ∙ first.many;
       each = λ p one at.
-          let result : slice_get results p ≡ Some (Ok one) = ap (λ l. slice_get l p) are ∙ slice_get-map Ok done p one at in
-          let below : p < length results = at_below results p (Ok one) result in
-          let its = given p (Ok one) (omega (arith, below, count)) in
-          let here : slice_index_or results p (Ok one) ≡ Ok one = (let e = sym (slice_get-index results p (Ok one) below) ∙ result in cc) in
-          let within : p < length jobs = omega (arith, below, count) in
-          let made : IsSmallDone shared asks reads read calls its.0.seed its.0.seat.p one = subst (λ r. IfOk r (IsSmallDoneOf shared asks reads read calls its.0)) here its.2 in
-          let seeded : its.0.seed ≡ seed_of seed p = of_place small_seed (seed_of seed) (length jobs) jobs seeds p its.0 within its.1 in
-          let process : its.0.seat.p ≡ p = (first.each p its.0.seat (small_job_at (processes_of shared) jobs seats of first p its.0 within its.1)).process in
-          subst (λ s. IsSmallDone shared asks reads read calls s p one) seeded (subst (λ q. IsSmallDone shared asks reads read calls its.0.seed q one) process made);
+          let its = are.each p one at in
+          subst (λ s. IsSmallDone shared asks reads read calls s p one) its.1.1
+          (subst (λ q. IsSmallDone shared asks reads read calls its.0.seed q one) (first.each p its.0.seat its.1.0).process its.2);
     }
 
     abbrev pub seat_done : DoneOf → SmallSeat O

@@ -36,7 +36,7 @@ pub use Rattle.unibench_run.specs.Request.{echo_in, form_named, object_named, op
 pub use Rattle.unibench_run.specs.Runs.{IsRunOf, IsThreadsRun}
 pub use Rattle.unibench_run.specs.Small.{AreCalls, AreSmallDone, HasSmallRun, IsDrawnList, IsSmallDone, IsSmallDoneOf, IsSmallJob, IsSmallRun, IsWide, in_words_of, read_in_place}
 pub use Rattle.unibench_run.specs.Statuses.{EndsThreads, IsStatusOfThreads, Tells, TellsThreadsFault, status_of_threads}
-pub use Rattle.unibench_run.specs.Threads.{AreDone, IsDoneOf, IsLockedRun, IsRunOfThreads, IsThreadsPlan, MakesCalls, OfAgreed, are_too_many, asked_by, asked_in, events_of, has_form, line_of_fault, refusal_of, told_to}
+pub use Rattle.unibench_run.specs.Threads.{AreDone, AreJobsDone, IsDoneOf, IsJobOf, IsLockedRun, IsRunOfThreads, IsThreadsPlan, MakesCalls, OfAgreed, are_too_many, asked_by, asked_in, events_of, has_form, line_of_fault, refusal_of, told_to}
 pub use Rattle.unibench_run.specs.declared.request.Plan.{Plan}
 pub use Rattle.unibench_run.specs.declared.request.Request.{Request}
 pub use Rattle.unibench_run.specs.declared.request.Request.TheVariants.{Explained, Language, Random, Replay, Threads}

@@ -1,6 +1,5 @@
 -- What a run of threads on any object comes to.
-use Rattle.std.specs.Prelude.{◌≡◌, ◌≤◌, ◌*◌, ℕ, List, [], ◌∷◌, None, Some, Ok, Result, length, map, slice_get, refl}
-use Rattle.std.specs.declared.alloc.AllocError.{AllocError}
+use Rattle.std.specs.Prelude.{◌≡◌, ◌≤◌, ◌*◌, ℕ, List, [], ◌∷◌, None, Some, length, map, slice_get, refl}
 use Rattle.ready_objects.specs.Book.{book, book_language}
 use Rattle.ready_objects.specs.Directory.{directory, directory_language, pairs_text}
 use Rattle.ready_objects.specs.Number.{numbers_text}
@@ -73,12 +72,6 @@ module _ {O S I R : Type 0} (shared : AnyShared O S I (InPlace R)) where
     pub idle : pending_call job.seat ≡ None
     pub few : calls ≤ 10000000
 
-  -- the jobs of all processes, in order, by the seed of the first
-  pub record AreAnyJobs (calls seed : ℕ) (jobs : List (Job (AnySeat O S I (InPlace R)))) : Type 0 where
-    pub many : length jobs ≡ processes_of shared
-    pub each : (p : ℕ) (job : Job (AnySeat O S I (InPlace R))) → slice_get jobs p ≡ Some job
-        → IsAnyJob calls job × (process_of job.seat ≡ p) × (job.seed ≡ seed_of seed p)
-
   module _ (read : ℕ → I) where
     -- the seat of process p has made so many calls, as they are drawn from a seed, and what it was told is listed
     pub record IsAnyDone (calls seed p : ℕ) (done : Done (AnySeat O S I (InPlace R)) (I × InPlace R)) : Type 0 where
@@ -96,12 +89,6 @@ module _ {O S I R : Type 0} (shared : AnyShared O S I (InPlace R)) where
     pub record AreAnyDone (calls seed : ℕ) (done : List (Done (AnySeat O S I (InPlace R)) (I × InPlace R))) : Type 0 where
       pub many : length done ≡ processes_of shared
       pub each : (p : ℕ) (one : Done (AnySeat O S I (InPlace R)) (I × InPlace R)) → slice_get done p ≡ Some one
-          → IsAnyDone calls (seed_of seed p) p one
-
-    -- so are those whose threads weren't refused memory
-    pub record AreAnyResults (calls seed : ℕ) (results : List (Result (Done (AnySeat O S I (InPlace R)) (I × InPlace R)) AllocError)) : Type 0 where
-      pub many : length results ≡ processes_of shared
-      pub each : (p : ℕ) (one : Done (AnySeat O S I (InPlace R)) (I × InPlace R)) → slice_get results p ≡ Some (Ok one)
           → IsAnyDone calls (seed_of seed p) p one
 
 -- two calls of a counter: the reply to the second one tells that two calls came before it

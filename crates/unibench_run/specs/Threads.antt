@@ -206,6 +206,15 @@ text_of_fault (fault.Audit verdict) = fault_text (bench.Audit verdict)
 abbrev pub line_of_fault : ThreadsFault → List ℕ
 line_of_fault f = text_of_fault f ++ 10 ∷ []
 
+-- the job of process p: its seat among these, and its seed
+abbrev pub IsJobOf : {S : Type 0} → (seats : List S) (seed p : ℕ) → Job S → Type 0
+IsJobOf seats seed p job = (slice_get seats p ≡ Some job.seat) × (job.seed ≡ seed_of seed p)
+
+-- what came of the job of each process, in order
+pub record AreJobsDone {S T : Type 0} (Gives : Job S → T → Type 0) (seats : List S) (seed : ℕ) (done : List T) : Type 0 where
+  pub many : length done ≡ length seats
+  pub each : (p : ℕ) (one : T) → slice_get done p ≡ Some one → (job : Job S) × IsJobOf seats seed p job × Gives job one
+
 -- a seat of this log that has made no call
 abbrev pub IsJob : {O : Type 0} → WordLog O → Job WordSeat → Type 0
 IsJob log job = IsSeatOf log job.seat × (own_calls job.seat ≡ [])

@@ -6,25 +6,19 @@ ghost use Rattle.std.specs.List.{sum_by};
 ghost use Rattle.uni_any.specs.Invariant.{most_calls};
 ghost use Rattle.uni_any.specs.Seats.{IsSeatOf, calls_made, known_calls, object_of, own_calls};
 ghost use Rattle.uni_any.specs.Seats.{pending_call, process_of, processes_of, version_of};
-ghost use Rattle.ready_objects.specs.Book.{book, book_language};
-ghost use Rattle.ready_objects.specs.Directory.{directory, directory_language, pairs_text};
-ghost use Rattle.ready_objects.specs.Number.{numbers_text};
-ghost use Rattle.ready_objects.specs.Queue.{queue, queue_language};
-ghost use Rattle.ready_objects.specs.Sticky.{sticky, sticky_language, sticky_text};
-ghost use Rattle.unibench_run.specs.Any.{AreAnyJobs, AreAnyResults, HasAnyRun, HasClosed, IsAnyDoneOf, IsAnyJob};
+ghost use Rattle.unibench_run.specs.Any.{AreAnyDone, HasAnyRun, HasClosed, IsAnyDoneOf, IsAnyJob};
 ghost use Rattle.unibench_run.specs.Any.{IsAnyRun};
 ghost use Rattle.unibench_run.specs.Threads.{IsThreadsPlan, has_form};
 ghost use Rattle.unibench_run.specs.declared.request.Form.TheVariants.{Any};
 
 use crate::request::{Plan, ThreadsObject};
-use crate::threads::{Done, Job, ThreadsFault, all_done, jobs_of, parted};
+use crate::threads::{Done, Job, Seated, ThreadsFault, make_all_calls, parted};
 use crate::watch::Watch;
 use rand_core::SeedableRng;
 use rand_xoshiro::Xoshiro256PlusPlus;
 use ready_objects::{BookObject, DirectoryObject, QueueObject, Spoken, StickyObject};
 use seq_object::SeqObject;
 use std::alloc::{AllocError, Global};
-use std::thread;
 use std::thread::Threads;
 use told_order::{Counted, CountedState, InPlace, state_in_order};
 use uni_any::{AnyAnswer, AnyFault, AnyOpenFault, AnySeat, AnyShared};
@@ -89,6 +83,29 @@ fn make_any_calls<W: Watch, O: Spoken>(
     Ok(Done { seat, told })
 }
 
+impl<O: Spoken> Seated for AnyShared<Counted<O>> {
+    type Seat = AnySeat<Counted<O>>;
+
+    type Told = ToldOf<O>;
+
+    ghost is_job = { IsAnyJob };
+
+    ghost is_done = { λ shared. IsAnyDoneOf shared O.language.inv_of_word };
+
+    fn make_calls<W: Watch>(
+        &self,
+        watch: &W,
+        alloc: Global,
+        job: JobOn<O>,
+        calls: u64,
+    ) -> Result<DoneOn<O>, AllocError>
+        requires { IsAnyJob self.now calls job }
+        ensures { IfOk result (IsAnyDoneOf self.now O.language.inv_of_word calls job) }
+    {
+        make_any_calls(watch, alloc, self, job, calls)
+    }
+}
+
 /// Whether bytes are the same.
 fn same(one: &[u8], other: &[u8]) -> bool
     ensures { IsTrue result ↔ (one.now ≡ other.now) }
@@ -147,22 +164,18 @@ fn close_any<O: Spoken>(
     alloc: Global,
     object: &O,
     shared: AnyShared<Counted<O>>,
-    done: Vec<Result<DoneOn<O>, AllocError>>,
+    done: Vec<DoneOn<O>>,
     plan: &Plan,
 ) -> Result<Vec<Vec<ToldOf<O>>>, ThreadsFault>
     requires object { (object_of shared).object ≡ object.now }
     requires plan { IsThreadsPlan plan.now × (processes_of shared ≡ plan.now.processes) }
-    requires done { AreAnyResults shared O.language.inv_of_word plan.now.calls plan.now.seed done.items }
+    requires done { AreAnyDone shared O.language.inv_of_word plan.now.calls plan.now.seed done.items }
     ensures told { IfOk result (λ lists. IsAnyRun (O.sequential object.now) O.language.inv_of_word O.state_text
         plan.now.processes plan.now.calls plan.now.seed (map (λ own. own.items) lists.items)) }
     ensures others { (IsErrOf result ThreadsFault.NoSuchObject → ⊥)
         × (IsErrOf result ThreadsFault.CallsTooMany → ⊥) × (IsErrOf result ThreadsFault.Write → ⊥) }
     ensures audited { (verdict : Verdict) → IsErrOf result (ThreadsFault.Audit verdict) → ⊥ }
 {
-    let Ok(done) = all_done(alloc, done) else {
-        drop(shared);
-        return Err(ThreadsFault::Memory);
-    };
     let Ok((mut seats, lists)) = parted(alloc, done) else {
         drop(shared);
         return Err(ThreadsFault::Memory);
@@ -179,148 +192,35 @@ fn close_any<O: Spoken>(
     Ok(lists)
 }
 
-/// An object that counts its calls, and a job for each process of a plan.
-fn open_any<O: Spoken>(
+/// Makes the calls of a plan on an object, each seat's in a thread of its own where one can be made:
+/// the lists of what the threads were told, with which the object agrees.
+fn run_spoken<R: Threads + Watch + Sync, O: Spoken + Copy + Send + Sync>(
+    rt: &R,
     alloc: Global,
     object: O,
     plan: &Plan,
-) -> Result<(AnyShared<Counted<O>>, Vec<JobOn<O>>), ThreadsFault>
+) -> Result<Vec<Vec<ToldOf<O>>>, ThreadsFault>
+where
+    O::State: Send + Sync,
+    O::Inv: Send + Sync,
+    O::Resp: Send + Sync,
     requires plan { IsThreadsPlan plan.now }
-    ensures object { IfOk result (λ opened. (object_of opened.0).object ≡ object) }
-    ensures processes { IfOk result (λ opened. processes_of opened.0 ≡ plan.now.processes) }
-    ensures jobs { IfOk result (λ opened. AreAnyJobs opened.0 plan.now.calls plan.now.seed opened.1.items) }
-    ensures faults { (fault : ThreadsFault) → IsErrOf result fault → fault ≡ ThreadsFault.Memory }
+    ensures told { IfOk result (λ lists. IsAnyRun (O.sequential object) O.language.inv_of_word O.state_text
+        plan.now.processes plan.now.calls plan.now.seed (map (λ own. own.items) lists.items)) }
+    ensures others { (IsErrOf result ThreadsFault.NoSuchObject → ⊥)
+        × (IsErrOf result ThreadsFault.CallsTooMany → ⊥) × (IsErrOf result ThreadsFault.Write → ⊥) }
+    ensures audited { (verdict : Verdict) → IsErrOf result (ThreadsFault.Audit verdict) → ⊥ }
 {
     let (shared, seats) = match AnyShared::open(alloc, Counted { object }, plan.processes) {
         Ok(opened) => opened,
         Err(AnyOpenFault::Memory) => return Err(ThreadsFault::Memory),
         Err(AnyOpenFault::BadCount) => unreachable!(),
     };
-    let Ok(jobs) = jobs_of(alloc, seats, plan.seed) else {
+    let Ok(done) = make_all_calls(rt, alloc, &shared, seats, plan) else {
         drop(shared);
         return Err(ThreadsFault::Memory);
     };
-    Ok((shared, jobs))
-}
-
-/// Makes the calls of a plan on a queue, each seat's in a thread of its own where one can be made:
-/// the lists of what the threads were told, with which the queue agrees.
-fn run_queue<R: Threads + Watch + Sync>(
-    rt: &R,
-    alloc: Global,
-    plan: &Plan,
-) -> Result<Vec<Vec<ToldOf<QueueObject>>>, ThreadsFault>
-    requires plan { IsThreadsPlan plan.now }
-    ensures told { IfOk result (λ lists. IsAnyRun queue queue_language.inv_of_word numbers_text
-        plan.now.processes plan.now.calls plan.now.seed (map (λ own. own.items) lists.items)) }
-    ensures others { (IsErrOf result ThreadsFault.NoSuchObject → ⊥)
-        × (IsErrOf result ThreadsFault.CallsTooMany → ⊥) × (IsErrOf result ThreadsFault.Write → ⊥) }
-    ensures audited { (verdict : Verdict) → IsErrOf result (ThreadsFault.Audit verdict) → ⊥ }
-{
-    let (shared, jobs) = open_any(alloc, QueueObject, plan)?;
-    let calls = plan.calls;
-    let Ok(done) = thread::map_vec(
-        rt,
-        jobs,
-        &|job: JobOn<QueueObject>| -> Result<DoneOn<QueueObject>, AllocError>
-            requires { IsAnyJob shared calls job }
-            ensures { IfOk result (IsAnyDoneOf shared queue_language.inv_of_word calls job) }
-        { make_any_calls(rt, alloc, &shared, job, calls) },
-    ) else {
-        drop(shared);
-        return Err(ThreadsFault::Memory);
-    };
-    close_any(alloc, &QueueObject, shared, done, plan)
-}
-
-/// Makes the calls of a plan on a directory, each seat's in a thread of its own where one can be made:
-/// the lists of what the threads were told, with which the directory agrees.
-fn run_directory<R: Threads + Watch + Sync>(
-    rt: &R,
-    alloc: Global,
-    plan: &Plan,
-) -> Result<Vec<Vec<ToldOf<DirectoryObject>>>, ThreadsFault>
-    requires plan { IsThreadsPlan plan.now }
-    ensures told { IfOk result (λ lists. IsAnyRun directory directory_language.inv_of_word pairs_text
-        plan.now.processes plan.now.calls plan.now.seed (map (λ own. own.items) lists.items)) }
-    ensures others { (IsErrOf result ThreadsFault.NoSuchObject → ⊥)
-        × (IsErrOf result ThreadsFault.CallsTooMany → ⊥) × (IsErrOf result ThreadsFault.Write → ⊥) }
-    ensures audited { (verdict : Verdict) → IsErrOf result (ThreadsFault.Audit verdict) → ⊥ }
-{
-    let (shared, jobs) = open_any(alloc, DirectoryObject, plan)?;
-    let calls = plan.calls;
-    let Ok(done) = thread::map_vec(
-        rt,
-        jobs,
-        &|job: JobOn<DirectoryObject>| -> Result<DoneOn<DirectoryObject>, AllocError>
-            requires { IsAnyJob shared calls job }
-            ensures { IfOk result (IsAnyDoneOf shared directory_language.inv_of_word calls job) }
-        { make_any_calls(rt, alloc, &shared, job, calls) },
-    ) else {
-        drop(shared);
-        return Err(ThreadsFault::Memory);
-    };
-    close_any(alloc, &DirectoryObject, shared, done, plan)
-}
-
-/// Makes the calls of a plan on a book of accounts, each seat's in a thread of its own where one can be made:
-/// the lists of what the threads were told, with which the book agrees.
-fn run_book<R: Threads + Watch + Sync>(
-    rt: &R,
-    alloc: Global,
-    plan: &Plan,
-) -> Result<Vec<Vec<ToldOf<BookObject>>>, ThreadsFault>
-    requires plan { IsThreadsPlan plan.now }
-    ensures told { IfOk result (λ lists. IsAnyRun book book_language.inv_of_word numbers_text
-        plan.now.processes plan.now.calls plan.now.seed (map (λ own. own.items) lists.items)) }
-    ensures others { (IsErrOf result ThreadsFault.NoSuchObject → ⊥)
-        × (IsErrOf result ThreadsFault.CallsTooMany → ⊥) × (IsErrOf result ThreadsFault.Write → ⊥) }
-    ensures audited { (verdict : Verdict) → IsErrOf result (ThreadsFault.Audit verdict) → ⊥ }
-{
-    let (shared, jobs) = open_any(alloc, BookObject, plan)?;
-    let calls = plan.calls;
-    let Ok(done) = thread::map_vec(
-        rt,
-        jobs,
-        &|job: JobOn<BookObject>| -> Result<DoneOn<BookObject>, AllocError>
-            requires { IsAnyJob shared calls job }
-            ensures { IfOk result (IsAnyDoneOf shared book_language.inv_of_word calls job) }
-        { make_any_calls(rt, alloc, &shared, job, calls) },
-    ) else {
-        drop(shared);
-        return Err(ThreadsFault::Memory);
-    };
-    close_any(alloc, &BookObject, shared, done, plan)
-}
-
-/// Makes the calls of a plan on a sticky register, each seat's in a thread of its own where one can be made:
-/// the lists of what the threads were told, with which the register agrees.
-fn run_sticky<R: Threads + Watch + Sync>(
-    rt: &R,
-    alloc: Global,
-    plan: &Plan,
-) -> Result<Vec<Vec<ToldOf<StickyObject>>>, ThreadsFault>
-    requires plan { IsThreadsPlan plan.now }
-    ensures told { IfOk result (λ lists. IsAnyRun sticky sticky_language.inv_of_word sticky_text
-        plan.now.processes plan.now.calls plan.now.seed (map (λ own. own.items) lists.items)) }
-    ensures others { (IsErrOf result ThreadsFault.NoSuchObject → ⊥)
-        × (IsErrOf result ThreadsFault.CallsTooMany → ⊥) × (IsErrOf result ThreadsFault.Write → ⊥) }
-    ensures audited { (verdict : Verdict) → IsErrOf result (ThreadsFault.Audit verdict) → ⊥ }
-{
-    let (shared, jobs) = open_any(alloc, StickyObject, plan)?;
-    let calls = plan.calls;
-    let Ok(done) = thread::map_vec(
-        rt,
-        jobs,
-        &|job: JobOn<StickyObject>| -> Result<DoneOn<StickyObject>, AllocError>
-            requires { IsAnyJob shared calls job }
-            ensures { IfOk result (IsAnyDoneOf shared sticky_language.inv_of_word calls job) }
-        { make_any_calls(rt, alloc, &shared, job, calls) },
-    ) else {
-        drop(shared);
-        return Err(ThreadsFault::Memory);
-    };
-    close_any(alloc, &StickyObject, shared, done, plan)
+    close_any(alloc, &object, shared, done, plan)
 }
 
 /// Makes the calls of a plan on the object that it names: how many replies the threads were given.
@@ -337,10 +237,10 @@ pub(crate) fn run_any<R: Threads + Watch + Sync>(
     ensures audited { (verdict : Verdict) → IsErrOf result (ThreadsFault.Audit verdict) → ⊥ }
 {
     match plan.object {
-        ThreadsObject::Queue => drop(run_queue(rt, alloc, plan)?),
-        ThreadsObject::Directory => drop(run_directory(rt, alloc, plan)?),
-        ThreadsObject::Book => drop(run_book(rt, alloc, plan)?),
-        ThreadsObject::Sticky => drop(run_sticky(rt, alloc, plan)?),
+        ThreadsObject::Queue => drop(run_spoken(rt, alloc, QueueObject, plan)?),
+        ThreadsObject::Directory => drop(run_spoken(rt, alloc, DirectoryObject, plan)?),
+        ThreadsObject::Book => drop(run_spoken(rt, alloc, BookObject, plan)?),
+        ThreadsObject::Sticky => drop(run_spoken(rt, alloc, StickyObject, plan)?),
         _ => unreachable!(),
     }
     Ok(plan.processes * plan.calls)

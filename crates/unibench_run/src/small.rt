@@ -18,7 +18,7 @@ ghost use Rattle.unibench_run.specs.declared.request.Form.TheVariants.{Small};
 
 use crate::request::{Plan, ThreadsObject};
 use crate::small_calls::DrawnCalls;
-use crate::threads::{Done, Job, ThreadsFault, all_done, jobs_of, parted};
+use crate::threads::{Done, Job, Seated, ThreadsFault, make_all_calls, parted};
 use crate::watch::Watch;
 use rand_core::SeedableRng;
 use rand_xoshiro::Xoshiro256PlusPlus;
@@ -28,7 +28,6 @@ use small_objects::{
     SmallScriptQueue, SmallStack, Words, replay,
 };
 use std::alloc::{AllocError, Global};
-use std::thread;
 use std::thread::Threads;
 use told_order::{InPlace, ReplayFault};
 use uni_record::Verdict;
@@ -103,6 +102,29 @@ fn make_small_calls<W: Watch, O: DrawnCalls>(
         watch.made();
     }
     Ok(Done { seat, told })
+}
+
+impl<O: DrawnCalls> Seated for SmallShared<Placed<O>> {
+    type Seat = SmallSeat<Placed<O>>;
+
+    type Told = (O::Call, InPlace<O::Reply>);
+
+    ghost is_job = { λ shared. IsSmallJob shared O.Call.words O.Reply.words };
+
+    ghost is_done = { λ shared. IsSmallDoneOf shared O.Call.encode O.Reply.decode O.call_of_word };
+
+    fn make_calls<W: Watch>(
+        &self,
+        watch: &W,
+        alloc: Global,
+        job: Job<SmallSeat<Placed<O>>>,
+        calls: u64,
+    ) -> Result<Done<SmallSeat<Placed<O>>, (O::Call, InPlace<O::Reply>)>, AllocError>
+        requires { IsSmallJob self.now O.Call.words O.Reply.words calls job }
+        ensures { IfOk result (IsSmallDoneOf self.now O.Call.encode O.Reply.decode O.call_of_word calls job) }
+    {
+        make_small_calls(watch, alloc, self, job, calls)
+    }
 }
 
 /// Closes an object with these seats, and makes the calls of these lists again on the plain object, in the order that
@@ -189,20 +211,7 @@ where
         Err(SmallOpenFault::Memory) => return Err(ThreadsFault::Memory),
         Err(_) => unreachable!(),
     };
-    let jobs = jobs_of(alloc, seats, plan.seed)?;
-    let calls = plan.calls;
-    let done = thread::map_vec(
-        rt,
-        jobs,
-        &|job: Job<SmallSeat<Placed<O>>>| -> Result<
-            Done<SmallSeat<Placed<O>>, (O::Call, InPlace<O::Reply>)>,
-            AllocError,
-        >
-            requires { IsSmallJob shared O.Call.words O.Reply.words calls job }
-            ensures { IfOk result (IsSmallDoneOf shared O.Call.encode O.Reply.decode O.call_of_word calls job) }
-        { make_small_calls(rt, alloc, &shared, job, calls) },
-    )?;
-    let done = all_done(alloc, done)?;
+    let done = make_all_calls(rt, alloc, &shared, seats, plan)?;
     close_small(alloc, &object, shared, done, plan)
 }
 

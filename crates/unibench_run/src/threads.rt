@@ -8,10 +8,12 @@ ghost use Rattle.uni_words.specs.Compare.{Agrees, IsFirstFault};
 ghost use Rattle.uni_words.specs.Log.{entry_shown};
 ghost use Rattle.unibench_run.specs.Draws.{seed_of};
 ghost use Rattle.unibench_run.specs.Statuses.{status_of_threads};
-ghost use Rattle.unibench_run.specs.Threads.{AreDone, AreTold, IsCounted, IsDoneOf, IsJob, are_too_many, events_of};
-ghost use Rattle.unibench_run.specs.Threads.{has_form};
+ghost use Rattle.unibench_run.specs.Threads.{AreDone, AreJobsDone, AreTold, IsCounted, IsDoneOf, IsJob, IsJobOf};
+ghost use Rattle.unibench_run.specs.Threads.{are_too_many, events_of, has_form};
 ghost use Rattle.unibench_run.specs.Threads.{IsRunOfThreads, IsThreadsPlan};
 ghost use Rattle.unibench_run.specs.Threads.{agrees_line, line_of_fault, refusal_of, text_of_fault, told_to};
+ghost use Rattle.unibench_run.specs.declared.threads.Done.{Done};
+ghost use Rattle.unibench_run.specs.declared.threads.Job.{Job};
 
 use crate::any::run_any;
 use crate::lock::{MOST_EVENTS, events_of, run_under_lock};
@@ -148,6 +150,65 @@ pub(crate) struct Done<S: Drop, A: Drop> {
     pub(crate) told: Vec<A>,
 }
 
+/// An object on which threads make calls, each by a seat of its own.
+pub(crate) trait Seated: Drop {
+    /// A seat.
+    type Seat: Drop;
+
+    /// A call, with what was told of it.
+    type Told: Drop;
+
+    /// The job's seat is one of the object's, and can make so many calls.
+    ghost is_job: { Self → (calls : ℕ) → Job Self.Seat → Type 0 };
+
+    /// It has made them, as they are drawn from its seed, and what it was told is listed.
+    ghost is_done: { Self → (calls : ℕ) → Job Self.Seat → Done Self.Seat Self.Told → Type 0 };
+
+    /// Makes so many calls by a seat, those that the words of its seed stand for, one word a call.
+    ///
+    /// An `Err` says that memory was refused.
+    fn make_calls<W: Watch>(
+        &self,
+        watch: &W,
+        alloc: Global,
+        job: Job<Self::Seat>,
+        calls: u64,
+    ) -> Result<Done<Self::Seat, Self::Told>, AllocError>
+        requires { is_job self.now calls job }
+        ensures { IfOk result (is_done self.now calls job) };
+}
+
+/// Makes the calls of a plan on an object, each seat's in a thread of its own where one can be made: what came of
+/// each, in order. The first seat's calls are drawn from the seed of the plan, each further one's from the next.
+///
+/// An `Err` says that memory was refused, to a thread or here.
+pub(crate) fn make_all_calls<R: Threads + Watch + Sync, C: Seated + Sync>(
+    rt: &R,
+    alloc: Global,
+    shared: &C,
+    seats: Vec<C::Seat>,
+    plan: &Plan,
+) -> Result<Vec<Done<C::Seat, C::Told>>, AllocError>
+where
+    C::Seat: Send,
+    C::Told: Send,
+    requires { (p : ℕ) (job : _) → IsJobOf seats.items plan.now.seed p job → C.is_job shared.now plan.now.calls job }
+    ensures { IfOk result (λ done. AreJobsDone (C.is_done shared.now plan.now.calls) seats.items plan.now.seed
+        done.items) }
+{
+    let jobs = jobs_of(alloc, seats, plan.seed)?;
+    let calls = plan.calls;
+    let done = thread::map_vec(
+        rt,
+        jobs,
+        &|job: Job<C::Seat>| -> Result<Done<C::Seat, C::Told>, AllocError>
+            requires { C.is_job shared.now calls job }
+            ensures { IfOk result (C.is_done shared.entry.now calls job) }
+        { shared.make_calls(rt, alloc, job, calls) },
+    )?;
+    all_done(alloc, done)
+}
+
 /// Makes so many calls by a seat, with invocations below 1000 that are drawn: one word a call.
 fn make_calls<W: Watch, O: WordObject>(
     watch: &W,
@@ -172,6 +233,29 @@ fn make_calls<W: Watch, O: WordObject>(
         watch.made();
     }
     Ok(Done { seat, told })
+}
+
+impl<O: WordObject> Seated for WordLog<O> {
+    type Seat = WordSeat;
+
+    type Told = (u64, u32);
+
+    ghost is_job = { λ log calls job. IsJob log job × (calls ≡ row_of log) };
+
+    ghost is_done = { λ log calls job. IsDoneOf log job };
+
+    fn make_calls<W: Watch>(
+        &self,
+        watch: &W,
+        alloc: Global,
+        job: Job<WordSeat>,
+        calls: u64,
+    ) -> Result<Done<WordSeat, (u64, u32)>, AllocError>
+        requires { IsJob self.now job × (calls ≡ row_of self.now) }
+        ensures { IfOk result (IsDoneOf self.now job) }
+    {
+        make_calls(watch, alloc, self, job, calls)
+    }
 }
 
 /// The seats, and what their threads were told, in order.
@@ -285,17 +369,7 @@ fn run_on_words<R: Threads + Watch + Sync, O: WordObject + Copy + Sync>(
     let Ok((log, seats)) = WordLog::open(alloc, object, plan.processes, plan.calls) else {
         return Err(ThreadsFault::Memory);
     };
-    let jobs = jobs_of(alloc, seats, plan.seed)?;
-    let calls = plan.calls;
-    let done = thread::map_vec(
-        rt,
-        jobs,
-        &|job: Job<WordSeat>| -> Result<Done<WordSeat, (u64, u32)>, AllocError>
-            requires { IsJob log job × (calls ≡ row_of log) }
-            ensures { IfOk result (IsDoneOf log job) }
-        { make_calls(rt, alloc, &log, job, calls) },
-    )?;
-    let done = all_done(alloc, done)?;
+    let done = make_all_calls(rt, alloc, &log, seats, plan)?;
     close_words(alloc, &object, log, done, plan)
 }
 

@@ -1,50 +1,40 @@
-use Rattle.unibench_run.proofs.Vocabulary.{All, All-map, All-same, IsThreadsPlan, Job, List, SeatOf, [], ap, arith, first_seat, length, length-map, length-map-range_with_len, map, range_with_len, refl, subst, sym, ℕ, ◌*◌, ◌∙◌, ◌≡◌, ◌≤◌}
-use Rattle.unibench_run.proofs.Jobs.{All-of_map}
-use Rattle.unibench_run.proofs.Locked.{all_called, locked_run, no_more, on_ok_of, seat_of}
+use Rattle.unibench_run.proofs.Vocabulary.{IfOk, IsThreadsPlan, MakesCalls, ap, arith, length, ◌*◌, ◌∙◌, ◌≤◌}
+use Rattle.unibench_run.proofs.Jobs.{job_at, jobs_done}
+use Rattle.unibench_run.proofs.Locked.{all_called, first_at, locked_run, no_more, on_ok_of}
 use Rattle.unibench_run.proofs.lock.run_under_lock.Goals as goal
 
--- no seat has a receipt yet
-fresh : {I R : Type 0} (n : ℕ) (seats : List (SeatOf I R)) → seats ≡ map (first_seat n) (range_with_len 0 n) → All (λ (seat : SeatOf I R). seat.receipts ≡ []) seats
-fresh {I = I} {R = R} n seats are =
-    let P : SeatOf I R → Type 0 = λ seat. seat.receipts ≡ [] in
-    All-same P seats _ are (All-map P (first_seat n) (range_with_len 0 n) (λ k d lt. refl))
-
 pub map_vec-requires-after_bounds : goal.map_vec-requires-after_bounds
-map_vec-requires-after_bounds g c κs within = λ i job below at.
-    let P : SeatOf g.row.O-Inv.Denot g.row.O-Resp.Denot → Type 0 = λ seat. seat.receipts ≡ [] in
-    let seats = fresh c.args.plan.now.processes _ c.in-Ok.ensures.seats in
-    let jobs = All-of_map P seat_of c.in_ok-jobs.jobs.items (All-same P _ _ c.in_ok-jobs.ensures.seats seats) in
-    subst (λ (j : Job (SeatOf g.row.O-Inv.Denot g.row.O-Resp.Denot)). P j.seat) (sym at) (jobs i job below)
+map_vec-requires-after_bounds g c κs within = λ p job below here.
+    let seed = c.args.plan.now.seed in
+    let is = job_at seed _ c.in_ok-jobs.jobs.items c.in_ok-jobs.ensures.seats c.in_ok-jobs.ensures.seeds p job below here in
+    ap (λ s. s.receipts) (first_at c.args.plan.now.processes seed p _ c.in-Ok.ensures.seats job is)
 
 pub close_and_audit-requires : goal.close_and_audit-requires
 close_and_audit-requires g c =
     let processes = c.args.plan.now.processes in
+    let calls = c.args.plan.now.calls in
     let read = g.O.Spoken.language.inv_of_word in
-    let opened = ap length c.in-Ok.ensures.seats ∙ length-map-range_with_len (first_seat processes) 0 processes in
-    let long : length c.in_ok-jobs.jobs.items ≡ processes = sym (length-map c.in_ok-jobs.jobs.items seat_of) ∙ ap length c.in_ok-jobs.ensures.seats ∙ opened in
-    let are = all_called read processes c.args.plan.now.calls c.args.plan.now.seed c.in_ok-jobs.jobs.items (c.in_ok-jobs.ensures.seats ∙ c.in-Ok.ensures.seats) c.in_ok-jobs.ensures.seeds long
-    c.in_ok-done.done.items c.in_ok-seats.seats.items c.in_ok-seats.ensures
+    let seats = c.in_ok-seats.seats.items in
+    let done = jobs_done c.args.plan.now.seed _ c.in_ok-jobs.jobs.items c.in_ok-jobs.ensures.seats c.in_ok-jobs.ensures.seeds
+    (λ job one. IfOk one (MakesCalls read job calls)) c.in_ok-done.done.items seats c.in_ok-seats.ensures
     (let len = c.in_ok-done.ensures.len in let a = c.in_ok-done.done.ok.0 in let b = c.in_ok-jobs.jobs.ok.0 in omega arith)
     (λ p d below. let one = (c.in_ok-done.ensures.each p d below).1 in (one.job, one.job_read, one.call.met)) in
+    let are = all_called read processes calls c.args.plan.now.seed _ seats c.in-Ok.ensures.seats done in
     let plan : IsThreadsPlan c.args.plan.now = c.requires.plan in
-    let few : length c.in_ok-seats.seats.items ≤ 64 = (let many = are.many in let most = plan.1 in omega arith) in
-    record {
-      few = (few, c.requires.room.0);
-      no_more = no_more read processes c.args.plan.now.calls c.args.plan.now.seed c.in_ok-seats.seats.items are;
-    }
+    let few : length seats ≤ 64 = (let many = are.many in let most = plan.1 in omega arith) in
+    record { few = (few, c.requires.room.0); no_more = no_more read processes calls c.args.plan.now.seed seats are }
 
 pub returns-clause-run : goal.returns-clause-run
 returns-clause-run g c =
     let processes = c.args.plan.now.processes in
+    let calls = c.args.plan.now.calls in
     let read = g.O.Spoken.language.inv_of_word in
-    let opened = ap length c.in-Ok.ensures.seats ∙ length-map-range_with_len (first_seat processes) 0 processes in
-    let long : length c.in_ok-jobs.jobs.items ≡ processes = sym (length-map c.in_ok-jobs.jobs.items seat_of) ∙ ap length c.in_ok-jobs.ensures.seats ∙ opened in
-    let are = all_called read processes c.args.plan.now.calls c.args.plan.now.seed c.in_ok-jobs.jobs.items (c.in_ok-jobs.ensures.seats ∙ c.in-Ok.ensures.seats) c.in_ok-jobs.ensures.seeds long
-    c.in_ok-done.done.items c.in_ok-seats.seats.items c.in_ok-seats.ensures
+    let seats = c.in_ok-seats.seats.items in
+    let done = jobs_done c.args.plan.now.seed _ c.in_ok-jobs.jobs.items c.in_ok-jobs.ensures.seats c.in_ok-jobs.ensures.seeds
+    (λ job one. IfOk one (MakesCalls read job calls)) c.in_ok-done.done.items seats c.in_ok-seats.ensures
     (let len = c.in_ok-done.ensures.len in let a = c.in_ok-done.done.ok.0 in let b = c.in_ok-jobs.jobs.ok.0 in omega arith)
     (λ p d below. let one = (c.in_ok-done.ensures.each p d below).1 in (one.job, one.job_read, one.call.met)) in
-    let seats = c.in_ok-seats.seats.items in
-    let calls = c.args.plan.now.calls in
+    let are = all_called read processes calls c.args.plan.now.seed _ seats c.in-Ok.ensures.seats done in
     on_ok_of c.close_and_audit.result c.close_and_audit.ensures.replies c.close_and_audit.ensures.each c.close_and_audit.ensures.closed
     (λ replies is whole run. (
       is ∙ ap (λ n. n * calls) are.many,
