@@ -1,5 +1,5 @@
 -- What words ask for has numbers that are in range.
-use Rattle.unibench_run.proofs.Vocabulary.{Bool, Explained, IsHistory, IsPlan, IsThreadsPlan, Language, List, None, Option, Plan, Random, Replay, Request, Row, Some, Text, Threads, ap, codes, echo_in, false, first_of, form_named, if◌then◌else◌, number_in, object_named, object_of_word, option_and_then, option_map, options_of, plan_of, plan_with, random_of, random_with, refl, replay_in, request_in, subject_of, subst, sym, true, value_in-range, value_of, ℕ, ◌∙◌, ◌≡◌, ◌≤◌}
+use Rattle.unibench_run.proofs.Vocabulary.{Bool, Explained, IsHistoryLimit, IsPlan, IsThreadsPlan, Language, List, None, Option, Plan, Random, Replay, Request, Row, Some, Text, Threads, ap, codes, echo_in, false, first_of, form_named, if◌then◌else◌, number_in, object_named, object_of_word, option_and_then, option_map, options_of, plan_of, plan_with, random_of, random_with, refl, replay_in, request_in, subject_of, subst, sym, true, value_in-range, value_of, ℕ, ◌∙◌, ◌≡◌, ◌≤◌}
 use Rattle.std.specs.Str.{bytes_eq}
 use Rattle.std.specs.Str.Parse.{without_leading_plus}
 use Rattle.uni_script.specs.declared.options.Options.{Options}
@@ -54,15 +54,15 @@ plan_of-IsThreadsPlan rows plan is =
     plan_with-IsThreadsPlan (value_of form_named (codes "form") rows) (value_of object_named (codes "object") rows) _ _ _ plan
     (read-range 1 64 (first_of (codes "processes") rows)) (read-range 1 10000000 (first_of (codes "calls") rows)) is
 
-options_of-IsHistory : (rows : List Row) (options : Options) → options_of rows ≡ Some options → IsHistory options.history
-options_of-IsHistory rows options is = at (value_of (number_in 1 16777216) (codes "history") rows) (read-range 1 16777216 (first_of (codes "history") rows)) is
+options_of-IsHistoryLimit : (rows : List Row) (options : Options) → options_of rows ≡ Some options → IsHistoryLimit options.history
+options_of-IsHistoryLimit rows options is = at (value_of (number_in 1 16777216) (codes "history") rows) (read-range 1 16777216 (first_of (codes "history") rows)) is
   where
-    at : (o : Option ℕ) → ((n : ℕ) → o ≡ Some n → (1 ≤ n) × (n ≤ 16777216)) → option_map (λ h. record { history = h; echo = echo_in rows }) o ≡ Some options → IsHistory options.history
+    at : (o : Option ℕ) → ((n : ℕ) → o ≡ Some n → (1 ≤ n) × (n ≤ 16777216)) → option_map (λ h. record { history = h; echo = echo_in rows }) o ≡ Some options → IsHistoryLimit options.history
     at None range e = absurd (let bad : None ≡ Some options = e in cc)
     at (Some n) range e =
         let of : Options = record { history = n; echo = echo_in rows } in
         let same : of ≡ options = (let some : Some of ≡ Some options = e in cc) in
-        subst (λ (p : Options). IsHistory p.history) same (range n refl)
+        subst (λ (p : Options). IsHistoryLimit p.history) same (range n refl)
 
 -- what is asked for by the name of the subcommand
 abbrev asked_by : (rows : List Row) (random threads language : Bool) → Option Request
@@ -107,24 +107,24 @@ IsPlan-asked (Some (name, rows)) plan e = elim (asked-cases name rows (Random pl
   | by_explained o is same ↦ absurd (let bad : Explained o ≡ Random plan = same in cc)
 ]
 
-pub IsHistory-asked : (o : Option (Text × List Row)) (options : Options) → request_in o ≡ Some (Replay options) → IsHistory options.history
-IsHistory-asked None options e = absurd (let bad : None ≡ Some (Replay options) = e in cc)
-IsHistory-asked (Some (name, rows)) options e = elim (asked-cases name rows (Replay options) e) [
+pub IsHistoryLimit-asked : (o : Option (Text × List Row)) (options : Options) → request_in o ≡ Some (Replay options) → IsHistoryLimit options.history
+IsHistoryLimit-asked None options e = absurd (let bad : None ≡ Some (Replay options) = e in cc)
+IsHistoryLimit-asked (Some (name, rows)) options e = elim (asked-cases name rows (Replay options) e) [
   | by_random p is same ↦ absurd (let bad : Random p ≡ Replay options = same in cc)
   | by_threads p is same ↦ absurd (let bad : Threads p ≡ Replay options = same in cc)
   | by_language o same ↦ absurd (let bad : Language o ≡ Replay options = same in cc)
-  | by_replay o is same ↦ options_of-IsHistory rows options (is ∙ ap Some (let it : o ≡ options = cc in it))
+  | by_replay o is same ↦ options_of-IsHistoryLimit rows options (is ∙ ap Some (let it : o ≡ options = cc in it))
   | by_explained o is same ↦ absurd (let bad : Explained o ≡ Replay options = same in cc)
 ]
 
-pub IsHistory-explained : (o : Option (Text × List Row)) (options : Options) → request_in o ≡ Some (Explained options) → IsHistory options.history
-IsHistory-explained None options e = absurd (let bad : None ≡ Some (Explained options) = e in cc)
-IsHistory-explained (Some (name, rows)) options e = elim (asked-cases name rows (Explained options) e) [
+pub IsHistoryLimit-explained : (o : Option (Text × List Row)) (options : Options) → request_in o ≡ Some (Explained options) → IsHistoryLimit options.history
+IsHistoryLimit-explained None options e = absurd (let bad : None ≡ Some (Explained options) = e in cc)
+IsHistoryLimit-explained (Some (name, rows)) options e = elim (asked-cases name rows (Explained options) e) [
   | by_random p is same ↦ absurd (let bad : Random p ≡ Explained options = same in cc)
   | by_threads p is same ↦ absurd (let bad : Threads p ≡ Explained options = same in cc)
   | by_language o same ↦ absurd (let bad : Language o ≡ Explained options = same in cc)
   | by_replay o is same ↦ absurd (let bad : Replay o ≡ Explained options = same in cc)
-  | by_explained o is same ↦ options_of-IsHistory rows options (is ∙ ap Some (let it : o ≡ options = cc in it))
+  | by_explained o is same ↦ options_of-IsHistoryLimit rows options (is ∙ ap Some (let it : o ≡ options = cc in it))
 ]
 
 pub IsThreadsPlan-asked : (o : Option (Text × List Row)) (plan : Plan) → request_in o ≡ Some (Threads plan) → IsThreadsPlan plan

@@ -4,7 +4,7 @@ ghost use Rattle.std.specs.Prelude.{◌≡◌, ◌≢◌, ◌≤◌, ◌⊎◌, 
 ghost use Rattle.std.specs.Prelude.{IsErrOf, OnOk, OnErr, map};
 ghost use Rattle.std.specs.Io.KnownBytes.{Appends};
 ghost use Rattle.uni_script.specs.Ends.{AppendsPrefix};
-ghost use Rattle.uni_record.specs.Recorded.{IsHistory};
+ghost use Rattle.uni_record.specs.Recorded.{IsHistoryLimit};
 ghost use Rattle.unibench_run.specs.CommandLine.{AsksFor, AsksForReplay, IsRefused};
 ghost use Rattle.uni_script.specs.Schedules.{IsPlan};
 ghost use Rattle.unibench_run.specs.Runs.{IsRandomRun, IsReplayRun, IsRunOf, IsStatusOfEnds, IsThreadsRun};
@@ -182,7 +182,7 @@ fn replay<I: TextIn, O: TextOut, F: TextOut>(
     output: &mut O,
     faults: &mut F,
 ) -> u8
-    requires history { IsHistory options.now.history }
+    requires history { IsHistoryLimit options.now.history }
     requires input { I.has_failed input.old ≡ false }
     requires output { O.has_failed output.old ≡ false }
     ensures statuses { (result ≤ 4) × (result ≢ 1) }
@@ -212,7 +212,7 @@ fn replay_explained<I: KeepsText, O: TextOut, F: TextOut>(
     output: &mut O,
     faults: &mut F,
 ) -> u8
-    requires history { IsHistory options.now.history }
+    requires history { IsHistoryLimit options.now.history }
     requires input { I.has_failed input.old ≡ false }
     requires output { O.has_failed output.old ≡ false }
     ensures statuses { (result ≤ 4) × (result ≢ 1) }

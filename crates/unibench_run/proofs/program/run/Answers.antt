@@ -1,14 +1,14 @@
 use Rattle.unibench_run.proofs.Vocabulary.{Explained, HasKind, IsRunOf, IsThreadsPlan, Language, Random, Replay, Some, Threads, [], asked_of, faults_of_words, inl, inr, map, rules, subcommand_of, subst, sym, unibench, ◌≡◌}
 use Rattle.clap.specs.declared.error.kind.ErrorKind.TheVariants.{DisplayHelp, DisplayVersion}
 use Rattle.command_line.proofs.ErrorKinds.{memory_of, not_of_kind}
-use Rattle.unibench_run.proofs.RandomPlans.{IsHistory-asked, IsHistory-explained, IsPlan-asked, IsThreadsPlan-asked}
+use Rattle.unibench_run.proofs.RandomPlans.{IsHistoryLimit-asked, IsHistoryLimit-explained, IsPlan-asked, IsThreadsPlan-asked}
 use Rattle.unibench_run.proofs.RunCases.{run_of_asked, run_of_memory, told_by_memory, told_of_asked}
 use Rattle.unibench_run.proofs.program.run.Goals as goal
 
 pub replay-requires-clause-history : goal.replay-requires-clause-history
 replay-requires-clause-history g c =
     let asked : asked_of (map g.S.AsStr.text c.args.words.now) ≡ Some (Replay c.in-Ok-Some-Replay.options) = search rules in
-    IsHistory-asked (subcommand_of unibench (map g.S.AsStr.text c.args.words.now)) c.in-Ok-Some-Replay.options asked
+    IsHistoryLimit-asked (subcommand_of unibench (map g.S.AsStr.text c.args.words.now)) c.in-Ok-Some-Replay.options asked
 
 pub returns-in-Ok-Some-Replay-clause-asked : goal.returns-in-Ok-Some-Replay-clause-asked
 returns-in-Ok-Some-Replay-clause-asked g c = λ r asks.
@@ -35,7 +35,7 @@ returns-in-Ok-Some-Replay-clause-refused g c = λ none.
 pub replay_explained-requires-clause-history : goal.replay_explained-requires-clause-history
 replay_explained-requires-clause-history g c =
     let asked : asked_of (map g.S.AsStr.text c.args.words.now) ≡ Some (Explained c.in-Ok-Some-Explained.options) = search rules in
-    IsHistory-explained (subcommand_of unibench (map g.S.AsStr.text c.args.words.now)) c.in-Ok-Some-Explained.options asked
+    IsHistoryLimit-explained (subcommand_of unibench (map g.S.AsStr.text c.args.words.now)) c.in-Ok-Some-Explained.options asked
 
 pub returns-in-Ok-Some-Explained-clause-asked : goal.returns-in-Ok-Some-Explained-clause-asked
 returns-in-Ok-Some-Explained-clause-asked g c = λ r asks.
