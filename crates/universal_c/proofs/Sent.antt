@@ -16,9 +16,9 @@ use Rattle.uni_words.proofs.read.WordEntry.TheSendSync as entry
 use Rattle.universal_c.specs.contracts.held.Held as Held
 use Rattle.universal_c.proofs.held.Opened.TheSendSync as opened
 use Rattle.universal_c.proofs.held.Seated.TheSendSync as seated
-use Rattle.universal_c.proofs.small.SmallOpened.TheSendSync as small
-use Rattle.universal_c.proofs.small.SmallPlace.TheSendSync as place
-use Rattle.universal_c.proofs.small.SmallLeft.TheSendSync as left
+use Rattle.universal_c.proofs.held.SmallOpened.TheSendSync as small
+use Rattle.universal_c.proofs.held.SmallPlace.TheSendSync as place
+use Rattle.universal_c.proofs.held.SmallLeft.TheSendSync as left
 
 room : (τ : Ty) (p : Ptr) → Keyless (room_for τ p)
 room τ (block_ptr b o) = tt

@@ -3,16 +3,17 @@ use Rattle.std.specs.Prelude.{All, ◌≡◌, ℕ, ◌+◌, ◌*◌, ◌≤◌, 
 use Rattle.std.specs.declared.option.Option.{Option}
 use Rattle.std.specs.declared.option.Option.TheVariants.{None, Some}
 use Rattle.seq_object.specs.History.{IsLegal}
+use Rattle.seq_object.specs.declared.call_id.CallId.{CallId}
 use Rattle.uni_model.specs.Chain.{Entry}
 use Rattle.uni_model.specs.History.{logged_call}
 use Rattle.uni_words.specs.declared.log.WordLog.{WordLog}
 use Rattle.uni_words.specs.declared.seat.WordSeat.{WordSeat}
 use Rattle.uni_words.specs.declared.read.WordEntry.{WordEntry}
 use Rattle.uni_words.specs.Belongs.{object_of, own_calls, calls_made, calls_of, known_calls, latest_turns, process_of, processes_of, row_of}
-use Rattle.uni_words.specs.Belongs.{log_in as log_told, seen_by, word_steps_of}
+use Rattle.uni_words.specs.Belongs.{IsCallOf, KnowsCall, log_in as log_told, seen_by, word_steps_of}
 use Rattle.uni_words.specs.Log.{AreAnswered, AreCallsOf, IsInOrder, IsLogged, entry_shown}
 use Rattle.uni_words.specs.Run.{IsLogOfRun}
-use Rattle.universal_c.specs.Asks.{AsksOf}
+use Rattle.uni_words.specs.View.{seen_of, told_by}
 use Rattle.universal_c.specs.Meaning.{meaning}
 use Rattle.universal_c.specs.declared.object.Object.{Object}
 use Rattle.universal_c.specs.declared.held.Held.{Held}
@@ -70,6 +71,16 @@ HasCalled old new inv reply turns = IsSomeAnd (log_in old) (λ log. IsSomeAnd (s
     (process_of t ≡ process_of s) × (own_calls t ≡ own_calls s ++ (inv, reply) ∷ [])
     × (calls_made t ≡ calls_made s + 1) × (latest_turns t ≡ turns)
     × (word_steps_of t ≤ word_steps_of s + (12 * processes_of log + 15)))))
+
+-- The same seat, which has asked about the call: it has seen what the number tells, 1 or 0. Of one that the log has no room for that
+-- is 0, and nothing has changed; each other one costs a word step, and one that the seat knows is there.
+pub record AsksOf {O : Type 0} (log : WordLog O) (s t : WordSeat) (call : CallId) (number : ℕ) : Type 0 where
+  pub few : number ≤ 1
+  pub calls : calls_of t ≡ calls_of s
+  pub seen : seen_by t ≡ seen_by s ++ seen_of (calls_of s) (told_by call number)
+  pub outside : ¬ (IsCallOf log call) → (number ≡ 0) × (t ≡ s)
+  pub steps : IsCallOf log call → word_steps_of t ≡ word_steps_of s + 1
+  pub known : IsCallOf log call → KnowsCall s call → number ≡ 1
 
 -- the same seat, which has asked about the call
 abbrev pub HasAsked : (old new : Option Held) (process nth number : ℕ) → Type 0

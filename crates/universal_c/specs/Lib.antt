@@ -1,4 +1,3 @@
-pub mod Asks
 pub mod Calls
 pub mod Meaning
 pub mod Owned

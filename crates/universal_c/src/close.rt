@@ -9,10 +9,11 @@ ghost use Rattle.universal_c.specs.Told.{told};
 
 use crate::Entry;
 use crate::handle::Handle;
-use crate::held::Held;
+use crate::held::{Held, Seated};
 use crate::status::{BUSY, DONE, MEMORY, WRONG_HANDLE};
 use std::alloc::Global;
 use std::mem::replace;
+use std::sync::Arc;
 use uni_words::{WordEntry, Words, read_log};
 
 /// Reads the calls of a closed log.
@@ -34,35 +35,6 @@ fn read_closed(alloc: Global, words: Words, held: &mut Held) -> u32
     }
 }
 
-fn close_in(alloc: Global, held: &mut Held) -> u32
-    ensures wrong { (result ≡ 7) ↔ ((seat_in (Some held.old) ≡ None) × (unread_in (Some held.old) ≡ None)) }
-    ensures status { (result ≡ 0) ⊎ (result ≡ 3) ⊎ (result ≡ 6) ⊎ (result ≡ 7) }
-    ensures kept { result ≡ 7 → held.new ≡ held.old }
-    ensures busy { result ≡ 6 → IsSome (seat_in (Some held.new))
-        × (seat_in (Some held.new) ≡ seat_in (Some held.old))
-        × (log_in (Some held.new) ≡ log_in (Some held.old)) }
-    ensures closed { IsSome (seat_in (Some held.old)) → (result ≡ 0) ⊎ (result ≡ 3)
-        → HasClosed (Some held.old) (Some held.new) }
-    ensures again { IsSome (unread_in (Some held.old)) → closed_in (Some held.new) ≡ closed_in (Some held.old) }
-    ensures read { result ≡ 0 → IsSome (entries_in (Some held.new)) }
-    ensures unread { result ≡ 3 → IsSome (unread_in (Some held.new)) }
-{
-    match replace(held, Held::Nothing) {
-        Held::Seat(seated) => match seated.close() {
-            Ok(words) => read_closed(alloc, words, held),
-            Err(seated) => {
-                *held = Held::Seat(seated);
-                BUSY
-            }
-        },
-        Held::Closed(words) => read_closed(alloc, words, held),
-        other => {
-            *held = other;
-            WRONG_HANDLE
-        }
-    }
-}
-
 /// Closes the log of a seat, by the last handle that has the log, and reads its entries.
 /// 0: the entries are held in place of the seat. 3: memory was refused; the log is closed, and is held in place of
 /// the seat: a further call reads the entries. 6: another handle has the log. 7: neither a seat nor such a log is
@@ -80,14 +52,25 @@ pub extern "C" fn universal_close(alloc: Global, seat: &mut Handle) -> u32
     ensures read { result ≡ 0 → IsSome (entries_in seat.new.value) }
     ensures unread { result ≡ 3 → IsSome (unread_in seat.new.value) }
 {
-    match replace(seat, Handle::empty(alloc)).into_box() {
-        Some(mut held) => {
-            let status = close_in(alloc, &mut held);
-            *seat = Handle::of(held);
-            status
+    let Some(mut held) = seat.take(alloc) else {
+        return WRONG_HANDLE;
+    };
+    let status = match replace(&mut *held, Held::Nothing) {
+        Held::Seat(Seated { log, seat: last }) => match Arc::try_unwrap(log) {
+            Ok(log) => read_closed(alloc, log.close_with(last), &mut held),
+            Err(log) => {
+                *held = Held::Seat(Seated { log, seat: last });
+                BUSY
+            }
+        },
+        Held::Closed(words) => read_closed(alloc, words, &mut held),
+        other => {
+            *held = other;
+            WRONG_HANDLE
         }
-        None => WRONG_HANDLE,
-    }
+    };
+    *seat = Handle::of(held);
+    status
 }
 
 fn entry_of(entry: &WordEntry) -> Entry
@@ -119,23 +102,6 @@ fn read(log: &[WordEntry], entries: &mut [Entry], count: &mut usize)
     }
 }
 
-fn read_in(held: &Held, entries: &mut [Entry], count: &mut usize) -> u32
-    ensures wrong { (result ≡ 7) ↔ (entries_in (Some held.now) ≡ None) }
-    ensures status { (result ≡ 0) ⊎ (result ≡ 7) }
-    ensures unchanged { result ≢ 0 → (entries.new ≡ entries.old) × (count.new ≡ count.old) }
-    ensures count { IfSome (entries_in (Some held.now)) (λ log. count.new ≡ length log) }
-    ensures read { IfSome (entries_in (Some held.now)) (λ log.
-        entries.new ≡ map told (take (length entries.old) log) ++ drop (length log) entries.old) }
-{
-    match held {
-        Held::Entries(log) => {
-            read(log, entries, count);
-            DONE
-        }
-        _ => WRONG_HANDLE,
-    }
-}
-
 /// Writes the first entries of a closed log, in order, as many as there is room for, and how many
 /// there are in all. 7: the handle has no entries, and nothing is written.
 #[unsafe(no_mangle)]
@@ -153,14 +119,18 @@ pub extern "C" fn universal_read(
     ensures read { IfSome (entries_in log.old.value) (λ log.
         entries.new ≡ map told (take (length entries.old) log) ++ drop (length log) entries.old) }
 {
-    match replace(log, Handle::empty(alloc)).into_box() {
-        Some(held) => {
-            let status = read_in(&held, entries, count);
-            *log = Handle::of(held);
-            status
+    let Some(held) = log.take(alloc) else {
+        return WRONG_HANDLE;
+    };
+    let status = match &*held {
+        Held::Entries(told) => {
+            read(told, entries, count);
+            DONE
         }
-        None => WRONG_HANDLE,
-    }
+        _ => WRONG_HANDLE,
+    };
+    *log = Handle::of(held);
+    status
 }
 
 /// Lets go what the handle has, which is nothing afterwards.

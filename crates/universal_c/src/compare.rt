@@ -10,7 +10,6 @@ use crate::handle::Handle;
 use crate::held::Held;
 use crate::status::{DIFFERS, DONE, WRONG_HANDLE};
 use std::alloc::Global;
-use std::mem::replace;
 use uni_words::WordEntry;
 
 /// Whether calls have the invocation and the reply of an entry at this place.
@@ -41,26 +40,6 @@ fn first_other(entries: &[WordEntry], process: u64, calls: &[Call]) -> Option<us
     if at < calls.len() { Some(at) } else { None }
 }
 
-fn compare_in(held: &Held, process: u64, calls: &[Call], nth: &mut u64) -> u32
-    ensures wrong { (result ≡ 7) ↔ (entries_in (Some held.now) ≡ None) }
-    ensures status { (result ≡ 0) ⊎ (result ≡ 7) ⊎ (result ≡ 9) }
-    ensures same { result ≡ 0 → IsSomeAnd (entries_in (Some held.now)) (λ log. AreCallsIn log process calls.now) }
-    ensures differs { result ≡ 9 →
-        IsSomeAnd (entries_in (Some held.now)) (λ log. DifferFirstAt log process calls.now nth.new) }
-    ensures unchanged { result ≢ 9 → nth.new ≡ nth.old }
-{
-    let Held::Entries(log) = held else {
-        return WRONG_HANDLE;
-    };
-    match first_other(log, process, calls) {
-        Some(place) => {
-            *nth = place as u64;
-            DIFFERS
-        }
-        None => DONE,
-    }
-}
-
 /// Compares a closed log with the calls that a process made and the replies that it was given, in their
 /// order. 0: the log has exactly these calls of the process. 9: it hasn't, and the first call in which
 /// they differ is told, by its number from 0 on. 7: the handle has no entries.
@@ -80,12 +59,19 @@ pub extern "C" fn universal_compare(
         IsSomeAnd (entries_in log.old.value) (λ log. DifferFirstAt log process calls.now nth.new) }
     ensures unchanged { result ≢ 9 → nth.new ≡ nth.old }
 {
-    match replace(log, Handle::empty(alloc)).into_box() {
-        Some(held) => {
-            let status = compare_in(&held, process, calls, nth);
-            *log = Handle::of(held);
-            status
-        }
-        None => WRONG_HANDLE,
-    }
+    let Some(held) = log.take(alloc) else {
+        return WRONG_HANDLE;
+    };
+    let status = match &*held {
+        Held::Entries(entries) => match first_other(entries, process, calls) {
+            Some(place) => {
+                *nth = place as u64;
+                DIFFERS
+            }
+            None => DONE,
+        },
+        _ => WRONG_HANDLE,
+    };
+    *log = Handle::of(held);
+    status
 }

@@ -9,6 +9,7 @@ use crate::held::Held;
 use crate::loose::Loose;
 use std::alloc::Global;
 use std::marker::Model;
+use std::mem::replace;
 use std::ptr::null_mut;
 
 /// A box that C holds, or none. For C it is one pointer, which is null where it has none.
@@ -69,13 +70,21 @@ impl Handle {
     }
 
     /// The box of a handle, if it has one.
-    pub(crate) fn into_box(self) -> Option<Box<Held>>
+    fn into_box(self) -> Option<Box<Held>>
         ensures { MatchOption result (self.value ≡ None) (λ held. self.value ≡ Some held.value) }
     {
         match self.into_loose() {
             Some(body) => Some(body.into_box()),
             None => None,
         }
+    }
+
+    /// Takes the box out of a handle, if it has one: it has none then.
+    pub(crate) fn take(&mut self, alloc: Global) -> Option<Box<Held>>
+        ensures taken { MatchOption result (self.old.value ≡ None) (λ held. self.old.value ≡ Some held.value) }
+        ensures none { self.new.value ≡ None }
+    {
+        replace(self, Handle::empty(alloc)).into_box()
     }
 }
 

@@ -9,7 +9,6 @@ mod loose;
 mod object;
 mod open;
 mod program_open;
-mod small;
 mod small_close;
 mod small_kind;
 mod small_left;

@@ -1,7 +1,7 @@
 //! Opening a log.
 ghost use Rattle.std.specs.Prelude.{◌≡◌, ◌≢◌, ◌↔◌, ◌⊎◌, ◌<◌, ◌≤◌, IfOk};
-ghost use Rattle.std.specs.Prelude.{IfSome, IsSome};
-ghost use Rattle.std.specs.declared.option.Option.TheVariants.{None, Some};
+ghost use Rattle.std.specs.Prelude.{IsSome};
+ghost use Rattle.std.specs.declared.option.Option.TheVariants.{None};
 ghost use Rattle.word_objects.specs.Machine.{machine_fault};
 ghost use Rattle.universal_c.specs.Calls.{HasOpened};
 ghost use Rattle.universal_c.specs.Meaning.{tables_of};
@@ -12,21 +12,10 @@ use crate::held::{Held, Opened};
 use crate::object::Object;
 use crate::status::{BAD_COUNT, BAD_ROW, BAD_TABLE, DONE, MEMORY};
 use std::alloc::{AllocError, Global};
+use std::sync::Arc;
 use uni_model::{MAX_PROCESSES, MAX_ROW};
-use uni_words::WordOpenFault;
+use uni_words::{WordLog, WordOpenFault};
 use word_objects::{WordMachine, table_fault};
-
-fn status_of(fault: WordOpenFault) -> u32
-    ensures count { (result ≡ 1) ↔ (fault ≡ WordOpenFault.BadCount) }
-    ensures row { (result ≡ 2) ↔ (fault ≡ WordOpenFault.BadRow) }
-    ensures fault { (1 ≤ result) × (result ≤ 3) }
-{
-    match fault {
-        WordOpenFault::BadCount => BAD_COUNT,
-        WordOpenFault::BadRow => BAD_ROW,
-        WordOpenFault::Memory => MEMORY,
-    }
-}
 
 /// Puts what is held into a handle, and drops what the handle had.
 pub(crate) fn put(alloc: Global, out: &mut Handle, held: Held) -> u32
@@ -44,6 +33,7 @@ pub(crate) fn put(alloc: Global, out: &mut Handle, held: Held) -> u32
 }
 
 /// Opens a log of an object, with the statuses of `universal_open_tally`.
+#[tactic(auto, using(crate::proofs::Seats::counted))]
 fn open(alloc: Global, object: Object, n: u64, k: u64, log: &mut Handle) -> u32
     ensures count { (result ≡ 1) ↔ ((n ≡ 0) ⊎ (64 < n)) }
     ensures row { (result ≡ 2) ↔ ((1 ≤ n) × (n ≤ 64) × ((k ≡ 0) ⊎ (4096 < k))) }
@@ -51,9 +41,14 @@ fn open(alloc: Global, object: Object, n: u64, k: u64, log: &mut Handle) -> u32
     ensures unchanged { result ≢ 0 → log.new ≡ log.old }
     ensures opened { result ≡ 0 → HasOpened log.new.value object n k }
 {
-    match Opened::open(alloc, object, n, k) {
-        Ok(opened) => put(alloc, log, Held::Log(opened)),
-        Err(fault) => status_of(fault),
+    match WordLog::open(alloc, object, n, k) {
+        Ok((opened, seats)) => match Arc::new(alloc, opened) {
+            Ok(shared) => put(alloc, log, Held::Log(Opened { log: shared, seats })),
+            Err(_) => MEMORY,
+        },
+        Err(WordOpenFault::BadCount) => BAD_COUNT,
+        Err(WordOpenFault::BadRow) => BAD_ROW,
+        Err(WordOpenFault::Memory) => MEMORY,
     }
 }
 
@@ -93,21 +88,6 @@ pub extern "C" fn universal_open_register(alloc: Global, n: u64, k: u64, log: &m
     ensures opened { result ≡ 0 → HasOpened log.new.value Register n k }
 {
     open(alloc, Object::Register, n, k, log)
-}
-
-/// The status of sizes that no log has.
-fn size_fault(n: u64, k: u64) -> Option<u32>
-    ensures count { (result ≡ Some 1) ↔ ((n ≡ 0) ⊎ (64 < n)) }
-    ensures row { (result ≡ Some 2) ↔ ((1 ≤ n) × (n ≤ 64) × ((k ≡ 0) ⊎ (4096 < k))) }
-    ensures fault { IfSome result (λ status. (status ≡ 1) ⊎ (status ≡ 2)) }
-{
-    if n < 1 || n > MAX_PROCESSES {
-        return Some(BAD_COUNT);
-    }
-    if k < 1 || k > MAX_ROW {
-        return Some(BAD_ROW);
-    }
-    None
 }
 
 /// The machine of two tables, which are copied. Error: memory was refused.
@@ -155,8 +135,11 @@ pub extern "C" fn universal_open_machine(
     if table_fault(states, invocations, next, reply).is_some() {
         return BAD_TABLE;
     }
-    if let Some(status) = size_fault(n, k) {
-        return status;
+    if n < 1 || n > MAX_PROCESSES {
+        return BAD_COUNT;
+    }
+    if k < 1 || k > MAX_ROW {
+        return BAD_ROW;
     }
     match machine_of(alloc, states, invocations, next, reply) {
         Ok(machine) => open(alloc, Object::Machine(machine), n, k, log),

@@ -9,18 +9,19 @@ ghost use Rattle.universal_c.specs.declared.small_kind.SmallKind.TheVariants.{Bo
 ghost use Rattle.universal_c.specs.declared.small_kind.SmallKind.TheVariants.{Map, Queue, Register, Stack};
 
 use crate::handle::Handle;
-use crate::held::Held;
+use crate::held::{Held, SmallOpened};
 use crate::open::{machine_of, put};
-use crate::small::SmallOpened;
 use crate::small_kind::SmallKind;
 use crate::status::{BAD_CAPACITY, BAD_COUNT, BAD_TABLE, MEMORY};
 use small_objects::{SmallCounters, SmallMap, SmallQueue, SmallStack};
 use std::alloc::Global;
+use std::sync::Arc;
 use uni_model::MAX_PROCESSES;
-use uni_small::SmallOpenFault;
+use uni_small::{SmallOpenFault, SmallShared};
 use word_objects::table_fault;
 
 /// Opens a small object of this kind, with the statuses of `universal_open_queue`.
+#[tactic(auto, using(crate::proofs::Seats::counted_small, crate::specs::SmallMeaning::state_long))]
 pub(crate) fn open(alloc: Global, kind: SmallKind, n: u64, object: &mut Handle) -> u32
     requires { IsNarrow kind }
     ensures count { (result ≡ 1) ↔ ((n ≡ 0) ⊎ (64 < n)) }
@@ -29,8 +30,11 @@ pub(crate) fn open(alloc: Global, kind: SmallKind, n: u64, object: &mut Handle) 
     ensures unchanged { result ≢ 0 → object.new ≡ object.old }
     ensures opened { result ≡ 0 → HasOpenedSmall object.new.value kind n }
 {
-    match SmallOpened::open(alloc, kind, n) {
-        Ok(opened) => put(alloc, object, Held::Small(opened)),
+    match SmallShared::open(alloc, kind, n) {
+        Ok((opened, seats)) => match Arc::new(alloc, opened) {
+            Ok(shared) => put(alloc, object, Held::Small(SmallOpened { shared, seats })),
+            Err(_) => MEMORY,
+        },
         Err(SmallOpenFault::BadCount) => BAD_COUNT,
         Err(SmallOpenFault::BadWidth) => BAD_CAPACITY,
         Err(SmallOpenFault::Memory) => MEMORY,

@@ -6,37 +6,8 @@ ghost use Rattle.universal_c.specs.SmallCalls.{place_in, shared_in};
 
 use crate::handle::Handle;
 use crate::held::Held;
-use crate::small::CallFault;
 use crate::status::{BAD_WIDTH, CHANGED, DONE, FULL, WRONG_HANDLE};
 use std::alloc::Global;
-use std::mem::replace;
-
-fn read_by(held: &mut Held, invocation: &[u64], reply: &mut [u64], version: &mut u64) -> u32
-    ensures same { shared_in (Some held.new) ≡ shared_in (Some held.old) }
-    ensures wrong { (result ≡ 7) ↔ (place_in (Some held.old) ≡ None) }
-    ensures width { (result ≡ 11) ↔ HasOtherWidths (Some held.old) invocation.now reply.old }
-    ensures spent { (result ≡ 4) ↔ (HasWidths (Some held.old) invocation.now reply.old × IsSpent (Some held.old)) }
-    ensures status { (result ≡ 0) ⊎ (result ≡ 4) ⊎ (result ≡ 7) ⊎ (result ≡ 11) ⊎ (result ≡ 28) }
-    ensures kept { result ≡ 7 → held.new ≡ held.old }
-    ensures unchanged { result ≢ 0 → result ≢ 28 → place_in (Some held.new) ≡ place_in (Some held.old) }
-    ensures unwritten { result ≢ 0 → (reply.new ≡ reply.old) × (version.new ≡ version.old) }
-    ensures read { result ≡ 0 →
-        HasReadSmall (Some held.old) (Some held.new) invocation.now reply.new version.new }
-    ensures missed { result ≡ 28 → HasMissedState (Some held.old) (Some held.new) }
-{
-    let Held::Place(place) = held else {
-        return WRONG_HANDLE;
-    };
-    match place.read(invocation, reply) {
-        Ok(Some(present)) => {
-            *version = present;
-            DONE
-        }
-        Ok(None) => CHANGED,
-        Err(CallFault::Width) => BAD_WIDTH,
-        Err(CallFault::Spent) => FULL,
-    }
-}
 
 /// Reads the present state of a small object by a seat, without a call: what a call of this invocation would be
 /// answered there. It stores nothing in a shared word, and takes no lock and no memory; no clause says so. 0: the
@@ -65,12 +36,21 @@ pub extern "C" fn universal_small_read(
         HasReadSmall seat.old.value seat.new.value invocation.now reply.new version.new }
     ensures missed { result ≡ 28 → HasMissedState seat.old.value seat.new.value }
 {
-    match replace(seat, Handle::empty(alloc)).into_box() {
-        Some(mut held) => {
-            let status = read_by(&mut held, invocation, reply, version);
-            *seat = Handle::of(held);
-            status
-        }
-        None => WRONG_HANDLE,
-    }
+    let Some(mut held) = seat.take(alloc) else {
+        return WRONG_HANDLE;
+    };
+    let status = match &mut *held {
+        Held::Place(place) if !place.has_widths(invocation, reply) => BAD_WIDTH,
+        Held::Place(place) => match place.seat.read(&place.shared, invocation, reply) {
+            Ok(Some(present)) => {
+                *version = present;
+                DONE
+            }
+            Ok(None) => CHANGED,
+            Err(_) => FULL,
+        },
+        _ => WRONG_HANDLE,
+    };
+    *seat = Handle::of(held);
+    status
 }

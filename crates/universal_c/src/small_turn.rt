@@ -6,11 +6,19 @@ ghost use Rattle.universal_c.specs.SmallCalls.{HasWidths, IsSpent, place_in, sha
 ghost use Rattle.universal_c.specs.SmallOrphans.{TellsCalls};
 
 use crate::handle::Handle;
-use crate::held::Held;
-use crate::small::{Beginning, CallFault, SmallOpened};
+use crate::held::{Held, SmallOpened, SmallPlace};
 use crate::status::{BAD_WIDTH, DONE, FULL, MEMORY, NO_SEAT, WRONG_HANDLE};
 use std::alloc::Global;
-use std::mem::replace;
+use std::sync::Arc;
+
+/// How a call begins.
+#[derive(Clone, Copy, Drop)]
+enum Beginning {
+    /// By a direct attempt, and by its announcement only after that failed.
+    Direct,
+    /// By its announcement.
+    Announced,
+}
 
 /// Puts the next seat of a small object into a handle. Memory is asked for before the seat is taken.
 fn give(alloc: Global, opened: &mut SmallOpened, seat: &mut Handle, process: &mut u64) -> u32
@@ -24,40 +32,23 @@ fn give(alloc: Global, opened: &mut SmallOpened, seat: &mut Handle, process: &mu
     ensures first { result ≡ 0 → HasFirstPlace seat.new.value process.new
         × (shared_in seat.new.value ≡ Some opened.old.shared.value) }
 {
-    if opened.is_given() {
+    if opened.seats.is_empty() {
         return NO_SEAT;
     }
     let Ok(mut room) = Box::new(alloc, Held::Nothing) else {
         return MEMORY;
     };
-    match opened.next() {
-        Ok((place, p)) => {
-            *room = Held::Place(place);
-            *seat = Handle::of(room);
-            *process = p;
-            DONE
-        }
-        Err(_) => MEMORY,
-    }
-}
-
-fn seat_of(alloc: Global, object: &mut Held, seat: &mut Handle, process: &mut u64) -> u32
-    ensures same { shared_in (Some object.new) ≡ shared_in (Some object.old) }
-    ensures wrong { (result ≡ 7) ↔ (small_left_in (Some object.old) ≡ None) }
-    ensures given { (result ≡ 5) ↔ (small_left_in (Some object.old) ≡ Some 0) }
-    ensures left { result ≡ 0 → (small_left_in (Some object.new) ≡ Some process.new)
-        × (small_left_in (Some object.old) ≡ Some (process.new + 1)) }
-    ensures status { (result ≡ 0) ⊎ (result ≡ 3) ⊎ (result ≡ 5) ⊎ (result ≡ 7) }
-    ensures unchanged { result ≢ 0 → (small_left_in (Some object.new) ≡ small_left_in (Some object.old))
-        × (seat.new ≡ seat.old) × (process.new ≡ process.old) }
-    ensures kept { result ≡ 7 → object.new ≡ object.old }
-    ensures first { result ≡ 0 → HasFirstPlace seat.new.value process.new
-        × (shared_in seat.new.value ≡ shared_in (Some object.old)) }
-{
-    match object {
-        Held::Small(opened) => give(alloc, opened, seat, process),
-        _ => WRONG_HANDLE,
-    }
+    let Ok(shared) = Arc::try_clone(&opened.shared) else {
+        return MEMORY;
+    };
+    let Some(next) = opened.seats.pop() else {
+        return NO_SEAT;
+    };
+    let given = SmallPlace { shared, seat: next };
+    *room = Held::Place(given);
+    *seat = Handle::of(room);
+    *process = opened.seats.len() as u64;
+    DONE
 }
 
 /// Gives out the next seat of a small object, that of the greatest process that has none yet, and its process.
@@ -82,46 +73,61 @@ pub extern "C" fn universal_small_seat(
     ensures first { result ≡ 0 → HasFirstPlace seat.new.value process.new
         × (shared_in seat.new.value ≡ shared_in object.old.value) }
 {
-    match replace(object, Handle::empty(alloc)).into_box() {
-        Some(mut held) => {
-            let status = seat_of(alloc, &mut held, seat, process);
-            *object = Handle::of(held);
-            status
-        }
-        None => WRONG_HANDLE,
-    }
+    let Some(mut held) = object.take(alloc) else {
+        return WRONG_HANDLE;
+    };
+    let status = match &mut *held {
+        Held::Small(opened) => give(alloc, opened, seat, process),
+        _ => WRONG_HANDLE,
+    };
+    *object = Handle::of(held);
+    status
 }
 
-fn apply_to(
-    held: &mut Held,
+/// A call by a seat of a small object, which begins so, with the statuses of `universal_small_apply`.
+fn apply(
+    alloc: Global,
+    seat: &mut Handle,
     beginning: Beginning,
     invocation: &[u64],
     reply: &mut [u64],
     version: &mut u64,
 ) -> u32
-    ensures same { shared_in (Some held.new) ≡ shared_in (Some held.old) }
-    ensures wrong { (result ≡ 7) ↔ (place_in (Some held.old) ≡ None) }
-    ensures width { (result ≡ 11) ↔ HasOtherWidths (Some held.old) invocation.now reply.old }
-    ensures spent { (result ≡ 4) ↔ (HasWidths (Some held.old) invocation.now reply.old × IsSpent (Some held.old)) }
+    ensures same { shared_in seat.new.value ≡ shared_in seat.old.value }
+    ensures wrong { (result ≡ 7) ↔ (place_in seat.old.value ≡ None) }
+    ensures width { (result ≡ 11) ↔ HasOtherWidths seat.old.value invocation.now reply.old }
+    ensures spent { (result ≡ 4) ↔ (HasWidths seat.old.value invocation.now reply.old × IsSpent seat.old.value) }
     ensures status { (result ≡ 0) ⊎ (result ≡ 4) ⊎ (result ≡ 7) ⊎ (result ≡ 11) }
-    ensures kept { result ≡ 7 → held.new ≡ held.old }
-    ensures unchanged { result ≢ 0 → (place_in (Some held.new) ≡ place_in (Some held.old))
+    ensures kept { result ≡ 7 → seat.new.value ≡ seat.old.value }
+    ensures unchanged { result ≢ 0 → (place_in seat.new.value ≡ place_in seat.old.value)
         × (reply.new ≡ reply.old) × (version.new ≡ version.old) }
     ensures called { result ≡ 0 →
-        HasCalledSmall (Some held.old) (Some held.new) invocation.now reply.new version.new }
-    ensures announced { beginning ≡ Beginning.Announced → result ≡ 0 → TellsCalls (Some held.new) }
+        HasCalledSmall seat.old.value seat.new.value invocation.now reply.new version.new }
+    ensures announced { beginning ≡ Beginning.Announced → result ≡ 0 → TellsCalls seat.new.value }
 {
-    let Held::Place(place) = held else {
+    let Some(mut held) = seat.take(alloc) else {
         return WRONG_HANDLE;
     };
-    match place.apply(beginning, invocation, reply) {
-        Ok(present) => {
-            *version = present;
-            DONE
+    let status = match &mut *held {
+        Held::Place(place) if !place.has_widths(invocation, reply) => BAD_WIDTH,
+        Held::Place(place) => {
+            let shared = &*place.shared;
+            let called = match beginning {
+                Beginning::Direct => place.seat.apply(shared, invocation, reply),
+                Beginning::Announced => place.seat.apply_announced(shared, invocation, reply),
+            };
+            match called {
+                Ok(present) => {
+                    *version = present;
+                    DONE
+                }
+                Err(_) => FULL,
+            }
         }
-        Err(CallFault::Width) => BAD_WIDTH,
-        Err(CallFault::Spent) => FULL,
-    }
+        _ => WRONG_HANDLE,
+    };
+    *seat = Handle::of(held);
+    status
 }
 
 /// A call by a seat of a small object. It takes no lock and no memory; no clause says so.
@@ -147,14 +153,7 @@ pub extern "C" fn universal_small_apply(
     ensures called { result ≡ 0 →
         HasCalledSmall seat.old.value seat.new.value invocation.now reply.new version.new }
 {
-    match replace(seat, Handle::empty(alloc)).into_box() {
-        Some(mut held) => {
-            let status = apply_to(&mut held, Beginning::Direct, invocation, reply, version);
-            *seat = Handle::of(held);
-            status
-        }
-        None => WRONG_HANDLE,
-    }
+    apply(alloc, seat, Beginning::Direct, invocation, reply, version)
 }
 
 /// A call by a seat of a small object, which is announced at once: a seat that may be taken over in the midst of a
@@ -182,28 +181,14 @@ pub extern "C" fn universal_small_apply_announced(
         HasCalledSmall seat.old.value seat.new.value invocation.now reply.new version.new }
     ensures announced { result ≡ 0 → TellsCalls seat.new.value }
 {
-    match replace(seat, Handle::empty(alloc)).into_box() {
-        Some(mut held) => {
-            let status = apply_to(&mut held, Beginning::Announced, invocation, reply, version);
-            *seat = Handle::of(held);
-            status
-        }
-        None => WRONG_HANDLE,
-    }
-}
-
-fn ask(held: &mut Held, version: u64, has_come: &mut u32) -> u32
-    ensures same { shared_in (Some held.new) ≡ shared_in (Some held.old) }
-    ensures status { (result ≡ 0) ⊎ (result ≡ 7) }
-    ensures wrong { (result ≡ 7) ↔ (place_in (Some held.old) ≡ None) }
-    ensures kept { result ≡ 7 → (held.new ≡ held.old) × (has_come.new ≡ has_come.old) }
-    ensures asked { result ≡ 0 → HasAskedVersion (Some held.old) (Some held.new) version has_come.new }
-{
-    let Held::Place(place) = held else {
-        return WRONG_HANDLE;
-    };
-    *has_come = place.ask(version);
-    DONE
+    apply(
+        alloc,
+        seat,
+        Beginning::Announced,
+        invocation,
+        reply,
+        version,
+    )
 }
 
 /// Asks whether a version of a small object has come: 1 or 0, by one load. 1 says that all later calls of this
@@ -223,12 +208,20 @@ pub extern "C" fn universal_small_follows(
     ensures kept { result ≡ 7 → (seat.new.value ≡ seat.old.value) × (has_come.new ≡ has_come.old) }
     ensures asked { result ≡ 0 → HasAskedVersion seat.old.value seat.new.value version has_come.new }
 {
-    match replace(seat, Handle::empty(alloc)).into_box() {
-        Some(mut held) => {
-            let status = ask(&mut held, version, has_come);
-            *seat = Handle::of(held);
-            status
+    let Some(mut held) = seat.take(alloc) else {
+        return WRONG_HANDLE;
+    };
+    let status = match &mut *held {
+        Held::Place(place) => {
+            *has_come = if place.seat.follows(&place.shared, version) {
+                1
+            } else {
+                0
+            };
+            DONE
         }
-        None => WRONG_HANDLE,
-    }
+        _ => WRONG_HANDLE,
+    };
+    *seat = Handle::of(held);
+    status
 }

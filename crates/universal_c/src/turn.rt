@@ -5,10 +5,11 @@ ghost use Rattle.universal_c.specs.Calls.{HasAsked, HasCalled, HasSeat, IsFull, 
 
 use crate::Reply;
 use crate::handle::Handle;
-use crate::held::{Held, Opened};
+use crate::held::{Held, Opened, Seated};
 use crate::status::{DONE, FULL, MEMORY, NO_SEAT, WRONG_HANDLE};
+use seq_object::CallId;
 use std::alloc::Global;
-use std::mem::replace;
+use std::sync::Arc;
 
 /// Puts the next seat of a log into a handle. Memory is asked for before the seat is taken.
 fn give(alloc: Global, opened: &mut Opened, seat: &mut Handle, process: &mut u64) -> u32
@@ -22,40 +23,23 @@ fn give(alloc: Global, opened: &mut Opened, seat: &mut Handle, process: &mut u64
     ensures first { result ≡ 0 → HasSeat seat.new.value process.new
         × (log_in seat.new.value ≡ Some opened.old.log.value) }
 {
-    if opened.is_given() {
+    if opened.seats.is_empty() {
         return NO_SEAT;
     }
     let Ok(mut room) = Box::new(alloc, Held::Nothing) else {
         return MEMORY;
     };
-    match opened.next() {
-        Ok((seated, p)) => {
-            *room = Held::Seat(seated);
-            *seat = Handle::of(room);
-            *process = p;
-            DONE
-        }
-        Err(_) => MEMORY,
-    }
-}
-
-fn seat_of(alloc: Global, log: &mut Held, seat: &mut Handle, process: &mut u64) -> u32
-    ensures same { log_in (Some log.new) ≡ log_in (Some log.old) }
-    ensures wrong { (result ≡ 7) ↔ (left_in (Some log.old) ≡ None) }
-    ensures given { (result ≡ 5) ↔ (left_in (Some log.old) ≡ Some 0) }
-    ensures left { result ≡ 0 →
-        (left_in (Some log.new) ≡ Some process.new) × (left_in (Some log.old) ≡ Some (process.new + 1)) }
-    ensures status { (result ≡ 0) ⊎ (result ≡ 3) ⊎ (result ≡ 5) ⊎ (result ≡ 7) }
-    ensures unchanged { result ≢ 0 → (left_in (Some log.new) ≡ left_in (Some log.old))
-        × (seat.new ≡ seat.old) × (process.new ≡ process.old) }
-    ensures kept { result ≡ 7 → log.new ≡ log.old }
-    ensures first { result ≡ 0 → HasSeat seat.new.value process.new
-        × (log_in seat.new.value ≡ log_in (Some log.old)) }
-{
-    match log {
-        Held::Log(opened) => give(alloc, opened, seat, process),
-        _ => WRONG_HANDLE,
-    }
+    let Ok(log) = Arc::try_clone(&opened.log) else {
+        return MEMORY;
+    };
+    let Some(next) = opened.seats.pop() else {
+        return NO_SEAT;
+    };
+    let given = Seated { log, seat: next };
+    *room = Held::Seat(given);
+    *seat = Handle::of(room);
+    *process = opened.seats.len() as u64;
+    DONE
 }
 
 /// Gives out the next seat of a log, that of the greatest process that has none yet, and its process.
@@ -80,37 +64,15 @@ pub extern "C" fn universal_seat(
     ensures first { result ≡ 0 → HasSeat seat.new.value process.new
         × (log_in seat.new.value ≡ log_in log.old.value) }
 {
-    match replace(log, Handle::empty(alloc)).into_box() {
-        Some(mut held) => {
-            let status = seat_of(alloc, &mut held, seat, process);
-            *log = Handle::of(held);
-            status
-        }
-        None => WRONG_HANDLE,
-    }
-}
-
-fn apply_to(held: &mut Held, inv: u64, answer: &mut Reply) -> u32
-    ensures same { log_in (Some held.new) ≡ log_in (Some held.old) }
-    ensures status { (result ≡ 0) ⊎ (result ≡ 4) ⊎ (result ≡ 7) }
-    ensures wrong { (result ≡ 7) ↔ (seat_in (Some held.old) ≡ None) }
-    ensures full { (result ≡ 4) ↔ IsFull (Some held.old) }
-    ensures kept { result ≡ 7 → held.new ≡ held.old }
-    ensures unchanged { result ≢ 0 → (seat_in (Some held.new) ≡ seat_in (Some held.old))
-        × (answer.new ≡ answer.old) }
-    ensures called { result ≡ 0 → HasCalled (Some held.old) (Some held.new) inv answer.new.reply answer.new.turns }
-{
-    let Held::Seat(seated) = held else {
+    let Some(mut held) = log.take(alloc) else {
         return WRONG_HANDLE;
     };
-    match seated.apply(inv) {
-        Ok(given) => {
-            answer.reply = given.reply;
-            answer.turns = given.turns;
-            DONE
-        }
-        Err(_) => FULL,
-    }
+    let status = match &mut *held {
+        Held::Log(opened) => give(alloc, opened, seat, process),
+        _ => WRONG_HANDLE,
+    };
+    *log = Handle::of(held);
+    status
 }
 
 /// A call by a seat. It takes no lock and no memory; no clause says so.
@@ -132,28 +94,22 @@ pub extern "C" fn universal_apply(
         × (answer.new ≡ answer.old) }
     ensures called { result ≡ 0 → HasCalled seat.old.value seat.new.value inv answer.new.reply answer.new.turns }
 {
-    match replace(seat, Handle::empty(alloc)).into_box() {
-        Some(mut held) => {
-            let status = apply_to(&mut held, inv, answer);
-            *seat = Handle::of(held);
-            status
-        }
-        None => WRONG_HANDLE,
-    }
-}
-
-fn ask(held: &mut Held, process: u64, nth: u64, is_there: &mut u32) -> u32
-    ensures same { log_in (Some held.new) ≡ log_in (Some held.old) }
-    ensures status { (result ≡ 0) ⊎ (result ≡ 7) }
-    ensures wrong { (result ≡ 7) ↔ (seat_in (Some held.old) ≡ None) }
-    ensures kept { result ≡ 7 → (held.new ≡ held.old) × (is_there.new ≡ is_there.old) }
-    ensures asked { result ≡ 0 → HasAsked (Some held.old) (Some held.new) process nth is_there.new }
-{
-    let Held::Seat(seated) = held else {
+    let Some(mut held) = seat.take(alloc) else {
         return WRONG_HANDLE;
     };
-    *is_there = seated.ask(process, nth);
-    DONE
+    let status = match &mut *held {
+        Held::Seat(seated) => match seated.seat.apply(&seated.log, inv) {
+            Ok(given) => {
+                answer.reply = given.reply;
+                answer.turns = given.turns;
+                DONE
+            }
+            Err(_) => FULL,
+        },
+        _ => WRONG_HANDLE,
+    };
+    *seat = Handle::of(held);
+    status
 }
 
 /// Asks whether the call `nth` of a process stands in the log: 1 or 0, by one load. 1 says that all later
@@ -174,12 +130,19 @@ pub extern "C" fn universal_follows(
     ensures kept { result ≡ 7 → (seat.new.value ≡ seat.old.value) × (is_there.new ≡ is_there.old) }
     ensures asked { result ≡ 0 → HasAsked seat.old.value seat.new.value process nth is_there.new }
 {
-    match replace(seat, Handle::empty(alloc)).into_box() {
-        Some(mut held) => {
-            let status = ask(&mut held, process, nth, is_there);
-            *seat = Handle::of(held);
-            status
+    let Some(mut held) = seat.take(alloc) else {
+        return WRONG_HANDLE;
+    };
+    let status = match &mut *held {
+        Held::Seat(seated) => {
+            *is_there = match u32::try_from(process) {
+                Ok(process) if seated.seat.follows(&seated.log, CallId { process, nth }) => 1,
+                _ => 0,
+            };
+            DONE
         }
-        None => WRONG_HANDLE,
-    }
+        _ => WRONG_HANDLE,
+    };
+    *seat = Handle::of(held);
+    status
 }
