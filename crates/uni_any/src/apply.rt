@@ -75,8 +75,8 @@ impl<O: SeqObject> AnySeat<O> {
     }
 
     /// Makes a call: its reply, and the number of a version of the object in which it is. That version is greater than
-    /// the one that the seat had before, and the seat's later calls come after it. That the reply is the object's is the
-    /// law `every_execution_is_linearizable`, and what closing says.
+    /// the one that the seat had before, and the seat's later calls come after it. That the reply is the object's is
+    /// the law `every_execution_is_linearizable`, and what closing says.
     ///
     /// With n processes it returns after at most `12 * n + 5` steps on shared words, whatever the others do; and the
     /// object's own `apply` is called at most `2 * n` times (in no clause). That a call is announced first and is

@@ -119,8 +119,8 @@ pub fn other_steps_append_nothing<O: SeqObject>()
 
 /// Every execution from the opening, in which the processes take their steps on words and buffers in any order, is
 /// linearizable in real time: each call takes effect at one of the steps between its announcement and its last one. And
-/// strongly: it is so in the order of these steps, which only grows where the execution goes on (`strongly`, true by how
-/// acts are made).
+/// strongly: it is so in the order of these steps, which only grows where the execution goes on (`strongly`, true by
+/// how acts are made).
 pub fn every_execution_is_linearizable<O: SeqObject>()
     ensures linearized { (o : O) (n : ℕ) → 1 ≤ n → n ≤ 64
         → (e : Execution {R = O.Resp} (O.sequential o) n (opened_moment (O.sequential o) n))
@@ -132,8 +132,9 @@ pub fn every_execution_is_linearizable<O: SeqObject>()
 {}
 
 /// The construction is wait-free in every execution: a process in the midst of a call can always take a step that the
-/// call counts, where the memory for what it writes isn't refused; and no call takes more than `12 * n + 5` steps on words, whatever the other processes do. A call that is left in an attempt, for want
-/// of memory, is counted from the load with which it begins anew.
+/// call counts, where the memory for what it writes isn't refused; and no call takes more than `12 * n + 5` steps on
+/// words, whatever the other processes do. A call that is left in an attempt, for want of memory, is counted from the
+/// load with which it begins anew.
 pub fn every_call_is_wait_free<O: SeqObject>()
     ensures never_blocks { (o : O) (n : ℕ) → 1 ≤ n → n ≤ 64
         → (e : Execution {R = O.Resp} (O.sequential o) n (opened_moment (O.sequential o) n))

@@ -36,8 +36,8 @@ impl<O: SeqObject> AnySeat<O> {
     }
 
     /// Finds the present version, or one that comes while it looks: the answer is its number, and `version` shows it.
-    /// It takes no memory and copies nothing. That, and that the version is the present one or comes meanwhile, is in no
-    /// clause.
+    /// It takes no memory and copies nothing. That, and that the version is the present one or comes meanwhile, is in
+    /// no clause.
     ///
     /// The seat follows that version: its later calls come after all calls that are in it, and their versions are
     /// greater. The version has the state after the first calls of a history that the atomic object accepts, and all

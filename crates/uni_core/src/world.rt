@@ -190,8 +190,8 @@ impl<O: SeqObject> World<O> {
         })
     }
 
-    /// Process `p` takes the next step of its pending call: it touches one shared place. The process's calls stay within
-    /// the bound (`bounded`), and beside that place the step sees only what can't change (`beside`).
+    /// Process `p` takes the next step of its pending call: it touches one shared place. The process's calls stay
+    /// within the bound (`bounded`), and beside that place the step sees only what can't change (`beside`).
     ///
     /// Errors, in this order: `BadProcess` where there is no process `p`; `Idle(p)` where it has no
     /// call pending; `Memory`, only at the step that decides the state and the response of a cell

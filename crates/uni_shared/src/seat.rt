@@ -303,7 +303,8 @@ impl<O: SeqObject> Seat<O> {
     /// is asked. The answer is its receipt, which is added to those of the seat.
     ///
     /// Clauses tell of the seat alone. What each hold does to the record `begin_held` and `step_held` say; that the
-    /// receipts are the calls of its history, with the object's replies, says `close`. That the gate is asked is in none.
+    /// receipts are the calls of its history, with the object's replies, says `close`. That the gate is asked is in
+    /// none.
     ///
     /// Errors: `SeatPending` where the seat has a call pending; `Memory` where the room for the receipt
     /// was refused; then at the begin `Stranger` where there is no such process, or it has a call

@@ -1,10 +1,10 @@
 //! The laws, each the contract of a function with an empty body: what each step on words appends to the history; and at
 //! the end that each execution is linearizable and wait-free.
 //!
-//! In a law of one kind of step `st` is what the code hands to it (`Step` of the kit's `atomic_table`): the word's index
-//! `st.word`; of an exchange what it expects, `st.first`, and what it puts in, `st.second`; and `st.said`, of the exchange
-//! of a direct attempt the invocation. `either (found == s) x found` is x where found is s, and else found. `Moves` says
-//! what the step does, and `me.0.known.count ≡ 1` that the seat is that of one process.
+//! In a law of one kind of step `st` is what the code hands to it (`Step` of the kit's `atomic_table`): the word's
+//! index `st.word`; of an exchange what it expects, `st.first`, and what it puts in, `st.second`; and `st.said`, of the
+//! exchange of a direct attempt the invocation. `either (found == s) x found` is x where found is s, and else found.
+//! `Moves` says what the step does, and `me.0.known.count ≡ 1` that the seat is that of one process.
 ghost use Rattle.std.specs.Prelude.{◌≡◌, ◌≢◌, ◌==◌, ℕ, ◌+◌, ◌*◌, ◌<◌, ◌≤◌};
 ghost use Rattle.std.specs.Prelude.{List, Option, Some, [], length, slice_get, slice_index, slice_set};
 ghost use prog.Atomic.{either};
@@ -99,8 +99,8 @@ pub fn stores_append_nothing<O: SmallObject>()
 {}
 
 /// The other loads append nothing. Each clause is a kind of step: `Next` in Execution tells them in the order of a call
-/// (`start` is `Start`, `begin` `TryDirectly`, `check_own` `CheckOwn`, `reply` `Load`; the others have the same name), and
-/// the README, 'The steps', names the functions.
+/// (`start` is `Start`, `begin` `TryDirectly`, `check_own` `CheckOwn`, `reply` `Load`; the others have the same name),
+/// and the README, 'The steps', names the functions.
 pub fn loads_append_nothing<O: SmallObject>()
     ensures start { (o : O) (sizes : Sizes) (id tries : ℕ) (st : Step Seen) (me : Me Seen (View O)) →
         sizes.processes ≤ 64 → me.0.known.count ≡ 1 → tries < 2 → stage_of me ≡ Ready tries

@@ -131,8 +131,8 @@ impl<O: SmallObject> SmallSeat<O> {
     /// that it can make; nothing is changed then.
     ///
     /// In no clause: that the version is the present one, that `None` comes only where another one came meanwhile, that
-    /// nothing is stored, and which words are loaded. A body that loads one word and always answers `None` would meet the
-    /// clauses.
+    /// nothing is stored, and which words are loaded. A body that loads one word and always answers `None` would meet
+    /// the clauses.
     pub fn refresh(&mut self, shared: &SmallShared<O>) -> Result<Option<u64>, CallsSpent>
         requires seat { IsSeatOf shared.now self.old }
         ensures kept { IsSeatOf shared.now self.new × (process_of self.new ≡ process_of self.old) }
@@ -175,8 +175,8 @@ impl<O: SmallObject> SmallSeat<O> {
     /// asks, as for the value of a key of a map, needs no call but this, and no other process waits for it.
     ///
     /// The answer is `None` where another version came meanwhile; the reply stays as it was then. What the version is,
-    /// and what the seat follows, how many steps it takes and the error are as `refresh` has them, and so is what is in no
-    /// clause.
+    /// and what the seat follows, how many steps it takes and the error are as `refresh` has them, and so is what is in
+    /// no clause.
     pub fn read(
         &mut self,
         shared: &SmallShared<O>,

@@ -163,13 +163,13 @@ impl<O: WordObject> WordLog<O> {
 
 impl WordSeat {
     /// Applies the invocation: the call, its reply, its number, and how many turns it took. It returns after a known
-    /// number of word steps, whatever the other seats do, and takes no memory and no lock: no allocator and no lock come
-    /// in. The seat is one of this log's. With n processes a call of so many turns takes `2n + 5` word steps and
-    /// ten a turn; where its last step stores the head that is one more, which the seat counts, and which
-    /// comes only after n turns at most. The numbers of a seat's calls rise.
+    /// number of word steps, whatever the other seats do, and takes no memory and no lock: no allocator and no lock
+    /// come in. The seat is one of this log's. With n processes a call of so many turns takes `2n + 5` word steps and
+    /// ten a turn; where its last step stores the head that is one more, which the seat counts, and which comes only
+    /// after n turns at most. The numbers of a seat's calls rise.
     ///
-    /// That the reply is the object's is in no clause here: `close_with` says it of all calls of the seat at once, and so
-    /// does the law `every_execution_is_linearizable`.
+    /// That the reply is the object's is in no clause here: `close_with` says it of all calls of the seat at once, and
+    /// so does the law `every_execution_is_linearizable`.
     ///
     /// The error says that the seat has made all the calls that it can make; nothing is changed then.
     pub fn apply<O: WordObject>(&mut self, log: &WordLog<O>, inv: u64) -> Result<Answer, RowFull>

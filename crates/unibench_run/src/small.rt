@@ -143,7 +143,8 @@ fn close_and_replay<O: DrawnCalls>(
     requires seats { All (IsSeatOf shared) seats.items }
     requires few { (length lists.now < 2 ^ 32) × (sum_by vec_len lists.now < 2 ^ 64) }
     ensures closed { OnOk result ((last : List ℕ)
-        × HasHistory (placed (O.meaning object.now)).object (processes_of shared) (flat_map known_calls seats.items) last
+        × HasHistory (placed (O.meaning object.now)).object (processes_of shared)
+        (flat_map known_calls seats.items) last
         × IsReplayed (O.meaning object.now).object O.Call.encode O.Reply.encode (map (λ own. own.items) lists.now)
         (drop 1 last)) }
     ensures others { (IsErrOf result ThreadsFault.NoSuchObject → ⊥)
