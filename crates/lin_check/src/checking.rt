@@ -99,8 +99,10 @@ fn check_parts<O: Checkable>(
 /// Whether the history is linearizable: an order of its calls, or that there is none, or that the judge gave up.
 ///
 /// The object's guess is checked first; then comes a search, of at most `limit` rounds. Where calls are of several
-/// parts, each part is judged alone. It gives up past the limit, and where a process is 65,536 or more: that it does
-/// for no other reason is in no clause. An `Err` says that memory was refused.
+/// parts, each part is judged so, and the whole too where the orders of the parts make none of it: each search has its
+/// own `limit`. A history that isn't well-formed isn't linearizable. It gives up past the limit, and where a process is
+/// 65,536 or more: that it does for no other reason is in no clause, so a judge that always gave up would meet it. An
+/// `Err` says that memory was refused.
 pub fn check<O: Checkable>(
     alloc: Global,
     object: &O,

@@ -13,7 +13,7 @@ pub use Rattle.run_graph.specs.Graph.{HasEachWorld, IsEdge, IsGraph, IsMore, IsP
 pub use Rattle.run_graph.specs.Schedule.{Plan, along, call_in, event_from, moved, plan_of, shown, world_at}
 pub use Rattle.seq_object.specs.Sequential.{Sequential}
 pub use Rattle.uni_core.specs.Same.{without_counts}
-pub use Rattle.uni_core.specs.World.{Whole, world_of}
+pub use Rattle.uni_core.specs.World.{WorldParts, world_of}
 pub use Rattle.uni_model.specs.Places.{new_of}
 pub use Rattle.uni_model.specs.Places.Name.{Anchor}
 pub use Rattle.uni_model.specs.Worlds.{Event, IsAccepted, WorldOf, calls_in_era, opened_world, world_after, world_after_step}

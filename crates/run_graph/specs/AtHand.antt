@@ -6,7 +6,7 @@ use Rattle.std.specs.declared.alloc.Global.{Global}
 use Rattle.uni_model.specs.Places.{new_of}
 use Rattle.uni_model.specs.Places.Name.{Anchor}
 use Rattle.uni_model.specs.Worlds.{WorldOf}
-use Rattle.uni_core.specs.World.{Whole, world_of}
+use Rattle.uni_core.specs.World.{WorldParts, world_of}
 use Rattle.uni_core.specs.Same.{without_counts}
 use Rattle.run_graph.specs.Graph.{shown_at}
 use Rattle.run_graph.specs.Schedule.{Plan}
@@ -29,12 +29,12 @@ pub record IsTaken {T : Type 0} (j : ℕ) (one : Option T) (old new : List (Vec 
 
 -- The code's world w is over this object, began with this state, and is the world that is told, but for what is counted of the
 -- latest calls.
-pub record IsTold {O S I R : Type 0} (o : O) (start : S) (told : Option (WorldOf S I R)) (w : Whole O S I R) : Type 0 where
+pub record IsTold {O S I R : Type 0} (o : O) (start : S) (told : Option (WorldOf S I R)) (w : WorldParts O S I R) : Type 0 where
   pub object : w.object ≡ o
   pub anchor : new_of (world_of w).memory Anchor ≡ Some (start, None)
   pub world : told ≡ Some (without_counts (world_of w))
 
 -- the worlds at hand of each node
-pub record AreAtHand {O S I R : Type 0} (o : O) (plan : Plan S I R) (paths : List (Vec ℕ Global)) (worlds : List (Vec (Whole O S I R) Global)) : Type 0 where
+pub record AreAtHand {O S I R : Type 0} (o : O) (plan : Plan S I R) (paths : List (Vec ℕ Global)) (worlds : List (Vec (WorldParts O S I R) Global)) : Type 0 where
   pub count : length worlds ≡ length paths
   pub each : (i : ℕ) → All (IsTold o plan.object.initial (shown_at plan paths i)) (list_at worlds i)

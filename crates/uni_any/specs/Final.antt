@@ -25,12 +25,14 @@ pub record KnownCalls (I R : Type 0) : Type 0 where
   pub own : List (Returned I R)
   pub pending : Option I
 
--- There is a history that the atomic object accepts, from its start on. What is observed of it is linearizable, in the words
--- of Herlihy and Wing, in the order in which the calls took effect; the state is that after them. Each is a call of one of n processes. In the
--- history each known process takes the acts of its calls, each with its reply, and of its pending one, and no others.
--- The first calls_in_version v calls of that order are in version v, or all where there are fewer, and a later version
--- has no fewer; and each known call that has returned comes after those of one version, and is among those of another
--- one, as its seat was told.
+-- Some history that the atomic object accepts has the known calls, and this state at its end. Any such history will
+-- do: it isn't said that it is the one that was made, and nothing is said of the calls of other processes.
+--   accepted, completed: the object takes its acts, from the start on; so what is observed of it is linearizable
+--   state_is, inside: the state is that after its calls, each of which is one of n processes
+--   own_is: each known process makes its known calls, with their replies, and its pending one, and no others
+--   calls_in_version, rising: so many of its first calls are in a version, all where there are fewer
+--   stand: each known call that has returned comes after those of one version, and is among those of another, as its
+--     seat was told
 pub record HasHistory {S I R : Type 0} (object : Sequential S I R) (n : ℕ) (known : List (KnownCalls I R))
     (state : S) : Type 0 where
   pub acts : List (Act I R)

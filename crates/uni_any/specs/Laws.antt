@@ -36,9 +36,8 @@ module _ {O S I R : Type 0} (meaning : O → Sequential S I R) (o : O) (n : ℕ)
   ShowsNext g local seat_of then p l acts =
       (g' : Board I S R) × IsShown n meaning o g' (set_at local p l) seat_of then × (g'.acts ≡ g.acts ++ acts)
 
-  -- Where a board is shown, a step of the seat id can leave what is next, with a new view of the seat, so that a board is shown
-  -- whose history has more acts: `makes` says which, and `says` what the seat is told. It is a step that its process can take
-  -- in an execution.
+  -- Seat id takes a step from a shown board to `next`. The board that is shown then has the acts appended that `makes`
+  -- allows, `says` holds of the seat's new view, and the step is one that its process can take in an execution.
   abbrev pub Moves : (id : ℕ) → View O I S R
       → (next : Contents (Letter I S R) (View O I S R) → View O I S R → Contents (Letter I S R) (View O I S R))
       → (makes : Board I S R → (local : ℕ → Local I S R) → Contents (Letter I S R) (View O I S R) → View O I S R

@@ -38,11 +38,13 @@ module _ {S I R : Type 0} (object : Sequential S I R) (n : ℕ) where
   counted m p (See r idle inside named follows) taken = taken
   counted m p step taken = taken + steps_of_one m p step
 
-  -- how many process p has taken for its latest call at the end, where it had taken so many before
+  -- how many process p has taken for its latest call at the end, since that last began anew, where it had taken so many
+  -- before
   abbrev pub steps_of_call : (p taken : ℕ) {m : Moment I S R} → Execution object n m → ℕ
   steps_of_call p taken e = Executions.steps_of_call n (CanTake object n) (after object n) counted p taken e
 
-  -- no call of an execution from the opening takes more steps on words than this, whatever the other processes do
+  -- No call of an execution from the opening takes more steps on words than this, whatever the other processes do,
+  -- counted since it last began anew by a load of S in the midst of a look: how often it does has no bound here.
   abbrev pub KeepsBound : Execution object n (opened_moment object n) → Type 0
   KeepsBound e = (p : ℕ) → p < n → steps_of_call p 0 e ≤ call_steps n
 

@@ -75,12 +75,15 @@ impl<O: SeqObject> AnySeat<O> {
     }
 
     /// Makes a call: its reply, and the number of a version of the object in which it is. That version is greater than
-    /// the one that the seat had before, and the seat's later calls come after it. That the reply is the object's is
-    /// the law `every_execution_is_linearizable`, and what closing says.
+    /// the one that the seat had before, and the seat's later calls come after it. In no clause here: that the reply is
+    /// the object's, that the call is in that version, and that it comes after all calls of the version that the seat
+    /// had. Closing says so of the seat's calls (`own_is` and `stand` of `HasHistory`), and the law
+    /// `every_execution_is_linearizable` of executions. Nor is it said when `Memory` comes: a body that answered it
+    /// wherever neither `Pending` nor `Spent` is due, and changed nothing, would meet the clauses.
     ///
     /// With n processes it returns after at most `12 * n + 5` steps on shared words, whatever the others do; and the
-    /// object's own `apply` is called at most `2 * n` times (in no clause). That a call is announced first and is
-    /// helped by all is Herlihy's (1991), and that a version is copied and one word exchanged too (1993).
+    /// object's own `apply` is called at most `2 * n` times (in no clause). Announcing a call, which all others then
+    /// help, is Herlihy's of 1991; copying a version and exchanging one word is his of 1993.
     ///
     /// Errors, in this order: `Pending` where the seat has a call pending, `Spent` where it has made `MAX_CALLS` calls:
     /// after either nothing is changed; `Memory`: where the call was not announced, nothing is changed; where it was,

@@ -65,8 +65,8 @@ impl<O: SeqObject> AnyShared<O> {
     /// comes after all calls of the version that its seat had, and is among those of its own version. The number of the
     /// version is no less than that of the version that the seat has. The history is made by the steps of an execution.
     ///
-    /// The rows say how many calls of each process have taken effect in that history: so whoever knows how many were
-    /// made sees that the version is the last one. No clause says so by itself, and tests do.
+    /// The rows say how many calls of each process have taken effect in that history. The history is chosen by the
+    /// clause: that its other calls were made, and that the version is the last one, is in no clause. Tests see it.
     pub fn close_with(self, seat: AnySeat<O>) -> LastVersionOf<O>
         requires seat { IsSeatOf self seat }
         ensures told { HasRunTo (O.sequential (object_of self)) (processes_of self)

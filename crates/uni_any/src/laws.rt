@@ -70,8 +70,8 @@ pub fn announcement_invokes<O: SeqObject>()
 {}
 
 /// The exchange of S that finds what the attempt began with linearizes pending calls, at most one of each process, in
-/// the order of their processes: those that make its block of the version before. And the own call, which is one of
-/// them, returns. Another exchange appends nothing.
+/// the order of their processes: those that make its block of the version before. And the own call
+/// returns. One that finds another word appends nothing.
 pub fn exchange_linearizes<O: SeqObject>()
     ensures { (o : O) (n id tries : ℕ) (inv : O.Inv) (image : Image O.State O.Resp)
         (v : View O O.Inv O.State O.Resp) →
@@ -84,7 +84,7 @@ pub fn exchange_linearizes<O: SeqObject>()
 {}
 
 /// The last look of an attempt ends the call where it is in the version that was found: the history has its response
-/// more. Another look appends nothing.
+/// more. A look that doesn't find it there appends nothing.
 pub fn look_responds<O: SeqObject>()
     ensures { (o : O) (n id tries r : ℕ) (inv : O.Inv) (v : View O O.Inv O.State O.Resp) →
         v.known.count ≡ 1 → v.known.processes ≡ n → r < n → stage_of v ≡ Reading inv tries r
@@ -118,9 +118,9 @@ pub fn other_steps_append_nothing<O: SeqObject>()
 {}
 
 /// Every execution from the opening, in which the processes take their steps on words and buffers in any order, is
-/// linearizable in real time: each call takes effect at one of the steps between its announcement and its last one. And
-/// strongly: it is so in the order of these steps, which only grows where the execution goes on (`strongly`, true by
-/// how acts are made).
+/// linearizable in real time: each call takes effect at one of the steps from the first write of its announcement to
+/// its last step. And strongly: it is so in the order of these steps, which only grows where the execution goes on
+/// (`strongly`, true by how acts are made).
 pub fn every_execution_is_linearizable<O: SeqObject>()
     ensures linearized { (o : O) (n : ℕ) → 1 ≤ n → n ≤ 64
         → (e : Execution {R = O.Resp} (O.sequential o) n (opened_moment (O.sequential o) n))
@@ -133,8 +133,8 @@ pub fn every_execution_is_linearizable<O: SeqObject>()
 
 /// The construction is wait-free in every execution: a process in the midst of a call can always take a step that the
 /// call counts, where the memory for what it writes isn't refused; and no call takes more than `12 * n + 5` steps on
-/// words, whatever the other processes do. A call that is left in an attempt, for want of memory, is counted from the
-/// load with which it begins anew.
+/// words, whatever the other processes do. A call that is left while it looks, in the code only for want of memory, is
+/// counted from the load with which it begins anew.
 pub fn every_call_is_wait_free<O: SeqObject>()
     ensures never_blocks { (o : O) (n : ℕ) → 1 ≤ n → n ≤ 64
         → (e : Execution {R = O.Resp} (O.sequential o) n (opened_moment (O.sequential o) n))

@@ -41,7 +41,8 @@ impl<O: SeqObject> AnySeat<O> {
     ///
     /// The seat follows that version: its later calls come after all calls that are in it, and their versions are
     /// greater. The version has the state after the first calls of a history that the atomic object accepts, and all
-    /// calls of the seat are among these; its rows say how many of each process they are.
+    /// calls of the seat are among these; its rows say how many of each process they are. Which calls the other
+    /// processes make in that history is not said.
     ///
     /// It takes at most 3 steps on shared words, and is no call. The error says that the seat has a call pending;
     /// nothing is changed then.

@@ -1,5 +1,5 @@
 -- Calls by their names, and the entry of a call.
-use Rattle.uni_audit.proofs.Vocabulary.{Bool, CallId, Entry, List, Some, [], ap, arith, calls_of, cond, eq-eqb, eqb-true, false, find, option_and_then, refl, reply_to, same_call, slice_get, suc, take, true, zero, ℕ, ◌&&◌, ◌<◌, ◌==◌, ◌∙◌, ◌∷◌, ◌≡◌, ◌≢◌}
+use Rattle.uni_audit.proofs.Vocabulary.{Bool, CallId, Entry, List, Some, [], ap, arith, count_calls_of, cond, eq-eqb, eqb-true, false, find, option_and_then, refl, reply_to, same_call, slice_get, suc, take, true, zero, ℕ, ◌&&◌, ◌<◌, ◌==◌, ◌∙◌, ◌∷◌, ◌≡◌, ◌≢◌}
 use Rattle.uni_audit.proofs.Before.{count_by-before}
 
 abbrev pub call_named : (process nth : ℕ) → CallId
@@ -21,14 +21,14 @@ same_call-same a b e =
     rw (process, nth) refl
 
 -- in entries that are each the next call of their process, no call has two
-pub one_entry : {I R : Type 0} (entries : List (Entry I R)) → ((i : ℕ) (entry : Entry I R) → slice_get entries i ≡ Some entry → entry.call.nth ≡ calls_of entry.call.process (take i entries))
+pub one_entry : {I R : Type 0} (entries : List (Entry I R)) → ((i : ℕ) (entry : Entry I R) → slice_get entries i ≡ Some entry → entry.call.nth ≡ count_calls_of entry.call.process (take i entries))
     → (i j : ℕ) (a b : Entry I R) → i < j → slice_get entries i ≡ Some a → slice_get entries j ≡ Some b → a.call ≢ b.call
 one_entry entries numbered i j a b less at_i at_j same =
     let process : a.call.process ≡ b.call.process = ap (λ c. c.process) same in
     let nth : a.call.nth ≡ b.call.nth = ap (λ c. c.nth) same in
-    let low : a.call.nth ≡ calls_of a.call.process (take i entries) = numbered i a at_i in
-    let high : b.call.nth ≡ calls_of a.call.process (take j entries) = rw (← process) at (numbered j b at_j) in
-    let more : calls_of a.call.process (take i entries) < calls_of a.call.process (take j entries) =
+    let low : a.call.nth ≡ count_calls_of a.call.process (take i entries) = numbered i a at_i in
+    let high : b.call.nth ≡ count_calls_of a.call.process (take j entries) = rw (← process) at (numbered j b at_j) in
+    let more : count_calls_of a.call.process (take i entries) < count_calls_of a.call.process (take j entries) =
     count_by-before (λ e. e.call.process == a.call.process) entries i j a less at_i (eq-eqb a.call.process a.call.process refl) in
     absurd (omega arith)
 

@@ -1,5 +1,5 @@
 -- `Agrees` is the verdict exactly where entries and returns agree.
-use Rattle.uni_audit.proofs.Vocabulary.{Agrees, BadCall, BadReply, BadReturn, Bool, Entry, IfSome, IsAudited, IsLegal, List, Missing, None, Option, Return, Sequential, Some, Twice, Verdict, [], ap, call_shown, calls_of, entries_verdict, entry_verdict, eq-eqb, eqb-true, false, has_returned, if◌then◌else◌, length, map, option_map_or, refl, reply_to, return_verdict, returns_verdict, same_call, slice_get, subst, sym, take, true, verdict_of, ℕ, ◌++◌, ◌==◌, ◌↔◌, ◌∙◌, ◌∷◌, ◌≡◌, ◌≢◌}
+use Rattle.uni_audit.proofs.Vocabulary.{Agrees, BadCall, BadReply, BadReturn, Bool, Entry, IfSome, IsAudited, IsLegal, List, Missing, None, Option, Return, Sequential, Some, Twice, Verdict, [], ap, call_shown, count_calls_of, entries_verdict, entry_verdict, eq-eqb, eqb-true, false, has_returned, if◌then◌else◌, length, map, option_map_or, refl, reply_to, return_verdict, returns_verdict, same_call, slice_get, subst, sym, take, true, verdict_of, ℕ, ◌++◌, ◌==◌, ◌↔◌, ◌∙◌, ◌∷◌, ◌≡◌, ◌≢◌}
 use Rattle.uni_audit.proofs.Before.{EachAfter, EachAfter-none, EachAfter-cons, EachAfter-parts, none_before, none_of_first}
 use Rattle.uni_audit.proofs.Calls.{same_call-equal, same_call-same, one_entry, reply_from, reply_at}
 use Rattle.uni_audit.proofs.Faults.{first-agrees, passed}
@@ -14,7 +14,7 @@ module _ {R : Type 0} (same : R → R → Bool) (exact : (r s : R) → (same r s
   reply_right right place (Some r) is = let equal : same r right ≡ true = (exact r right).1 is in rw equal refl
 
   abbrev IsNext : {I : Type 0} → List (Entry I R) → Entry I R → Type 0
-  IsNext earlier entry = entry.call.nth ≡ calls_of entry.call.process earlier
+  IsNext earlier entry = entry.call.nth ≡ count_calls_of entry.call.process earlier
 
   module _ {S I : Type 0} (object : Sequential S I R) where
     pub entries_agree : (state : S) (earlier later : List (Entry I R)) → entries_verdict same object state earlier later ≡ Agrees
@@ -22,7 +22,7 @@ module _ {R : Type 0} (same : R → R → Bool) (exact : (r s : R) → (same r s
     entries_agree state earlier [] e = (tt, EachAfter-none IsNext earlier)
     entries_agree state earlier (entry ∷ later) e =
         let both = first-agrees (entry_verdict same object state earlier entry) _ e in
-        let call = passed (entry.call.nth == calls_of entry.call.process earlier) _ (BadCall (length earlier)) (λ f. absurd (cc)) both.0 in
+        let call = passed (entry.call.nth == count_calls_of entry.call.process earlier) _ (BadCall (length earlier)) (λ f. absurd (cc)) both.0 in
         let rest = entries_agree (object.next state entry.inv) (earlier ++ entry ∷ []) later both.1 in
         ((reply_agrees (object.answer state entry.inv) (length earlier) entry.reply call.1, rest.0), EachAfter-cons IsNext earlier entry later (eqb-true _ _ call.0) rest.1)
 
@@ -31,7 +31,7 @@ module _ {R : Type 0} (same : R → R → Bool) (exact : (r s : R) → (same r s
     agree_entries state earlier [] legal numbered = refl
     agree_entries state earlier (entry ∷ later) legal numbered =
         let parts = EachAfter-parts IsNext earlier entry later numbered in
-        let call : (entry.call.nth == calls_of entry.call.process earlier) ≡ true = eq-eqb _ _ parts.0 in
+        let call : (entry.call.nth == count_calls_of entry.call.process earlier) ≡ true = eq-eqb _ _ parts.0 in
         let rest = agree_entries (object.next state entry.inv) (earlier ++ entry ∷ []) later legal.1 parts.1 in
         rw (call, reply_right (object.answer state entry.inv) (length earlier) entry.reply legal.0, rest) refl
 

@@ -1,5 +1,5 @@
 -- The table of calls, as entries are added, and their marks, as calls return.
-use Rattle.uni_audit.proofs.Vocabulary.{Agrees, AreMarked, BadReturn, Bool, CallId, Entry, IsTable, List, Missing, None, Option, Return, Some, [], ap, arith, calls_of, cond, entry_place, eqb-false, eqb-true, false, get_or, get_or-set_other, get_or-set_same, has_returned, if◌then◌else◌, length, length-map, list_any-append, map, mark_at, option_and_then, option_map, option_map_or, option_or, place_of, refl, return_verdict, row_of, same_call, set, slice_get, slice_get-map, slice_get_past, slice_get_read, sum_by-append, sym, true, ℕ, ◌&&◌, ◌++◌, ◌+◌, ◌<◌, ◌==◌, ◌||◌, ◌∙◌, ◌∷◌, ◌≡◌, ◌≢◌}
+use Rattle.uni_audit.proofs.Vocabulary.{Agrees, AreMarked, BadReturn, Bool, CallId, Entry, IsTable, List, Missing, None, Option, Return, Some, [], ap, arith, count_calls_of, cond, entry_place, eqb-false, eqb-true, false, get_or, get_or-set_other, get_or-set_same, has_returned, if◌then◌else◌, length, length-map, list_any-append, map, mark_at, option_and_then, option_map, option_map_or, option_or, place_of, refl, return_verdict, row_of, same_call, set, slice_get, slice_get-map, slice_get_past, slice_get_read, sum_by-append, sym, true, ℕ, ◌&&◌, ◌++◌, ◌+◌, ◌<◌, ◌==◌, ◌||◌, ◌∙◌, ◌∷◌, ◌≡◌, ◌≢◌}
 use Rattle.std.proofs.Math.Bool.{or-false, or-true}
 use Rattle.std.proofs.Math.ListN.{length-set}
 use Rattle.std.proofs.lemmas.List.{length-append}
@@ -12,14 +12,14 @@ use Rattle.uni_audit.proofs.Elements.{find_place, position-more, slice_get-more_
 module _ {I R : Type 0} (earlier : List (Entry I R)) (entry : Entry I R) (calls after : CallPlaces) (table : IsTable earlier calls)
     (next : entry.call.nth ≡ length (row_of calls entry.call.process))
     (grown : (q : ℕ) → row_of after q ≡ (if entry.call.process == q then row_of calls q ++ length earlier ∷ [] else row_of calls q)) where
-  counted_more : (process : ℕ) → length (row_of after process) ≡ calls_of process (earlier ++ entry ∷ [])
+  counted_more : (process : ℕ) → length (row_of after process) ≡ count_calls_of process (earlier ++ entry ∷ [])
   counted_more process =
       let split = sum_by-append (λ e. cond (e.call.process == process) 1 0) earlier (entry ∷ []) in
       by_process (entry.call.process == process) refl (grown process) split where
         by_process : (t : Bool) → (entry.call.process == process) ≡ t
             → row_of after process ≡ (if t then row_of calls process ++ length earlier ∷ [] else row_of calls process)
-            → calls_of process (earlier ++ entry ∷ []) ≡ calls_of process earlier + (0 + cond t 1 0)
-            → length (row_of after process) ≡ calls_of process (earlier ++ entry ∷ [])
+            → count_calls_of process (earlier ++ entry ∷ []) ≡ count_calls_of process earlier + (0 + cond t 1 0)
+            → length (row_of after process) ≡ count_calls_of process (earlier ++ entry ∷ [])
         by_process true is row split = ap length row ∙ length-append (row_of calls process) (length earlier ∷ []) ∙ (omega (arith, table.counted process, split))
         by_process false is row split = ap length row ∙ (omega (arith, table.counted process, split))
 

@@ -16,7 +16,7 @@ pub use Rattle.uni_log.specs.Entry.{call_shown}
 pub use Rattle.uni_log.specs.declared.entry.Entry.{Entry}
 pub use Rattle.uni_audit.specs.Audited.{IsAudited}
 pub use Rattle.uni_audit.specs.CallPlaces.{AreMarked, HasGoneOver, IsTable, entry_place, mark_at, place_of, room_of, row_of}
-pub use Rattle.uni_audit.specs.Verdict.{calls_of, entries_verdict, entry_verdict, first, has_returned, reply_to, return_verdict, returns_verdict, same_call, verdict_of}
+pub use Rattle.uni_audit.specs.Verdict.{count_calls_of, entries_verdict, entry_verdict, first, has_returned, reply_to, return_verdict, returns_verdict, same_call, verdict_of}
 pub use Rattle.uni_audit.specs.declared.verdict.Return.{Return}
 pub use Rattle.uni_audit.specs.declared.verdict.Verdict.{Verdict}
 pub use Rattle.uni_audit.specs.declared.verdict.Verdict.TheVariants.{Agrees, BadCall, BadReply, BadReturn, Missing, Twice}

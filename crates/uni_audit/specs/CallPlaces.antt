@@ -11,7 +11,7 @@ use Rattle.uni_log.specs.declared.entry.Entry.{Entry}
 use Rattle.uni_audit.specs.declared.call_places.CallPlaces.{CallPlaces}
 use Rattle.uni_audit.specs.declared.checker.Check.{Check}
 use Rattle.uni_audit.specs.declared.verdict.Return.{Return}
-use Rattle.uni_audit.specs.Verdict.{calls_of, has_returned, same_call}
+use Rattle.uni_audit.specs.Verdict.{count_calls_of, has_returned, same_call}
 
 -- the row of a process
 abbrev pub row_of : CallPlaces → ℕ → List ℕ
@@ -31,7 +31,7 @@ entry_place call entries = position (λ e. same_call e.call call) entries
 
 -- the rows are those of the entries
 pub record IsTable {I R : Type 0} (entries : List (Entry I R)) (calls : CallPlaces) : Type 0 where
-  pub counted : (process : ℕ) → length (row_of calls process) ≡ calls_of process entries
+  pub counted : (process : ℕ) → length (row_of calls process) ≡ count_calls_of process entries
   pub placed : (call : CallId) → place_of calls call ≡ entry_place call entries
 
 -- a check has gone over these entries: it knows where each call's stands, and the replies

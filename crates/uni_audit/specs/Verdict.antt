@@ -1,4 +1,5 @@
--- The verdict of an audit: the first fault of a list of entries and a list of returns.
+-- The verdict of an audit: the first fault of a list of entries and a list of returns, as the check goes over them.
+-- What `Agrees` means is told by `IsAudited`.
 use Rattle.std.specs.Prelude.{◌≡◌, ℕ, ◌==◌, ◌&&◌, Bool, if◌then◌else◌, List, [], ◌∷◌, ◌++◌, Option, Some}
 use Rattle.std.specs.Prelude.{None, length, count_by, find, option_and_then, refl}
 use Rattle.std.specs.Option.{option_map_or}
@@ -15,8 +16,8 @@ abbrev pub same_call : CallId → CallId → Bool
 same_call a b = (a.process == b.process) && (a.nth == b.nth)
 
 -- how many of these entries are calls of a process
-abbrev pub calls_of : {I R : Type 0} → ℕ → List (Entry I R) → ℕ
-calls_of process entries = count_by (λ e. e.call.process == process) entries
+abbrev pub count_calls_of : {I R : Type 0} → ℕ → List (Entry I R) → ℕ
+count_calls_of process entries = count_by (λ e. e.call.process == process) entries
 
 -- the reply to a call in the first of these entries that is of it; nothing where none is of it, or it has none
 abbrev pub reply_to : {I R : Type 0} → CallId → List (Entry I R) → Option R
@@ -35,7 +36,7 @@ first fault later = fault
 abbrev pub entry_verdict : {S I R : Type 0} → (same : R → R → Bool) → Sequential S I R → S → (earlier : List (Entry I R))
     → Entry I R → Verdict
 entry_verdict same object state earlier entry =
-    if entry.call.nth == calls_of entry.call.process earlier
+    if entry.call.nth == count_calls_of entry.call.process earlier
     then option_map_or (λ reply. if same reply (object.answer state entry.inv) then Agrees else BadReply (length earlier))
     entry.reply Agrees
     else BadCall (length earlier)

@@ -1,5 +1,5 @@
 -- When two worlds are the same.
-use Rattle.uni_core.proofs.Vocabulary.{AfterOf, Anchor, Announced, BeforeOf, Bool, CellRecord, Content, HeadOf, InvOf, Invariant, Invocation, IsAfter, Link, List, Local, Name, NewOf, None, Number, Of, Option, Outline, Place, SeqOf, Sequential, Settled, Some, Standing, Whole, WorldOf, after_of, ap, arith, call_at, cases_lt, cell_named, cell_of, false, first_of, get_or, if◌then◌else◌, index_of, inl, inr, inv_of, invocation_in, is_some, length, link_in, memory_at, memory_of, name_from, nat_lt, new_of, option_map, option_map_or, outline, pending_of, processes_of, refl, settled_in, slice_get, slice_get_past, slice_get_read, standing_of, subst, suc, sym, true, without_counts, world_of, zero, ℕ, ◌&&◌, ◌+◌, ◌-◌, ◌<◌, ◌∙◌, ◌≡◌, ◌≤◌, ◌⊎◌}
+use Rattle.uni_core.proofs.Vocabulary.{AfterOf, Anchor, Announced, BeforeOf, Bool, CellRecord, Content, HeadOf, InvOf, Invariant, Invocation, IsAfter, Link, List, Local, Name, NewOf, None, Number, Of, Option, Outline, Place, SeqOf, Sequential, Settled, Some, Standing, WorldParts, WorldOf, after_of, ap, arith, call_at, cases_lt, cell_named, cell_of, false, first_of, get_or, if◌then◌else◌, index_of, inl, inr, inv_of, invocation_in, is_some, length, link_in, memory_at, memory_of, name_from, nat_lt, new_of, option_map, option_map_or, outline, pending_of, processes_of, refl, settled_in, slice_get, slice_get_past, slice_get_read, standing_of, subst, suc, sym, true, without_counts, world_of, zero, ℕ, ◌&&◌, ◌+◌, ◌-◌, ◌<◌, ◌∙◌, ◌≡◌, ◌≤◌, ◌⊎◌}
 use Rattle.std.specs.Prelude.{option_and_then, slice_index_or}
 
 none_both : {A : Type 0} (o o' : Option A) → o ≡ None → is_some o ≡ is_some o' → o ≡ o'
@@ -98,7 +98,7 @@ begun_from : (o : Option Local) → option_map_or (λ l. l.begun) o 0 ≡ option
 begun_from None = refl
 begun_from (Some l) = refl
 
-module _ {O S I R : Type 0} (object : Sequential S I R) (v u : Whole O S I R) (is : Invariant object (world_of v)) (is' : Invariant object (world_of u))
+module _ {O S I R : Type 0} (object : Sequential S I R) (v u : WorldParts O S I R) (is : Invariant object (world_of v)) (is' : Invariant object (world_of u))
     (processes : processes_of v.shared.cells ≡ processes_of u.shared.cells) (announce : v.shared.announce ≡ u.shared.announce)
     (heads : v.shared.heads ≡ u.shared.heads) (first : v.shared.first ≡ u.shared.first)
     (locals : (p : ℕ) → option_map standing_of (slice_get v.locals p) ≡ option_map standing_of (slice_get u.locals p))
@@ -182,15 +182,15 @@ module _ {O S I R : Type 0} (object : Sequential S I R) (v u : Whole O S I R) (i
   }
 
 -- two processes that keep the same for themselves
-pub stand_same : {O S I R : Type 0} (v now u now' : Whole O S I R) → v ≡ now → u ≡ now' → (p : ℕ) (l k : Local) → p < length v.locals → p < length u.locals
+pub stand_same : {O S I R : Type 0} (v now u now' : WorldParts O S I R) → v ≡ now → u ≡ now' → (p : ℕ) (l k : Local) → p < length v.locals → p < length u.locals
     → l ≡ get_or v.locals p l → k ≡ get_or u.locals p k → l.begun ≡ k.begun → l.call ≡ k.call
     → option_map standing_of (slice_get now.locals p) ≡ option_map standing_of (slice_get now'.locals p)
 stand_same {O} {S} {I} {R} v now u now' view view' p l k inside inside' read read' begun call =
-    ap (λ (x : Whole O S I R). option_map standing_of (slice_get x.locals p)) (sym view)
+    ap (λ (x : WorldParts O S I R). option_map standing_of (slice_get x.locals p)) (sym view)
     ∙ ap (option_map standing_of) (slice_get_read v.locals (length v.locals) p l refl inside read)
     ∙ (λ i. Some (record { call = call i; begun = begun i }))
     ∙ sym (ap (option_map standing_of) (slice_get_read u.locals (length u.locals) p k refl inside' read'))
-    ∙ ap (λ (x : Whole O S I R). option_map standing_of (slice_get x.locals p)) view'
+    ∙ ap (λ (x : WorldParts O S I R). option_map standing_of (slice_get x.locals p)) view'
 
 -- all of them
 pub stand_all : (xs ys : List Local) (j : ℕ) → length xs ≡ length ys → length xs ≤ j
@@ -202,10 +202,10 @@ stand_all xs ys j long all below p = at (cases_lt p j) where
   at (inr past) = ap (option_map standing_of) (slice_get_past xs p (omega arith) ∙ sym (slice_get_past ys p (omega arith)))
 
 -- the entries of two worlds as a contract has them
-pub entries_now : {O S I R : Type 0} (v now u now' : Whole O S I R) → v ≡ now → u ≡ now' → (v.shared.announce ≡ u.shared.announce) × (v.shared.heads ≡ u.shared.heads) × (v.shared.first ≡ u.shared.first)
+pub entries_now : {O S I R : Type 0} (v now u now' : WorldParts O S I R) → v ≡ now → u ≡ now' → (v.shared.announce ≡ u.shared.announce) × (v.shared.heads ≡ u.shared.heads) × (v.shared.first ≡ u.shared.first)
     → (now.shared.announce ≡ now'.shared.announce) × (now.shared.heads ≡ now'.shared.heads) × (now.shared.first ≡ now'.shared.first)
 entries_now {O} {S} {I} {R} v now u now' view view' same = (
-  ap (λ (x : Whole O S I R). x.shared.announce) (sym view) ∙ same.0 ∙ ap (λ (x : Whole O S I R). x.shared.announce) view',
-  ap (λ (x : Whole O S I R). x.shared.heads) (sym view) ∙ same.1 ∙ ap (λ (x : Whole O S I R). x.shared.heads) view',
-  ap (λ (x : Whole O S I R). x.shared.first) (sym view) ∙ same.2 ∙ ap (λ (x : Whole O S I R). x.shared.first) view',
+  ap (λ (x : WorldParts O S I R). x.shared.announce) (sym view) ∙ same.0 ∙ ap (λ (x : WorldParts O S I R). x.shared.announce) view',
+  ap (λ (x : WorldParts O S I R). x.shared.heads) (sym view) ∙ same.1 ∙ ap (λ (x : WorldParts O S I R). x.shared.heads) view',
+  ap (λ (x : WorldParts O S I R). x.shared.first) (sym view) ∙ same.2 ∙ ap (λ (x : WorldParts O S I R). x.shared.first) view',
 )

@@ -1,5 +1,5 @@
 -- What is told of a process's next step: that its cells are there, and whether it changes its place.
-use Rattle.uni_core.proofs.Vocabulary.{AfterOf, Anchor, Announce, Announced, BeforeOf, Bool, CanStep, ChangesAt, DecideAfter, DecideNew, Finish, Has, HeadOf, IfSome, InvOf, IsThere, IsTrue, IsWorld, Name, NewOf, None, Of, Option, Pending, Place, ReadAnnounce, ReadHelpSeq, ScanHead, ScanSeq, SeqOf, Sequential, SharedEntries, Some, Stage, Step, Test, Whole, WriteBefore, WriteHead, WriteScan, WriteSeq, ap, arith, effect_at, inl, inr, inv_of, memory_of, mod_below, named, option_map, pending_of, place_of, processes_of, refl, stage_of, subst, sym, world_after, world_of, ℕ, ◌<◌, ◌↔◌, ◌∙◌, ◌≡◌, ◌≢◌}
+use Rattle.uni_core.proofs.Vocabulary.{AfterOf, Anchor, Announce, Announced, BeforeOf, Bool, CanStep, ChangesAt, DecideAfter, DecideNew, Finish, Has, HeadOf, IfSome, InvOf, IsThere, IsTrue, IsWorld, Name, NewOf, None, Of, Option, Pending, Place, ReadAnnounce, ReadHelpSeq, ScanHead, ScanSeq, SeqOf, Sequential, SharedEntries, Some, Stage, Step, Test, WorldParts, WriteBefore, WriteHead, WriteScan, WriteSeq, ap, arith, effect_at, inl, inr, inv_of, memory_of, mod_below, named, option_map, pending_of, place_of, processes_of, refl, stage_of, subst, sym, world_after, world_of, ℕ, ◌<◌, ◌↔◌, ◌∙◌, ◌≡◌, ◌≢◌}
 use Rattle.uni_model.specs.Stages.{Stage as at, Pending as PendingAt}
 use Rattle.uni_model.proofs.SamePlace.{place_eq_same}
 use Rattle.uni_core.specs.declared.stage.Place.{Place as PlaceById}
@@ -52,13 +52,13 @@ place_there a n p mine count inside (WriteHead c s d) can = inside
 place_there a n p mine count inside (Finish s t) can = inside
 
 -- where a process stands in a call that is pending, as it was read
-module _ {O S I R : Type 0} (object : Sequential S I R) (v now : Whole O S I R) (view : v ≡ now) (is : IsWorld object v) (p : ℕ) (below : p < processes_of now.shared.cells)
+module _ {O S I R : Type 0} (object : Sequential S I R) (v now : WorldParts O S I R) (view : v ≡ now) (is : IsWorld object v) (p : ℕ) (below : p < processes_of now.shared.cells)
     (o : Option Pending) (call : Pending) (some : o ≡ Some call) (read : option_map (pending_of (named now.shared)) o ≡ (world_of now).call p) where
   inside : p < processes_of v.shared.cells
   inside = inside_view v now p view below
 
   pend : (world_of v).call p ≡ Some (pending_of (named v.shared) call)
-  pend = subst (λ (x : Whole O S I R). (world_of x).call p ≡ Some (pending_of (named x.shared) call)) (sym view)
+  pend = subst (λ (x : WorldParts O S I R). (world_of x).call p ≡ Some (pending_of (named x.shared) call)) (sym view)
       (sym read ∙ ap (option_map (pending_of (named now.shared))) some)
 
   pub can_step_now : CanStep v.shared call.mine call.stage
@@ -69,9 +69,9 @@ module _ {O S I R : Type 0} (object : Sequential S I R) (v now : Whole O S I R) 
       → IsPlaceIn (processes_of now.shared.cells) (λ cell. IsThere now.shared cell) place
   place_there_now n count place means =
       subst (λ k. IsPlaceIn k (λ cell. IsThere now.shared cell) place) count
-      (subst (λ (x : Whole O S I R). IsPlaceIn n (λ cell. IsThere x.shared cell) place) view
+      (subst (λ (x : WorldParts O S I R). IsPlaceIn n (λ cell. IsThere x.shared cell) place) view
       (IsIn-coded n (λ cell. IsThere v.shared cell) place (subst (IsIn n (λ cell. IsThere v.shared cell)) (sym (means coded))
-      (place_there v.shared n p call.mine (count ∙ ap (λ (x : Whole O S I R). processes_of x.shared.cells) (sym view)) (subst (λ k. p < k) (sym count) below) call.stage can_step_now))))
+      (place_there v.shared n p call.mine (count ∙ ap (λ (x : WorldParts O S I R). processes_of x.shared.cells) (sym view)) (subst (λ k. p < k) (sym count) below) call.stage can_step_now))))
 
   -- the cell that it proposes is one of a call of the era
   proposal_has : (stage : at) → (world_of v).call p ≡ Some (record { mine = named v.shared call.mine; stage = stage }) → (x : Name) → proposed_at stage ≡ Some x
@@ -100,7 +100,7 @@ module _ {O S I R : Type 0} (object : Sequential S I R) (v now : Whole O S I R) 
       → IfSome cell (λ id. IsThere now.shared id)
   proposal_there_now None means = tt
   proposal_there_now (Some id) means =
-      subst (λ (x : Whole O S I R). IsThere x.shared id) view
+      subst (λ (x : WorldParts O S I R). IsThere x.shared id) view
       (there_inv v.shared (omega (arith, inside)) id (proposal_has (stage_of (named v.shared) call.stage) pend (named v.shared id) (sym (means (named v.shared)))))
 
   abbrev at_v : PendingAt
@@ -124,4 +124,4 @@ module _ {O S I R : Type 0} (object : Sequential S I R) (v now : Whole O S I R) 
   pub changes_now : (sequential : O → Sequential S I R) (b : Bool) → IsTrue b ↔ ChangesAt (sequential v.object) v.shared p at_v.mine at_v.stage
       → IsTrue b ↔ ChangesItsPlace (sequential now.object) (world_of now) p
   changes_now sequential b test =
-      subst (λ (x : Whole O S I R). IsTrue b ↔ ChangesItsPlace (sequential x.object) (world_of x) p) view (changes_in_view (sequential v.object) b test)
+      subst (λ (x : WorldParts O S I R). IsTrue b ↔ ChangesItsPlace (sequential x.object) (world_of x) p) view (changes_in_view (sequential v.object) b test)

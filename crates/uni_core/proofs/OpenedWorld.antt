@@ -1,5 +1,5 @@
 -- The world that is shown when no process has called yet.
-use Rattle.uni_core.proofs.Vocabulary.{Anchor, CountsNone, CountsSteps, CountsSteps-opened_world, HelpingInvariant, HelpingInvariant-opened_world, IsWorld, List, Local, Memory, None, Option, Sequential, SharedEntries, Some, Whole, WorldOf, anchor_memory, ap, arith, call_at, first_of, length, length-replicate, made_of, memory_of, name_from, new_local, opened_world, option_map_or, processes_of, refl, replicate, seq_of, slice_get, slice_index_or, subst, suc, sym, world_at, world_of, zero, ℕ, ◌*◌, ◌+◌, ◌<◌, ◌^◌, ◌∙◌, ◌≡◌, ◌≤◌}
+use Rattle.uni_core.proofs.Vocabulary.{Anchor, CountsNone, CountsSteps, CountsSteps-opened_world, HelpingInvariant, HelpingInvariant-opened_world, IsWorld, List, Local, Memory, None, Option, Sequential, SharedEntries, Some, WorldParts, WorldOf, anchor_memory, ap, arith, call_at, first_of, length, length-replicate, made_of, memory_of, name_from, new_local, opened_world, option_map_or, processes_of, refl, replicate, seq_of, slice_get, slice_index_or, subst, suc, sym, world_at, world_of, zero, ℕ, ◌*◌, ◌+◌, ◌<◌, ◌^◌, ◌∙◌, ◌≡◌, ◌≤◌}
 use Rattle.uni_core.proofs.NoCalls.{CountsNone-opened_world}
 
 -- a function of what a process keeps says of copies what it says where there is none, if it says so of what is copied
@@ -25,7 +25,7 @@ world_at-copies n count m s number is i =
 module _ {O S I R : Type 0} (sequential : Sequential S I R) (object : O) (a : SharedEntries S I R) (n k : ℕ) (s : S) (number : ℕ) (locals : List Local)
     (copied : locals ≡ replicate n new_local) (memory : memory_of a ≡ anchor_memory s number)
     (shape : (processes_of a.cells ≡ n) × (a.cells.row ≡ k)) (firsts : a.first ≡ replicate n 0) where
-  abbrev pub first : Whole O S I R
+  abbrev pub first : WorldParts O S I R
   first = record { object = object; row = k; shared = a; locals = locals }
 
   none_first : (p : ℕ) → first_of a p ≡ 0

@@ -1,5 +1,5 @@
 -- The world that is shown after the end of an era.
-use Rattle.uni_core.proofs.Vocabulary.{Anchor, CellRecord, CountsNone, CountsSteps, CountsSteps-world_after, Has, HelpingInvariant, HelpingInvariant-world_after, IfSome, IsQuiescent, IsRenewed, IsSome, IsSomeAnd, IsWorld, List, Local, Memory, Name, None, Option, Pending, Reshape, Sequential, SharedEntries, Some, Whole, [], anchor_memory, ap, arith, call_at, calls_in_era, cell_of, enough, era_calls, first_of, idle_when_quiescent, last_cell, last_cell_threaded, length, made_of, memory_of, named, new_local, new_of, number-last_of, option_map, option_map_or, pending_of, processes_of, refl, seq_of, slice_get, slice_index_or, subst, suc, sym, world_after_era, world_of, zero, ℕ, ◌*◌, ◌+◌, ◌<◌, ◌^◌, ◌∙◌, ◌∷◌, ◌≡◌, ◌≤◌}
+use Rattle.uni_core.proofs.Vocabulary.{Anchor, CellRecord, CountsNone, CountsSteps, CountsSteps-world_after, Has, HelpingInvariant, HelpingInvariant-world_after, IfSome, IsQuiescent, IsRenewed, IsSome, IsSomeAnd, IsWorld, List, Local, Memory, Name, None, Option, Pending, Reshape, Sequential, SharedEntries, Some, WorldParts, [], anchor_memory, ap, arith, call_at, calls_in_era, cell_of, enough, era_calls, first_of, idle_when_quiescent, last_cell, last_cell_threaded, length, made_of, memory_of, named, new_local, new_of, number-last_of, option_map, option_map_or, pending_of, processes_of, refl, seq_of, slice_get, slice_index_or, subst, suc, sym, world_after_era, world_of, zero, ℕ, ◌*◌, ◌+◌, ◌<◌, ◌^◌, ◌∙◌, ◌∷◌, ◌≡◌, ◌≤◌}
 use Rattle.uni_model.proofs.AllLinked.{calls_numbered}
 use Rattle.uni_core.proofs.NoCalls.{CountsNone-world_after_era}
 use Rattle.uni_core.proofs.Named.{cell_named-name_from}
@@ -28,23 +28,23 @@ module _ (name name' : ℕ → Name) (locals locals' : List Local) (p : ℕ) (sa
   still_idle idle = no_call_at (slice_get locals' p)
       (reads (λ l. l.call) locals' p ∙ ap (λ (l : Local). l.call) same ∙ sym (reads (λ l. l.call) locals p) ∙ no_call (slice_get locals p) idle)
 
-module _ {O S I R : Type 0} (object : Sequential S I R) (v now : Whole O S I R) (view : v ≡ now) (is : IsWorld object v) (quiescent : IsQuiescent (world_of now)) (positive : 1 ≤ processes_of now.shared.cells)
+module _ {O S I R : Type 0} (object : Sequential S I R) (v now : WorldParts O S I R) (view : v ≡ now) (is : IsWorld object v) (quiescent : IsQuiescent (world_of now)) (positive : 1 ≤ processes_of now.shared.cells)
     (id : ℕ) (last_is : named now.shared id ≡ last_cell (world_of now)) where
   quiet : IsQuiescent (world_of v)
-  quiet = subst (λ (x : Whole O S I R). IsQuiescent (world_of x)) (sym view) quiescent
+  quiet = subst (λ (x : WorldParts O S I R). IsQuiescent (world_of x)) (sym view) quiescent
 
   some_process : 1 ≤ processes_of v.shared.cells
-  some_process = subst (λ (x : Whole O S I R). 1 ≤ processes_of x.shared.cells) (sym view) positive
+  some_process = subst (λ (x : WorldParts O S I R). 1 ≤ processes_of x.shared.cells) (sym view) positive
 
   -- as many processes as there were
   pub same_processes : (k : ℕ) → k ≡ processes_of v.shared.cells → k ≡ processes_of now.shared.cells
-  same_processes k e = subst (λ (x : Whole O S I R). k ≡ processes_of x.shared.cells) view e
+  same_processes k e = subst (λ (x : WorldParts O S I R). k ≡ processes_of x.shared.cells) view e
 
   pub enough_locals : processes_of now.shared.cells ≤ length v.locals
   enough_locals = subst (λ k. k ≤ length v.locals) (same_processes (processes_of v.shared.cells) refl) is.locals
 
   last_named : named v.shared id ≡ last_cell (world_of v)
-  last_named = subst (λ (x : Whole O S I R). named x.shared id ≡ last_cell (world_of x)) (sym view) last_is
+  last_named = subst (λ (x : WorldParts O S I R). named x.shared id ≡ last_cell (world_of x)) (sym view) last_is
 
   threaded : 1 ≤ seq_of (memory_of v.shared) (last_cell (world_of v))
   threaded = last_cell_threaded object (world_of v) is.sound.0 is.sound.1 is.sound.2 quiet
@@ -82,7 +82,7 @@ module _ {O S I R : Type 0} (object : Sequential S I R) (v now : Whole O S I R) 
 
   module _ (a' : SharedEntries S I R) (m : ℕ) (locals' : List Local) (renewed : IsRenewed (cell_of v.shared.cells id) (memory_of a')) (firsts : (p : ℕ) → first_of a' p ≡ (slice_index_or locals' p new_local).begun)
       (same : (p : ℕ) → slice_index_or locals' p new_local ≡ slice_index_or v.locals p new_local) (count : processes_of a'.cells ≡ m) where
-    abbrev pub renewed_whole : Whole O S I R
+    abbrev pub renewed_whole : WorldParts O S I R
     renewed_whole = record { object = v.object; row = v.row; shared = a'; locals = locals' }
 
     memory_is : memory_of a' ≡ anchor_memory settled.0.0 (seq_of (memory_of v.shared) (last_cell (world_of v)))
@@ -132,11 +132,11 @@ module _ {O S I R : Type 0} (object : Sequential S I R) (v now : Whole O S I R) 
           let anchor : seq_of (memory_of a') Anchor ≡ seq_of (memory_of v.shared) (last_cell (world_of v)) = ap (λ (x : Memory S I R). seq_of x Anchor) memory_is in omega arith;
       numbers = subst (λ (x : Memory S I R). seq_of x Anchor + processes_of a'.cells * v.row < 2 ^ 48) (sym memory_is)
           (subst (λ k. seq_of (memory_of v.shared) (last_cell (world_of v)) + k * v.row < 2 ^ 48) (sym count)
-          (subst (λ (x : Whole O S I R). seq_of (world_of x).memory (last_cell (world_of x)) + m * x.row < 2 ^ 48) (sym view) fits));
+          (subst (λ (x : WorldParts O S I R). seq_of (world_of x).memory (last_cell (world_of x)) + m * x.row < 2 ^ 48) (sym view) fits));
       sound = subst (λ w. HelpingInvariant object w) (sym world_of-renewed_v) (HelpingInvariant-world_after object (world_of v) (Reshape m) (quiet, few.0) is.counts is.sound);
       counts = subst CountsSteps (sym world_of-renewed_v) (CountsSteps-world_after object (world_of v) (Reshape m) (quiet, few.0) (is.sound.0, is.sound.1, is.sound.2) is.counts);
       none = subst CountsNone (sym world_of-renewed_v) (CountsNone-world_after_era (world_of v) is.none m);
     }
 
     pub world_of-renewed : world_of renewed_whole ≡ world_after_era (world_of now) m
-    world_of-renewed = world_of-renewed_v ∙ ap (λ (x : Whole O S I R). world_after_era (world_of x) m) view
+    world_of-renewed = world_of-renewed_v ∙ ap (λ (x : WorldParts O S I R). world_after_era (world_of x) m) view

@@ -1,5 +1,5 @@
 -- What a command does, and the run of a list of them.
-use Rattle.uni_core.proofs.Vocabulary.{AcceptsAll-append, Act, AreAccepted, CallId, CanGo, Done, Err, Event, Follows, Going, IsSome, IsStepRefused, List, MayNeedMemory, None, Ok, Option, Sequential, Some, Whole, WorldOf, [], ap, append-nil, append_assoc, arith, current_of, get_or, length, option_map, option_map_or, progress_of, refl, subst, suc, sym, take, world_after, world_after_all, world_of, ℕ, ◌++◌, ◌+◌, ◌-◌, ◌<◌, ◌∙◌, ◌∷◌, ◌≡◌, ◌≤◌}
+use Rattle.uni_core.proofs.Vocabulary.{AcceptsAll-append, Act, AreAccepted, CallId, CanGo, Done, Err, Event, Follows, Going, IsSome, IsStepRefused, List, MayNeedMemory, None, Ok, Option, Sequential, Some, WorldParts, WorldOf, [], ap, append-nil, append_assoc, arith, current_of, get_or, length, option_map, option_map_or, progress_of, refl, subst, suc, sym, take, world_after, world_after_all, world_of, ℕ, ◌++◌, ◌+◌, ◌-◌, ◌<◌, ◌∙◌, ◌∷◌, ◌≡◌, ◌≤◌}
 use Rattle.std.proofs.Math.Seq.{take-suc, take-length}
 use Rattle.std.specs.Result.{IsErrOf}
 use Rattle.uni_model.specs.Stages.{Pending}
@@ -16,7 +16,7 @@ use Rattle.uni_core.proofs.Begin.{none_isn't_some}
 use Rattle.uni_core.specs.Run.{IsOutcome, after_command, event_of, events_of, AreOutcomes, TakesCommand}
 
 -- a command that is refused leaves the world as it was
-pub TakesCommand-refused : {O S I R : Type 0} (object : Sequential S I R) (old new : Whole O S I R) (row : ℕ) (command : Command I) (why : Refusal) → new ≡ old
+pub TakesCommand-refused : {O S I R : Type 0} (object : Sequential S I R) (old new : WorldParts O S I R) (row : ℕ) (command : Command I) (why : Refusal) → new ≡ old
     → IsOutcome (world_of old) row command (Refused why) → TakesCommand object (world_of old) row command (Refused why) (world_of new)
 TakesCommand-refused object old new row command why same is = record {
   is = is;

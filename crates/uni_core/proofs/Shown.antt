@@ -1,5 +1,5 @@
 -- The world that is shown, after a process's own data changed.
-use Rattle.uni_core.proofs.Vocabulary.{Anchor, Call, ChangesOnly, CountsNone, CountsSteps, CountsSteps-world_after, Grows, HelpingInvariant, HelpingInvariant-world_after, InvOf, Invariant, Invariant-world_after_step, Invocation, IsAccepted, IsWorld, List, Local, Memory, None, Of, Option, Pending, Sequential, SharedEntries, Some, Stage, Step, Takes, Whole, WorldOf, ap, arith, call_at, first_of, inl, inr, length, made_of, memory_of, memory_with, name_from, named, number_cases, option_map, option_map_or, pending_of, place_of, processes_of, refl, seq_of, set_at, slice_get, slice_get-set_other, slice_get-set_same, slice_index_or, slice_set, stage_of, subst, sym, turn_of, world_after, world_after_call, world_after_step, world_at, world_of, ℕ, ◌*◌, ◌+◌, ◌-◌, ◌<◌, ◌^◌, ◌∙◌, ◌≡◌, ◌≤◌}
+use Rattle.uni_core.proofs.Vocabulary.{Anchor, Call, ChangesOnly, CountsNone, CountsSteps, CountsSteps-world_after, Grows, HelpingInvariant, HelpingInvariant-world_after, InvOf, Invariant, Invariant-world_after_step, Invocation, IsAccepted, IsWorld, List, Local, Memory, None, Of, Option, Pending, Sequential, SharedEntries, Some, Stage, Step, Takes, WorldParts, WorldOf, ap, arith, call_at, first_of, inl, inr, length, made_of, memory_of, memory_with, name_from, named, number_cases, option_map, option_map_or, pending_of, place_of, processes_of, refl, seq_of, set_at, slice_get, slice_get-set_other, slice_get-set_same, slice_index_or, slice_set, stage_of, subst, sym, turn_of, world_after, world_after_call, world_after_step, world_at, world_of, ℕ, ◌*◌, ◌+◌, ◌-◌, ◌<◌, ◌^◌, ◌∙◌, ◌≡◌, ◌≤◌}
 use Rattle.std.proofs.Math.ListN.{length-set}
 use Rattle.uni_model.specs.Stages.{Stage as at, Pending as PendingAt}
 use Rattle.uni_model.specs.Effects.{call_after}
@@ -48,7 +48,7 @@ set_at-same f p v e = λ i q. at_number q i where
   at_number : (q : ℕ) → set_at f p v q ≡ f q
   at_number q = elim (number_cases q p) [ inl h ↦ rw h.1 (sym (ap f h.0 ∙ e)) | inr h ↦ rw h.1 refl ]
 
-module _ {O S I R : Type 0} (object : Sequential S I R) (v : Whole O S I R) (is : IsWorld object v) (p : ℕ) (l : Local) (here : slice_get v.locals p ≡ Some l) (below : p < processes_of v.shared.cells) where
+module _ {O S I R : Type 0} (object : Sequential S I R) (v : WorldParts O S I R) (is : IsWorld object v) (p : ℕ) (l : Local) (here : slice_get v.locals p ≡ Some l) (below : p < processes_of v.shared.cells) where
   long : p < length v.locals
   long = let all : processes_of v.shared.cells ≤ length v.locals = is.locals in let inside : p < processes_of v.shared.cells = below in omega arith
 
@@ -58,7 +58,7 @@ module _ {O S I R : Type 0} (object : Sequential S I R) (v : Whole O S I R) (is 
     abbrev pub begun_local : Local
     begun_local = record { call = Some (record { mine = mine; stage = stages.Announce }); begun = l.begun + 1; among = among; steps = 0; turns = 0 }
 
-    abbrev pub begun_whole : Whole O S I R
+    abbrev pub begun_whole : WorldParts O S I R
     begun_whole = record { object = v.object; row = v.row; shared = a'; locals = slice_set v.locals p begun_local }
 
     begun_is : (world_of v).begun p ≡ l.begun
@@ -146,7 +146,7 @@ module _ {O S I R : Type 0} (object : Sequential S I R) (v : Whole O S I R) (is 
     abbrev pub stepped_local : Local
     stepped_local = record { call = option_map (λ s. record { mine = call.mine; stage = s }) to; begun = l.begun; among = l.among; steps = steps; turns = turns }
 
-    abbrev pub stepped_whole : Whole O S I R
+    abbrev pub stepped_whole : WorldParts O S I R
     stepped_whole = record { object = v.object; row = v.row; shared = a'; locals = slice_set v.locals p stepped_local }
 
     pub pending_is : (world_of v).call p ≡ Some (pending_of (named v.shared) call)

@@ -1,5 +1,5 @@
 -- Where a call is pending, its next step can be taken, and its last step finds a response.
-use Rattle.uni_core.proofs.Vocabulary.{Anchor, Announce, AtHead, Bool, CanStep, CellRecord, Content, DecideAfter, DecideNew, Finish, Has, IsCellOf, IsSome, IsThere, IsWorld, Name, None, Of, Option, is_some, stage_left, if◌then◌else◌, ReadAnnounce, ReadHelpSeq, ScanHead, ScanSeq, Sequential, SharedEntries, Some, Stage, Stands, Test, Whole, WriteBefore, WriteHead, WriteScan, WriteSeq, after_of, ap, arith, calls_in_era, cell_of, cond, effect_at, enough, era_calls, false, first_of, inl, inr, inv_of, memory_of, named, nat_eq, nat_lt, number_in, option_map, option_map_or, place_of, processes_of, refl, response_in, seq_of, stage_after, stage_of, subst, sum_below-bound, sym, true, turn_of, turns_to, world_of, ℕ, ◌%◌, ◌*◌, ◌+◌, ◌<◌, ◌^◌, ◌∙◌, ◌≡◌, ◌≤◌, ◌⊎◌}
+use Rattle.uni_core.proofs.Vocabulary.{Anchor, Announce, AtHead, Bool, CanStep, CellRecord, Content, DecideAfter, DecideNew, Finish, Has, IsCellOf, IsSome, IsThere, IsWorld, Name, None, Of, Option, is_some, stage_left, if◌then◌else◌, ReadAnnounce, ReadHelpSeq, ScanHead, ScanSeq, Sequential, SharedEntries, Some, Stage, Stands, Test, WorldParts, WriteBefore, WriteHead, WriteScan, WriteSeq, after_of, ap, arith, calls_in_era, cell_of, cond, effect_at, enough, era_calls, false, first_of, inl, inr, inv_of, memory_of, named, nat_eq, nat_lt, number_in, option_map, option_map_or, place_of, processes_of, refl, response_in, seq_of, stage_after, stage_of, subst, sum_below-bound, sym, true, turn_of, turns_to, world_of, ℕ, ◌%◌, ◌*◌, ◌+◌, ◌<◌, ◌^◌, ◌∙◌, ◌≡◌, ◌≤◌, ◌⊎◌}
 use Rattle.uni_model.specs.Stages.{Stage as at}
 use Rattle.uni_model.proofs.Steps.{linked_call, head_number}
 use Rattle.uni_model.proofs.Values.{response-settled}
@@ -10,7 +10,7 @@ Has-IsSome None h = absurd (let e = h.1 in cc)
 Has-IsSome (Some x) h = refl
 
 -- the last number is at most the anchor's and one for each cell that there can be, which is small
-pub last_small : {O S I R : Type 0} (object : Sequential S I R) (v : Whole O S I R) (is : IsWorld object v) → is.sound.1 < 2 ^ 48
+pub last_small : {O S I R : Type 0} (object : Sequential S I R) (v : WorldParts O S I R) (is : IsWorld object v) → is.sound.1 < 2 ^ 48
 last_small object v is =
     let all : is.sound.1 ≤ is.sound.0 Anchor + era_calls (world_of v) = enough object (world_of v) is.sound.0 is.sound.1 is.sound.2 in
     let each : era_calls (world_of v) ≤ processes_of v.shared.cells * v.row = sum_below-bound (processes_of v.shared.cells) v.row (calls_in_era (world_of v)) is.room in
@@ -31,7 +31,7 @@ module _ {S I R : Type 0} (a : SharedEntries S I R) (positive : 1 ≤ processes_
     by_cell None g = absurd (let e : None ≡ Some g.0 = g.1 in cc)
     by_cell (Some c) g = refl
 
-module _ {O S I R : Type 0} (object : Sequential S I R) (v : Whole O S I R) (is : IsWorld object v) (p : ℕ) (below : p < processes_of v.shared.cells) where
+module _ {O S I R : Type 0} (object : Sequential S I R) (v : WorldParts O S I R) (is : IsWorld object v) (p : ℕ) (below : p < processes_of v.shared.cells) where
   positive : 1 ≤ processes_of v.shared.cells
   positive = omega (arith, below)
 

@@ -1,7 +1,7 @@
 -- What a step leaves.
-use Rattle.uni_core.proofs.Vocabulary.{Announce, Bool, CanGo, CanStep, DecideAfter, DecideNew, Done, Err, Finish, Going, IsBounded, IsBounded-held, IsSome, IsWithinBound, if◌then◌else◌, is_some, IsWorld, Local, MayBeRefused, MayNeedMemory, MayNeedMemoryAt, None, Ok, OnErr, Option, Pending, ReadAnnounce, ReadHelpSeq, Result, ScanHead, ScanSeq, SeesSettled, Sequential, SharedEntries, Some, Stage, Step, Takes, IsSimulated, Test, Whole, WriteBefore, WriteHead, WriteScan, WriteSeq, ap, arith, get_or, length, memory_of, named, option_map, pending_of, place_of, processes_of, progress_of, refl, response_of_step, slice_get, slice_get-set_same, slice_set, stage_of, stage_left, step_accepted, subst, sym, turn_of, turns_to, world_after, world_of, ℕ, ◌*◌, ◌+◌, ◌<◌, ◌^◌, ◌∙◌, ◌≡◌, ◌≤◌}
+use Rattle.uni_core.proofs.Vocabulary.{Announce, Bool, CanGo, CanStep, DecideAfter, DecideNew, Done, Err, Finish, Going, IsBounded, IsBounded-held, IsSome, IsWithinBound, if◌then◌else◌, is_some, IsWorld, Local, MayBeRefused, MayNeedMemory, MayNeedMemoryAt, None, Ok, OnErr, Option, Pending, ReadAnnounce, ReadHelpSeq, Result, ScanHead, ScanSeq, PlacesBesideAreSettled, Sequential, SharedEntries, Some, Stage, Step, Takes, IsSimulated, Test, WorldParts, WriteBefore, WriteHead, WriteScan, WriteSeq, ap, arith, get_or, length, memory_of, named, option_map, pending_of, place_of, processes_of, progress_of, refl, response_of_step, slice_get, slice_get-set_same, slice_set, stage_of, stage_left, step_accepted, subst, sym, turn_of, turns_to, world_after, world_of, ℕ, ◌*◌, ◌+◌, ◌<◌, ◌^◌, ◌∙◌, ◌≡◌, ◌≤◌}
 use Rattle.uni_model.specs.Stages.{Pending as PendingAt}
-use Rattle.uni_model.proofs.Seen.{SeesSettled-held}
+use Rattle.uni_model.proofs.Seen.{PlacesBesideAreSettled-held}
 use Rattle.uni_core.proofs.Begin.{inside_count, local_here}
 use Rattle.uni_core.proofs.Shown.{stepped_whole, stepped_local, world_of-world_after_step, IsWorld-world_after_step}
 use Rattle.uni_core.proofs.Steppable.{CanStep-pending, turns_to-effect}
@@ -21,7 +21,7 @@ refused_at a (WriteSeq c s d) h = h
 refused_at a (WriteHead c s d) h = h
 refused_at a (Finish s t) h = h
 
-module _ {O S I R : Type 0} (object : Sequential S I R) (v now : Whole O S I R) (view : v ≡ now) (is : IsWorld object v) (p k : ℕ) (l : Local)
+module _ {O S I R : Type 0} (object : Sequential S I R) (v now : WorldParts O S I R) (view : v ≡ now) (is : IsWorld object v) (p k : ℕ) (l : Local)
     (count : k ≡ processes_of v.shared.cells) (below : p < k) (read : l ≡ get_or v.locals p l) (call : Pending) (pending : l.call ≡ Some call) where
   abbrev pub at_v : PendingAt
   at_v = pending_of (named v.shared) call
@@ -60,10 +60,10 @@ module _ {O S I R : Type 0} (object : Sequential S I R) (v now : Whole O S I R) 
       omega arith
 
   pub can_go : CanGo (world_of now) p
-  can_go = subst (λ (x : Whole O S I R). CanGo (world_of x) p) view (inside, rw pend refl)
+  can_go = subst (λ (x : WorldParts O S I R). CanGo (world_of x) p) view (inside, rw pend refl)
 
   pub may_need : MayBeRefused v.shared call.stage → MayNeedMemory (world_of now) p
-  may_need h = subst (λ (x : Whole O S I R). MayNeedMemory (world_of x) p) view (rw pend (refused_at v.shared call.stage h))
+  may_need h = subst (λ (x : WorldParts O S I R). MayNeedMemory (world_of x) p) view (rw pend (refused_at v.shared call.stage h))
 
   module _ (a' : SharedEntries S I R) (left_at : Stage) (response : Option R)
       (takes : Takes object p (named v.shared call.mine) (stage_of (named v.shared) call.stage) v.shared a' (option_map (stage_of (named v.shared)) (stage_left left_at response)) response)
@@ -82,14 +82,14 @@ module _ {O S I R : Type 0} (object : Sequential S I R) (v now : Whole O S I R) 
     turns_counted : after.turns ≡ l.turns + turn_of (stage_of (named v.shared) call.stage) (memory_of v.shared (place_of (processes_of v.shared.cells) p (named v.shared call.mine) (stage_of (named v.shared) call.stage)))
     turns_counted = turns_is ∙ ap (λ b. l.turns + (if b then 0 else turns_to left_at)) over_is ∙ ap (λ t. l.turns + t) (turns_to-effect object v.shared p (named v.shared call.mine) (stage_of (named v.shared) call.stage) left_at response takes.stage)
 
-    abbrev pub left : Whole O S I R
+    abbrev pub left : WorldParts O S I R
     left = record { object = v.object; row = v.row; shared = a'; locals = slice_set v.locals p after }
 
     same_local : stepped_local object v is p l here inside a' call pending to response takes after.steps after.turns steps_is turns_counted ≡ after
     same_local = λ i. record { call = sym call_left i; begun = sym begun_is i; among = sym among_is i; steps = after.steps; turns = after.turns }
 
     same_whole : stepped_whole object v is p l here inside a' call pending to response takes after.steps after.turns steps_is turns_counted ≡ left
-    same_whole = ap (λ (x : Local). let w : Whole O S I R = record { object = v.object; row = v.row; shared = a'; locals = slice_set v.locals p x } in w) same_local
+    same_whole = ap (λ (x : Local). let w : WorldParts O S I R = record { object = v.object; row = v.row; shared = a'; locals = slice_set v.locals p x } in w) same_local
 
     pub IsWorld-left : IsWorld object left
     IsWorld-left = subst (λ w. IsWorld object w) same_whole (IsWorld-world_after_step object v is p l here inside a' call pending to response takes after.steps after.turns steps_is turns_counted)
@@ -99,34 +99,34 @@ module _ {O S I R : Type 0} (object : Sequential S I R) (v now : Whole O S I R) 
 
     pub world_of-left : world_of left ≡ world_after object (world_of now) (Step p)
     world_of-left = sym (ap world_of same_whole) ∙ world_of-world_after_step object v is p l here inside a' call pending to response takes after.steps after.turns steps_is turns_counted
-        ∙ ap (λ (x : Whole O S I R). world_after object (world_of x) (Step p)) view
+        ∙ ap (λ (x : WorldParts O S I R). world_after object (world_of x) (Step p)) view
 
     Follows-left : IsSimulated object (world_of now) (Step p)
     Follows-left a shows =
-        let sound = subst (λ (x : Whole O S I R). IsWorld object x) view is in
-        let pend_now : (world_of now).call p ≡ Some at_v = subst (λ (x : Whole O S I R). (world_of x).call p ≡ Some at_v) view pend in
+        let sound = subst (λ (x : WorldParts O S I R). IsWorld object x) view is in
+        let pend_now : (world_of now).call p ≡ Some at_v = subst (λ (x : WorldParts O S I R). (world_of x).call p ≡ Some at_v) view pend in
         step_accepted object (world_of now) sound.sound.0 sound.sound.1 sound.sound.2 p at_v.mine a shows at_v.stage pend_now
 
-    pub SeesSettled-left : SeesSettled (world_of now) p
-    SeesSettled-left =
-        let sound = subst (λ (x : Whole O S I R). IsWorld object x) view is in
-        SeesSettled-held object (world_of now) (sound.sound.0, sound.sound.1, sound.sound.2) p
+    pub PlacesBesideAreSettled-left : PlacesBesideAreSettled (world_of now) p
+    PlacesBesideAreSettled-left =
+        let sound = subst (λ (x : WorldParts O S I R). IsWorld object x) view is in
+        PlacesBesideAreSettled-held object (world_of now) (sound.sound.0, sound.sound.1, sound.sound.2) p
 
     -- the same for the meaning of the object, as a contract has it
     module _ (o : O) (sequential : O → Sequential S I R) (is_object : object ≡ sequential v.object) where
-      abbrev pub left_with : Whole O S I R
+      abbrev pub left_with : WorldParts O S I R
       left_with = record { object = o; row = v.row; shared = a'; locals = slice_set v.locals p after }
 
       pub world_of-left_with : world_of left_with ≡ world_after (sequential now.object) (world_of now) (Step p)
       world_of-left_with = world_of-left ∙ ap (λ f. world_after f (world_of now) (Step p)) is_object
-          ∙ ap (λ (x : Whole O S I R). world_after (sequential x.object) (world_of now) (Step p)) view
+          ∙ ap (λ (x : WorldParts O S I R). world_after (sequential x.object) (world_of now) (Step p)) view
 
       pub Follows-left_with : IsSimulated (sequential now.object) (world_of now) (Step p)
-      Follows-left_with = subst (λ (x : Whole O S I R). IsSimulated (sequential x.object) (world_of now) (Step p)) view (subst (λ f. IsSimulated f (world_of now) (Step p)) is_object Follows-left)
+      Follows-left_with = subst (λ (x : WorldParts O S I R). IsSimulated (sequential x.object) (world_of now) (Step p)) view (subst (λ f. IsSimulated f (world_of now) (Step p)) is_object Follows-left)
 
     -- what the step answers
     pub answers : progress_of response ≡ progress_of (response_of_step (world_of now) p)
-    answers = subst (λ (x : Whole O S I R). progress_of response ≡ progress_of (response_of_step (world_of x) p)) view (rw pend (ap progress_of takes.told))
+    answers = subst (λ (x : WorldParts O S I R). progress_of response ≡ progress_of (response_of_step (world_of x) p)) view (rw pend (ap progress_of takes.told))
 
     pub still_pending : progress_of response ≡ Going → IsSome ((world_of left).call p)
     still_pending going = rw (slice_get-same) (rw call_left (goes_on response going)) where

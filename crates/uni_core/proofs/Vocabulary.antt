@@ -15,7 +15,7 @@ pub use Rattle.uni_core.specs.Refusals.{CanGo, IsBeginRefused, IsStepRefused}
 pub use Rattle.uni_core.specs.Same.{Outline, Standing, outline, standing_of, without_counts}
 pub use Rattle.uni_core.specs.SharedEntries.{HasShapeOf, IsRenewed, SharedEntries, cell_named, entry_name, first_of, memory_at, memory_of, named}
 pub use Rattle.uni_core.specs.Stage.{CanStep, ChangesAt, IsThere, MayBeRefused, Takes, effect_at, pending_of, stage_left, stage_of, turns_to}
-pub use Rattle.uni_core.specs.World.{CountsNone, Follows, IsWorld, KeepsFixed, MayNeedMemory, MayNeedMemoryAt, IsSimulated, Whole, call_at, current_of, name_in, progress_of, world_at, world_of}
+pub use Rattle.uni_core.specs.World.{CountsNone, Follows, IsWorld, KeepsFixed, MayNeedMemory, MayNeedMemoryAt, IsSimulated, WorldParts, call_at, current_of, name_in, progress_of, world_at, world_of}
 pub use Rattle.uni_core.specs.declared.fault.Progress.TheVariants.{Done, Going}
 pub use Rattle.uni_core.specs.declared.local.Local.{Local}
 pub use Rattle.uni_core.specs.declared.stage.Pending.{Pending}
@@ -41,7 +41,7 @@ pub use Rattle.uni_model.specs.Places.{Content, Memory, Name, Place, after_of, a
 pub use Rattle.uni_model.specs.Places.Content.{CellName, Invocation, Link, Number, Settled}
 pub use Rattle.uni_model.specs.Places.Name.{Anchor, Of}
 pub use Rattle.uni_model.specs.Places.Place.{AfterOf, Announced, BeforeOf, HeadOf, InvOf, NewOf, SeqOf}
-pub use Rattle.uni_model.specs.Settled.{Grows, SeesSettled}
+pub use Rattle.uni_model.specs.Settled.{Grows, PlacesBesideAreSettled}
 pub use Rattle.uni_model.specs.Transition.{place_of, response_after, stage_after, stage_after_scan, turn_of, value_after}
 pub use Rattle.uni_model.specs.Worlds.{AreAccepted, Event, IsAccepted, IsQuiescent, WorldOf, anchor_memory, calls_in_era, chain, last_cell, opened_world, response_of_step, world_after, world_after_all, world_after_call, world_after_era, world_after_step}
 pub use Rattle.uni_model.specs.Worlds.Event.{Call, Reshape, Step}

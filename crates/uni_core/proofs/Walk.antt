@@ -1,5 +1,5 @@
 -- The walk along the list to its last cell.
-use Rattle.uni_core.proofs.Vocabulary.{Anchor, Invariant, IsSome, Name, None, Option, Sequential, Some, Whole, WorldOf, [], after_of, ap, arith, calls_in_era, cell_of, cells_from, enough, era_calls, last_cell, last_of, memory_of, named, option_map, option_map_or, processes_of, refl, suc, sum_below-bound, sym, world_of, zero, ℕ, ◌*◌, ◌+◌, ◌<◌, ◌∙◌, ◌∷◌, ◌≡◌, ◌≤◌}
+use Rattle.uni_core.proofs.Vocabulary.{Anchor, Invariant, IsSome, Name, None, Option, Sequential, Some, WorldParts, WorldOf, [], after_of, ap, arith, calls_in_era, cell_of, cells_from, enough, era_calls, last_cell, last_of, memory_of, named, option_map, option_map_or, processes_of, refl, suc, sum_below-bound, sym, world_of, zero, ℕ, ◌*◌, ◌+◌, ◌<◌, ◌∙◌, ◌∷◌, ◌≡◌, ◌≤◌}
 use Rattle.uni_model.proofs.Chains.{cells_from-enough}
 
 -- from a cell the last one is found within so many steps
@@ -14,7 +14,7 @@ last_from_anchor object w row sound room =
     ap (last_of Anchor) (cells_from-enough w.memory sound.0 sound.1 sound.2.numbered (era_calls w) (w.n * row) Anchor all (omega arith))
 
 -- the walk along the list, at the cell with this index
-module _ {O S I R : Type 0} (now : Whole O S I R) (id : ℕ) where
+module _ {O S I R : Type 0} (now : WorldParts O S I R) (id : ℕ) where
   abbrev pub name : ℕ → Name
   name = named now.shared
 

@@ -21,7 +21,7 @@ use Rattle.uni_model.specs.Indices.{name_from}
 use Rattle.uni_core.specs.Stage.{pending_of}
 
 -- a world as the code has it: the object, how many calls a row has, the shared places, and what each process keeps for itself
-pub record Whole (O S I R : Type 0) : Type 0 where
+pub record WorldParts (O S I R : Type 0) : Type 0 where
   pub object : O
   pub row : ℕ
   pub shared : SharedEntries S I R
@@ -46,7 +46,7 @@ world_at n first memory locals =
     }
 
 -- the world that is shown
-abbrev pub world_of : {O S I R : Type 0} → Whole O S I R → WorldOf S I R
+abbrev pub world_of : {O S I R : Type 0} → WorldParts O S I R → WorldOf S I R
 world_of v = world_at (processes_of v.shared.cells) (first_of v.shared) (memory_of v.shared) v.locals
 
 -- the name of the cell at an index of the arena
@@ -58,7 +58,7 @@ abbrev pub CountsNone : {S I R : Type 0} → WorldOf S I R → Type 0
 CountsNone w = (p : ℕ) → w.begun p ≡ 0 → (w.among p ≡ 0) × (w.steps p ≡ 0) × (w.turns p ≡ 0)
 
 -- what every world keeps
-pub record IsWorld {O S I R : Type 0} (object : Sequential S I R) (v : Whole O S I R) : Type 0 where
+pub record IsWorld {O S I R : Type 0} (object : Sequential S I R) (v : WorldParts O S I R) : Type 0 where
   pub locals : processes_of v.shared.cells ≤ length v.locals
   pub firsts : length v.shared.first ≡ length v.locals
   pub few : processes_of v.shared.cells ≤ 64
@@ -102,7 +102,7 @@ abbrev pub GoesOn : {S I R : Type 0} → WorldOf S I R → ℕ → Progress R �
 GoesOn w p progress = progress ≡ Going → IsSome (w.call p)
 
 -- what no function of a `World` changes
-pub record KeepsFixed {O S I R : Type 0} (old new : Whole O S I R) : Type 0 where
+pub record KeepsFixed {O S I R : Type 0} (old new : WorldParts O S I R) : Type 0 where
   pub object : new.object ≡ old.object
   pub row : new.row ≡ old.row
 

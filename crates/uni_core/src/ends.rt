@@ -38,7 +38,7 @@ pub fn next_number<O: SeqObject>(world: &World<O>, m: u64) -> Option<u64>
 /// `k` calls. After each nothing is changed.
 pub fn trim<O: SeqObject>(world: &mut World<O>) -> Result<u64, TrimFault>
     ensures refused { IfErr result (IsTrimRefused (world_of world.old) world.old.row) }
-    ensures could { OnOk result (CanEnd (world_of world.old) world.old.row (world_of world.old).n) }
+    ensures allowed { OnOk result (CanEnd (world_of world.old) world.old.row (world_of world.old).n) }
     ensures number { IfOk result (λ number. number ≡ last_number (world_of world.old)) }
     ensures trimmed { OnOk result (world_of world.new
         ≡ world_after (O.sequential world.old.object) (world_of world.old) Trim) }
@@ -69,7 +69,7 @@ pub fn reshape<O: SeqObject>(
     m: u64,
 ) -> Result<u64, ReshapeFault>
     ensures refused { IfErr result (IsReshapeRefused (world_of world.old) world.old.row m) }
-    ensures could { OnOk result (IsCount m × CanEnd (world_of world.old) world.old.row m) }
+    ensures allowed { OnOk result (IsCount m × CanEnd (world_of world.old) world.old.row m) }
     ensures number { IfOk result (λ number. number ≡ last_number (world_of world.old)) }
     ensures reshaped { OnOk result (world_of world.new
         ≡ world_after (O.sequential world.old.object) (world_of world.old) (Reshape m)) }

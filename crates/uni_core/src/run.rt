@@ -63,8 +63,12 @@ impl<O: SeqObject> World<O> {
     }
 
     /// The world takes these commands, one after the other, and answers what each did. A command
-    /// that is refused changes nothing and is passed over: the run goes on with the next one. The bound
-    /// holds all along, also of a call that returned and was followed by another.
+    /// that is refused changes nothing and is passed over: the run goes on with the next one. After each
+    /// prefix of the events each process's latest call is within the bound (`bounded`).
+    ///
+    /// `outcomes` and `ran` say what is done. The rest follows, with what every world keeps: each event could come
+    /// (`accepted`), the atomic object takes the acts of the run (`simulated`), and the log after each prefix of the
+    /// events is a prefix of the log after all, but for a response that its last entry lacks (`log`).
     ///
     /// An `Err` says that memory for the answer was refused; then nothing is done.
     pub fn run(

@@ -4,7 +4,7 @@ ghost use Rattle.std.specs.Prelude.{◌≡◌, ◌≢◌, ◌≤◌, IfOk, OnOk,
 ghost use Rattle.uni_model.specs.Bound.{IsBounded};
 ghost use Rattle.uni_model.specs.Worlds.{opened_world, world_after};
 ghost use Rattle.uni_model.specs.Worlds.Event.{Call, Step};
-ghost use Rattle.uni_model.specs.Settled.{SeesSettled};
+ghost use Rattle.uni_model.specs.Settled.{PlacesBesideAreSettled};
 ghost use Rattle.uni_core.specs.World.{world_of, IsSimulated, IsProgress, GoesOn, KeepsFixed};
 ghost use Rattle.uni_core.specs.Refusals.{CanOpen, CanCall, CanGo, IsOpenRefused, IsBeginRefused, IsStepRefused};
 
@@ -29,9 +29,9 @@ pub struct World<O: SeqObject> {
 }
 
 impl<O: SeqObject> Model for World<O> {
-    ghost use Rattle.uni_core.specs.World.{Whole, IsWorld};
+    ghost use Rattle.uni_core.specs.World.{WorldParts, IsWorld};
 
-    ghost Value = { Whole O O.State O.Inv O.Resp };
+    ghost Value = { WorldParts O O.State O.Inv O.Resp };
 
     ghost view = { λ w. record {
       object = w.machine.object;
@@ -51,7 +51,7 @@ impl<O: SeqObject> Model for World<O> {
 pub fn counts_fit(n: u64, k: u64, seq: u64) -> Result<(), OpenFault>
     ensures refused { IfErr result (IsOpenRefused n k seq) }
     ensures other { IfErr result (λ e. e ≢ OpenFault.Memory) }
-    ensures could { OnOk result (CanOpen n k seq) }
+    ensures allowed { OnOk result (CanOpen n k seq) }
 {
     if n < 1 || n > MAX_PROCESSES {
         return Err(OpenFault::BadCount);
@@ -73,7 +73,7 @@ impl<O: SeqObject> World<O> {
     /// to 4096; `SeqFull` never, since 1 is low enough; `Memory`. After each the object is dropped.
     pub fn open(alloc: Global, object: O, n: u64, k: u64) -> Result<World<O>, OpenFault>
         ensures refused { IfErr result (IsOpenRefused n k 1) }
-        ensures could { OnOk result (CanOpen n k 1) }
+        ensures allowed { OnOk result (CanOpen n k 1) }
         ensures fits { IsErrOf result OpenFault.SeqFull → ⊥ }
         ensures opened { IfOk result (λ w. world_of w ≡ opened_world n ((O.sequential object).initial) 1) }
         ensures fixed { IfOk result (λ w. (w.object ≡ object) × (w.row ≡ k)) }
@@ -95,7 +95,7 @@ impl<O: SeqObject> World<O> {
     ) -> Result<World<O>, OpenFault>
         requires { 1 ≤ seq }
         ensures refused { IfErr result (IsOpenRefused n k seq) }
-        ensures could { OnOk result (CanOpen n k seq) }
+        ensures allowed { OnOk result (CanOpen n k seq) }
         ensures opened { IfOk result (λ w. world_of w ≡ opened_world n ((O.sequential object).initial) seq) }
         ensures fixed { IfOk result (λ w. (w.object ≡ object) × (w.row ≡ k)) }
     {
@@ -122,7 +122,7 @@ impl<O: SeqObject> World<O> {
     ) -> Result<World<O>, OpenFault>
         requires { 1 ≤ seq }
         ensures refused { IfErr result (IsOpenRefused n k seq) }
-        ensures could { OnOk result (CanOpen n k seq) }
+        ensures allowed { OnOk result (CanOpen n k seq) }
         ensures opened { IfOk result (λ w. world_of w ≡ opened_world n state seq) }
         ensures fixed { IfOk result (λ w. (w.object ≡ object) × (w.row ≡ k)) }
     {
@@ -150,7 +150,7 @@ impl<O: SeqObject> World<O> {
     /// nothing is changed.
     pub fn begin(&mut self, alloc: Global, p: u64, inv: &O::Inv) -> Result<CallId, BeginFault>
         ensures refused { IfErr result (IsBeginRefused (world_of self.old) self.old.row p) }
-        ensures could { OnOk result (CanCall (world_of self.old) self.old.row p) }
+        ensures allowed { OnOk result (CanCall (world_of self.old) self.old.row p) }
         ensures id { IfOk result (λ call. (call.process ≡ p) × (call.nth ≡ (world_of self.old).begun p)) }
         ensures begun { OnOk result (world_of self.new
             ≡ world_after (O.sequential self.old.object) (world_of self.old) (Call p inv.now)) }
@@ -190,8 +190,10 @@ impl<O: SeqObject> World<O> {
         })
     }
 
-    /// Process `p` takes the next step of its pending call: it touches one shared place. The process's calls stay
-    /// within the bound (`bounded`), and beside that place the step sees only what can't change (`beside`).
+    /// Process `p` takes the next step of its pending call: the world is the model's next one, in which one shared
+    /// place is touched (`step`). The process's calls stay within the bound (`bounded`). The places that the model's
+    /// step reads beside that one are settled (`beside`, a fact of the world before); which memory the code reads is in
+    /// no clause. `step` and `progress` say all that it does: the others follow, with what every world keeps.
     ///
     /// Errors, in this order: `BadProcess` where there is no process `p`; `Idle(p)` where it has no
     /// call pending; `Memory`, only at the step that decides the state and the response of a cell
@@ -199,14 +201,14 @@ impl<O: SeqObject> World<O> {
     /// and the step may be asked again.
     pub fn step(&mut self, alloc: Global, p: u64) -> Result<Progress<O::Resp>, StepFault>
         ensures refused { IfErr result (IsStepRefused (world_of self.old) p) }
-        ensures could { OnOk result (CanGo (world_of self.old) p) }
+        ensures allowed { OnOk result (CanGo (world_of self.old) p) }
         ensures step { OnOk result (world_of self.new
             ≡ world_after (O.sequential self.old.object) (world_of self.old) (Step p)) }
         ensures progress { IfOk result (IsProgress (world_of self.old) p) }
         ensures pending { IfOk result (GoesOn (world_of self.new) p) }
         ensures simulated { OnOk result (IsSimulated (O.sequential self.old.object) (world_of self.old) (Step p)) }
         ensures bounded { OnOk result (IsBounded (world_of self.new)) }
-        ensures beside { OnOk result (SeesSettled (world_of self.old) p) }
+        ensures beside { OnOk result (PlacesBesideAreSettled (world_of self.old) p) }
         ensures fixed { KeepsFixed self.old self.new }
         ensures unchanged { OnErr result (self.new ≡ self.old) }
     {

@@ -4,11 +4,11 @@ use Rattle.uni_model.specs.Places.{new_of}
 use Rattle.uni_model.specs.Places.Name.{Anchor}
 use Rattle.uni_model.specs.Worlds.{WorldOf, chain, opened_world}
 use Rattle.uni_model.specs.History.{invocations_of}
-use Rattle.uni_core.specs.World.{Whole}
+use Rattle.uni_core.specs.World.{WorldParts}
 
 -- a cursor along the log of a world, and how many entries it has passed
 pub record Along (O S I R : Type 0) : Type 0 where
-  pub world : Whole O S I R
+  pub world : WorldParts O S I R
   pub passed : ℕ
 
 -- the state that is settled in the cell at a place of the list, where the anchor is at place 0

@@ -31,9 +31,9 @@ pub struct Log<'a, O: SeqObject> {
 }
 
 impl<'a, O: SeqObject> Model for Log<'a, O> {
-    ghost use Rattle.uni_core.specs.World.{Whole};
+    ghost use Rattle.uni_core.specs.World.{WorldParts};
 
-    ghost Value = { Whole O O.State O.Inv O.Resp };
+    ghost Value = { WorldParts O O.State O.Inv O.Resp };
 
     ghost view = { λ l. l.world.now };
 }

@@ -1,5 +1,5 @@
 -- What a step reads beside its one place is settled, and is told by the places that the definitions name.
-use Rattle.uni_model.proofs.Vocabulary.{Announce, AreSettledPlaces, Content, DecideAfter, DecideNew, Finish, IfSome, Invariant, IsSound, Memory, Name, None, Option, Pending, ReadAnnounce, ReadHelpSeq, ScanHead, ScanSeq, SeesOnly, SeesSettled, Sequential, Settled, Some, Stage, Stands, Test, WorldOf, WriteBefore, WriteHead, WriteScan, WriteSeq, ap, inv_of, invocation_in, new_of, option_and_then, option_or, places_beside, refl, settled_in, subst, sym, value_after, ℕ, ◌∙◌, ◌≡◌, ◌≤◌}
+use Rattle.uni_model.proofs.Vocabulary.{Announce, AreSettledPlaces, Content, DecideAfter, DecideNew, Finish, IfSome, Invariant, IsSound, Memory, Name, None, Option, Pending, ReadAnnounce, ReadHelpSeq, ScanHead, ScanSeq, SeesOnly, PlacesBesideAreSettled, Sequential, Settled, Some, Stage, Stands, Test, WorldOf, WriteBefore, WriteHead, WriteScan, WriteSeq, ap, inv_of, invocation_in, new_of, option_and_then, option_or, places_beside, refl, settled_in, subst, sym, value_after, ℕ, ◌∙◌, ◌≡◌, ◌≤◌}
 use Rattle.uni_model.proofs.Steps.{head_number, linked_call}
 
 module _ {S I R : Type 0} (object : Sequential S I R) (w : WorldOf S I R) (num : Name → ℕ) (last : ℕ) (sound : IsSound object w num last) (p : ℕ) (mine : Name) where
@@ -21,8 +21,8 @@ module _ {S I R : Type 0} (object : Sequential S I R) (w : WorldOf S I R) (num :
   settled_beside (WriteHead c s d) is h = tt
   settled_beside (Finish s t) is h = (sound.values.threaded mine (subst (λ k. 1 ≤ k) (sym h.2) h.1), tt)
 
-pub SeesSettled-held : {S I R : Type 0} (object : Sequential S I R) (w : WorldOf S I R) → Invariant object w → (p : ℕ) → SeesSettled w p
-SeesSettled-held object w inv p = by_call (w.call p) refl where
+pub PlacesBesideAreSettled-held : {S I R : Type 0} (object : Sequential S I R) (w : WorldOf S I R) → Invariant object w → (p : ℕ) → PlacesBesideAreSettled w p
+PlacesBesideAreSettled-held object w inv p = by_call (w.call p) refl where
   by_call : (o : Option Pending) → w.call p ≡ o → IfSome o (λ (c : Pending). AreSettledPlaces w.memory (places_beside c.mine c.stage))
   by_call None is = tt
   by_call (Some c) is = settled_beside object w inv.0 inv.1 inv.2 p c.mine c.stage is (inv.2.stands p c is)

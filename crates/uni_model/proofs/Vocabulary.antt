@@ -31,7 +31,7 @@ pub use Rattle.uni_model.specs.Places.{Content, Memory, Name, Place, after_of, a
 pub use Rattle.uni_model.specs.Places.Content.{CellName, Invocation, Link, Number, Settled}
 pub use Rattle.uni_model.specs.Places.Name.{Anchor, Of}
 pub use Rattle.uni_model.specs.Places.Place.{AfterOf, Announced, BeforeOf, HeadOf, InvOf, NewOf, SeqOf}
-pub use Rattle.uni_model.specs.Settled.{AreSettledPlaces, ChangesOnly, Grows, SeesOnly, SeesSettled}
+pub use Rattle.uni_model.specs.Settled.{AreSettledPlaces, ChangesOnly, Grows, SeesOnly, PlacesBesideAreSettled}
 pub use Rattle.uni_model.specs.Stages.{Pending, Stage}
 pub use Rattle.uni_model.specs.Stages.Stage.{Announce, DecideAfter, DecideNew, Finish, ReadAnnounce, ReadHelpSeq, ScanHead, ScanSeq, Test, WriteBefore, WriteHead, WriteScan, WriteSeq}
 pub use Rattle.uni_model.specs.Tight.{BoundIsMet, EndsAtItsCell, MeetsBound, TakesOneTurn}

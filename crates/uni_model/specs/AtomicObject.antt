@@ -1,7 +1,8 @@
 -- The atomic object: each call is invoked, takes effect once, at one instant, and then responds with what the sequential
--- object answers at its place. It knows no list of cells, no helping, no number and no trim.
-use Rattle.std.specs.Prelude.{◌≡◌, ℕ, ◌+◌, ◌==◌, if◌then◌else◌, List, [], ◌∷◌, ◌++◌, Option, None, Some}
+-- object answers at its place. It knows no list of cells, no helping, no numbers of cells and no trim.
+use Rattle.std.specs.Prelude.{◌≡◌, ℕ, ◌+◌, ◌<◌, ◌==◌, if◌then◌else◌, List, [], ◌∷◌, ◌++◌, Option, None, Some}
 use Rattle.std.specs.Prelude.{map, slice_get, Contains, refl}
+use Rattle.std.proofs.Common.{arith}
 use Rattle.seq_object.specs.Sequential.{Sequential, counter}
 use Rattle.seq_object.specs.History.{response_at}
 
@@ -76,3 +77,7 @@ sample_points = refl
 
 sample_answer : response_at counter 0 (map (λ (c : Invoked ℕ). c.inv) (sample_call ∷ [])) 0 ≡ Some 0
 sample_answer = refl
+
+-- the atomic object takes these three acts, one after another
+sample_accepted : (b : Atomic ℕ ℕ) × AcceptsAll counter (at_start 0) (Invoke 0 0 5 ∷ Linearize sample_call ∷ Respond 0 0 0 ∷ []) b
+sample_accepted = (_, (_, (refl, refl, refl), (_, (refl, λ there. let less : there.0 < 0 = there.1 in omega arith, refl), (_, ((5, 0, refl, refl, refl), refl), refl))))

@@ -7,9 +7,10 @@ use Rattle.uni_model.specs.Worlds.{WorldOf}
 abbrev pub most_steps : (n : ℕ) → ℕ
 most_steps n = 10 * n + 12
 
--- A process's latest call. A turn is a try to add a cell: a test that finds no number yet. While the call is pending it
--- has taken at most n + 1 turns, and fewer than 10n + 12 own steps. Once it has returned, `among` processes having been
--- there when it began, it has taken at most among + 1 turns, and exactly 2 * among + 4 + 8 * turns own steps.
+-- A process's latest call; it began among so many processes. A turn is a try to add a cell: a test that finds no number
+-- yet. While the call is pending, there are as many processes as then, and it has taken at most n + 1 turns and fewer
+-- than 10n + 12 own steps. Once it has returned, it has taken at most among + 1 turns, and exactly 2 * among + 4 + 8 *
+-- turns own steps: so at most 10 * among + 12.
 abbrev pub IsWithinBound : (n : ℕ) → Option Pending → (begun among steps turns : ℕ) → Type 0
 IsWithinBound n None begun among steps turns = (turns ≤ among + 1) × (1 ≤ begun → steps ≡ 2 * among + 4 + 8 * turns)
 IsWithinBound n (Some c) begun among steps turns = (among ≡ n) × (turns ≤ n + 1) × (steps < most_steps n)

@@ -65,8 +65,8 @@ pub record Precedes {I R : Type 0} (history : List (Act I R)) (p k q m : ℕ) : 
 module _ {S I R : Type 0} (object : Sequential S I R) where
   -- The history has a completion that is, process by process, the legal sequential history of the calls in this order; and
   -- of two calls of the order the one that precedes the other in real time stands before it. (A pending call that the
-  -- completion drops stands nowhere, and is not asked.) Stronger than Herlihy and Wing, who order returned calls alone: a
-  -- returned call also precedes a later kept pending one.
+  -- completion drops stands nowhere, and is not asked.) Stronger than Herlihy and Wing as printed, who order returned
+  -- calls alone: a returned call also precedes a later kept pending one, as Sela, Herlihy and Petrank mend it (2021).
   pub record IsLinearizedByCompletion (start : S) (history : List (Act I R)) (order : List (Invoked I)) : Type 0 where
     pub completed : List (Act I R)
     pub completion : IsCompletion history completed
@@ -78,13 +78,13 @@ module _ {S I R : Type 0} (object : Sequential S I R) where
   abbrev pub IsLinearizableByCompletion : S → List (Act I R) → Type 0
   IsLinearizableByCompletion start history = (order : List (Invoked I)) × IsLinearizedByCompletion start history order
 
-  -- A history is linearized in an order by linearization points that are put in exactly where it is well-formed and has such a completion
-  -- for that order.
+  -- Linearization points can be put into a history, in this order, if and only if it is well-formed and has such a
+  -- completion for this order.
   abbrev pub AgreesInOrder : S → List (Act I R) → List (Invoked I) → Type 0
   AgreesInOrder start history order =
       IsLinearizedAs object start history order ↔ (IsWellFormed history × IsLinearizedByCompletion start history order)
 
-  -- So it is linearizable in the one sense exactly where it is so in the other.
+  -- So the two senses of linearizable agree.
   abbrev pub AgreesWithCompletion : S → List (Act I R) → Type 0
   AgreesWithCompletion start history =
       IsLinearizableHistory object start history ↔ (IsWellFormed history × IsLinearizableByCompletion start history)

@@ -89,7 +89,8 @@ module _ {S I R : Type 0} (object : Sequential S I R) where
   Simulates w e = IsReached w → IsAccepted w e → EndsNoEra e → (a : Atomic S I) → Shows w a
       → (b : Atomic S I) × Shows (world_after object w e) b × AcceptsAll object a (acts_of object w e) b
 
-  -- the history of a run from the opening, whichever eras end in it, is one of the atomic object that the run shows
+  -- The history of a run from the opening, whichever eras end in it, is one of the atomic object that the run shows:
+  -- with its linearization points. Of what is observed, which has none, `ObservesLinearizable` speaks.
   abbrev pub IsLinearizable : (n : ℕ) → (start : S) → (number : ℕ) → List (Event I) → Type 0
   IsLinearizable n start number events =
       1 ≤ number → AreAccepted object (opened_world n start number) events

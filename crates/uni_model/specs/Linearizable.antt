@@ -13,7 +13,7 @@ observed [] = []
 observed (Linearize c ∷ acts) = observed acts
 observed (act ∷ acts) = act ∷ observed acts
 
--- what is observed of an event: a call begins, and a call whose last step it is responds
+-- what is observed of an event: that a call begins, or that one responds, by its last step
 abbrev pub observed_at : {S I R : Type 0} → WorldOf S I R → Event I → List (Act I R)
 observed_at w (Call p i) = Invoke p (w.begun p) i ∷ []
 observed_at w (Step p) = responses_by w p

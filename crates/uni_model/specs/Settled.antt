@@ -40,9 +40,9 @@ IsSettledPlace m _ = ⊥
 abbrev pub AreSettledPlaces : {S I R : Type 0} → Memory S I R → List Place → Type 0
 AreSettledPlaces m places = AllByRecursion (IsSettledPlace m) places
 
--- the next step of a process reads, beside its one place, only places that are settled
-abbrev pub SeesSettled : {S I R : Type 0} → WorldOf S I R → ℕ → Type 0
-SeesSettled w p = IfSome (w.call p) (λ call. AreSettledPlaces w.memory (places_beside call.mine call.stage))
+-- the places that the next step of a process reads beside its own one are settled
+abbrev pub PlacesBesideAreSettled : {S I R : Type 0} → WorldOf S I R → ℕ → Type 0
+PlacesBesideAreSettled w p = IfSome (w.call p) (λ call. AreSettledPlaces w.memory (places_beside call.mine call.stage))
 
 -- what a step does, where its place contains v, is told by these places
 abbrev pub SeesOnly : {S I R : Type 0} → Sequential S I R → Memory S I R → Memory S I R → Name → Stage → Type 0

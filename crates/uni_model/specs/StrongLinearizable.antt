@@ -7,9 +7,10 @@ use Rattle.uni_model.specs.Linearizable.{observed_in}
 use Rattle.uni_model.specs.HerlihyWing.{one_by_one, IsLinearizedByCompletion}
 
 module _ {S I R : Type 0} (object : Sequential S I R) where
-  -- A function from runs to linearizations that keeps prefixes: it gives each run an order in which what is observed of it is
-  -- linearized, in the words of Herlihy and Wing; and once a run has it, every extension of the run only has further calls behind
-  -- it, and so has its sequential history.
+  -- A function from runs to linearizations that keeps prefixes. It gives each run an order in which what is observed of
+  -- it is linearized, in the words of Herlihy and Wing (`linearizes`). Where a run goes on, its order gets further
+  -- calls at the end, and changes in nothing else (`keeps_order`); so does the sequential history (`keeps_history`,
+  -- which follows).
   pub record LinearizesStrongly (n : ℕ) (start : S) (number : ℕ) (order : List (Event I) → List (Invoked I)) : Type 0 where
     pub linearizes : (events : List (Event I)) → AreAccepted object (opened_world n start number) events
         → IsLinearizedByCompletion object start (observed_in object (opened_world n start number) events) (order events)

@@ -17,9 +17,11 @@ module _ {S I R : Type 0} (object : Sequential S I R) where
     -- the stronger law: it is so in the order of the joined log
     pub agreed : IsLinearizedAs object start (observed_in object (opened_world n start number) events)
         (map (λ e. e.call) (log_of_run object (opened_world n start number) events))
-    -- after each prefix of the events, a process whose call is pending can take its next step
+    -- after each prefix of the events, a process whose call is pending can take its next step: so by what an accepted
+    -- step is, and the weight lies on `wait_free`
     pub never_blocks : (j p : ℕ) → NeverBlocks (world_after_all object (opened_world n start number) (take j events)) p
-    -- within each prefix, a call has returned at the latest at the (10n + 12)th step of its process since its begin
+    -- within each prefix, a call has returned at the latest at the (10m + 12)th step of its process since its begin,
+    -- for the m processes that there are when it begins: a reshape changes how many
     pub wait_free : (j : ℕ) (before later : List (Event I)) (p : ℕ) (i : I) → take j events ≡ before ++ Call p i ∷ later
         → AreNoCallsOf p later
         → IsWaitFree object (world_after_all object (opened_world n start number) before) p i later

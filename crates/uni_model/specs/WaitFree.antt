@@ -34,8 +34,9 @@ abbrev pub NeverBlocks : {S I R : Type 0} → WorldOf S I R → ℕ → Type 0
 NeverBlocks w p = (call : Pending) → w.call p ≡ Some call → IsAccepted w (Step p)
 
 module _ {S I R : Type 0} (object : Sequential S I R) where
-  -- From this world on p begins a call, and no other one later. Of the later events at most 10n + 12 are steps of p, for the n
-  -- processes that there are at the call; once there are as many, the call has returned, and wherever it has, with a response.
+  -- Where p begins a call in this world, and no other one among the later events: at most 10n + 12 of these are steps
+  -- of p, for the n processes that there are at the call; once there are as many, the call has returned, and wherever
+  -- it has, with a response.
   pub record IsWaitFree (w : WorldOf S I R) (p : ℕ) (i : I) (later : List (Event I)) : Type 0 where
     pub few : steps_among p later ≤ most_steps w.n
     pub returned : steps_among p later ≡ most_steps w.n → (world_after_all object w (Call p i ∷ later)).call p ≡ None

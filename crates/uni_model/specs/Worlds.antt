@@ -74,7 +74,8 @@ anchor_memory s number (NewOf Anchor) = Settled (Some (s, None))
 anchor_memory s number (NewOf x) = Settled None
 anchor_memory s number _ = Link None
 
--- n processes of which none has called, over a state and a first number
+-- n processes of which none has called, over a state and a first number; from 1 on, as number 0 says that a cell has
+-- none yet
 abbrev pub opened_world : {S I R : Type 0} → ℕ → S → ℕ → WorldOf S I R
 opened_world n s number =
     record {

@@ -3,7 +3,7 @@
 ghost use Rattle.std.specs.Prelude.{ℕ, List};
 ghost use Rattle.uni_model.specs.Places.{Name, Memory};
 ghost use Rattle.uni_model.specs.Stages.{Stage, Pending};
-ghost use Rattle.uni_model.specs.Settled.{SeesSettled, SeesOnly};
+ghost use Rattle.uni_model.specs.Settled.{PlacesBesideAreSettled, SeesOnly};
 ghost use Rattle.uni_model.specs.Worlds.{WorldOf, Event};
 ghost use Rattle.uni_model.specs.Invariant.{Invariant};
 ghost use Rattle.uni_model.specs.Bound.{IsBounded};
@@ -29,9 +29,10 @@ use seq_object::SeqObject;
 /// The main law. For every object, every number of processes and every list of accepted events, with
 /// the ends of eras among them: the calls and responses are a linearizable history (Herlihy and Wing
 /// 1990), with the joined log as its linearization; after each prefix of the events a process whose
-/// call is pending can step, and a call has returned at the latest at its process's (10n + 12)th step
-/// since its begin, in at most n + 1 turns (Herlihy 1991, section 4); and the prefix without its trims
-/// is accepted too, with the same history, joined log and counts.
+/// call is pending can step, and a call has returned at the latest at its process's (10m + 12)th step
+/// since its begin, in at most m + 1 turns, for the m processes that there are when it begins (Herlihy
+/// 1991, section 4); and the prefix without its trims is accepted too, with the same history, joined
+/// log and counts.
 pub fn is_universal<O: SeqObject>()
     ensures { (object : O) (n : ℕ) (start : O.State) (number : ℕ) (events : List (Event O.Inv)) →
         RunIsUniversal (O.sequential object) n start number events }
@@ -44,11 +45,12 @@ pub fn changes_one_place<O: SeqObject>()
         StepIsLocal (O.sequential object) w p call }
 {}
 
-/// Beside its one place a step sees only places that are settled, those that the definitions name
-/// for its stage: what a call asks for, and settled values.
+/// In a world that has the invariant, the places that a step reads beside its own one are settled
+/// (`settled`): what a call asks for, and settled values. What the step does is told by its own place and
+/// by these (`only`).
 pub fn step_sees_settled<O: SeqObject>()
     ensures settled { (object : O) (w : WorldOf O.State O.Inv O.Resp) (p : ℕ) → Invariant (O.sequential object) w
-        → SeesSettled w p }
+        → PlacesBesideAreSettled w p }
     ensures only { (object : O) (m later : Memory O.State O.Inv O.Resp) (mine : Name) (stage : Stage) →
         SeesOnly (O.sequential object) m later mine stage }
 {}
@@ -73,22 +75,22 @@ pub fn event_keeps_helping<O: SeqObject>()
         → KeepsHelping (O.sequential object) w e }
 {}
 
-/// Each accepted event that ends no era leaves what is settled: a decided `after` or `new`, a
-/// written `seq` or `before`, an invocation.
+/// In a world that has the invariant, each accepted event that ends no era leaves what is settled: a
+/// decided `after` or `new`, a written `seq` or `before`, an invocation.
 pub fn event_keeps_settled<O: SeqObject>()
     ensures { (object : O) (w : WorldOf O.State O.Inv O.Resp) (e : Event O.Inv)
         → KeepsSettled (O.sequential object) w e }
 {}
 
-/// Each accepted event that ends no era is what the atomic object does, from what the world shows
-/// before it to what it shows afterwards.
+/// From a world that has the invariant, each accepted event that ends no era is what the atomic object
+/// does, from what the world shows before it to what it shows afterwards.
 pub fn event_is_atomic<O: SeqObject>()
     ensures { (object : O) (w : WorldOf O.State O.Inv O.Resp) (e : Event O.Inv) → IsAtomic (O.sequential object) w e }
 {}
 
-/// While no era ends the log only grows: the log before an accepted event is a prefix of the log
-/// after it, but that a response that is missing in its last entry may be there then; and so is the
-/// log after each prefix of a list of them a prefix of the log after all.
+/// From a world that has the invariant, while no era ends the log only grows: the log before an
+/// accepted event is a prefix of the log after it, but that a response that is missing in its last entry
+/// may be there then; and so is the log after each prefix of a list of them a prefix of the log after all.
 pub fn log_only_grows<O: SeqObject>()
     ensures event { (object : O) (w : WorldOf O.State O.Inv O.Resp) (e : Event O.Inv)
         → KeepsLog (O.sequential object) w e }
@@ -110,8 +112,8 @@ pub fn log_is_legal<O: SeqObject>()
         → HasLegalLog (O.sequential object) w }
 {}
 
-/// A place that is settled never changes again in its era: a decided `after` or `new`, a written
-/// `seq` or `before`, an invocation.
+/// In each world that is reached, an accepted event that ends no era leaves what is settled: a decided
+/// `after` or `new`, a written `seq` or `before`, an invocation.
 pub fn keeps_settled<O: SeqObject>()
     ensures { (object : O) (w : WorldOf O.State O.Inv O.Resp) (e : Event O.Inv) →
         SettledStays (O.sequential object) w e }
@@ -123,8 +125,8 @@ pub fn keeps_invariant<O: SeqObject>()
         IsReached (O.sequential object) w → Invariant (O.sequential object) w }
 {}
 
-/// Each call that is begun and each step is what the atomic object does, from what the world shows
-/// before it to what it shows afterwards.
+/// In each world that is reached, each call that is begun and each step is what the atomic object does,
+/// from what the world shows before it to what it shows afterwards.
 pub fn simulates<O: SeqObject>()
     ensures { (object : O) (w : WorldOf O.State O.Inv O.Resp) (e : Event O.Inv) →
         Simulates (O.sequential object) w e }
@@ -256,11 +258,11 @@ pub fn is_strongly_linearizable<O: SeqObject>()
         IsStronglyLinearizable (O.sequential object) n start number }
 {}
 
-/// A history is linearizable with linearization points put in exactly where it is so in the words of Herlihy
+/// Linearization points can be put into a history if and only if it is linearizable in the words of Herlihy
 /// and Wing 1990: it is well-formed, and has a completion that is equivalent, process by process, to a legal
 /// sequential history that keeps its real-time order; a returned call precedes a later one that is still
-/// pending too, where the completion keeps it. The orders are the same in both senses. The law names no
-/// construction.
+/// pending too, where the completion keeps it (Sela, Herlihy and Petrank 2021). The orders are the same in both
+/// senses. The law names no construction.
 pub fn agrees_with_completion<O: SeqObject>()
     ensures history { (object : O) (start : O.State) (history : List (Act O.Inv O.Resp)) →
         AgreesWithCompletion (O.sequential object) start history }

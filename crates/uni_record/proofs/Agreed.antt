@@ -1,15 +1,15 @@
 -- The entries and the returns of a record agree.
-use Rattle.uni_record.proofs.Vocabulary.{Act, CallId, Entry, Event, HoldsResponses, Invariant-opened_world, Invoke, IsAudited, IsLegal, IsRecording, JoinsLegalLogs, Linearize, List, LogsResponses, Recording, Respond, Return, Sequential, Some, [], ap, arith, call_shown, calls_among, calls_of, cond, entry_shown, events_shown, history_of, log_of_run, logged_call, map, meaning, opening, option_map, refl, responses_in, slice_get, slice_get-map, subst, suc, sum_by-cons, sym, take, take-map, zero, ℕ, ◌+◌, ◌<◌, ◌==◌, ◌∙◌, ◌∷◌, ◌≡◌}
+use Rattle.uni_record.proofs.Vocabulary.{Act, CallId, Entry, Event, HoldsResponses, Invariant-opened_world, Invoke, IsAudited, IsLegal, IsRecording, JoinsLegalLogs, Linearize, List, LogsResponses, Recording, Respond, Return, Sequential, Some, [], ap, arith, call_shown, calls_among, count_calls_of, cond, entry_shown, events_shown, history_of, log_of_run, logged_call, map, meaning, opening, option_map, refl, responses_in, slice_get, slice_get-map, subst, suc, sum_by-cons, sym, take, take-map, zero, ℕ, ◌+◌, ◌<◌, ◌==◌, ◌∙◌, ◌∷◌, ◌≡◌}
 use Rattle.uni_model.specs.Chain.{Entry as Logged}
 use Rattle.uni_audit.proofs.Calls.{call_named}
 use Rattle.uni_record.proofs.Promised.{returns_are_responses}
 
 module _ {I R : Type 0} where
-  calls_of-shown : (p : ℕ) (entries : List (Entry I R)) → calls_among p (map entry_shown entries) ≡ calls_of p entries
-  calls_of-shown p [] = refl
-  calls_of-shown p (e ∷ es) =
+  count_calls_of-shown : (p : ℕ) (entries : List (Entry I R)) → calls_among p (map entry_shown entries) ≡ count_calls_of p entries
+  count_calls_of-shown p [] = refl
+  count_calls_of-shown p (e ∷ es) =
       sum_by-cons (λ (x : Logged I R). cond (x.call.process == p) 1 0) (entry_shown e) (map entry_shown es)
-      ∙ ap (λ n. cond (e.call.process == p) 1 0 + n) (calls_of-shown p es)
+      ∙ ap (λ n. cond (e.call.process == p) 1 0 + n) (count_calls_of-shown p es)
       ∙ sym (sum_by-cons (λ (x : Entry I R). cond (x.call.process == p) 1 0) e es)
 
   calls_shown : (entries : List (Entry I R)) → map logged_call (map entry_shown entries) ≡ map call_shown entries
@@ -62,7 +62,7 @@ module _ {S I R : Type 0} (object : Sequential S I R) (entries : List (Entry I R
         holds.numbered i (entry_shown e) (ap (λ es. slice_get es i) (sym shows) ∙ slice_get-map entry_shown entries i ∙ ap (option_map entry_shown) at)
         ∙ ap (λ es. calls_among e.call.process (take i es)) (sym shows)
         ∙ ap (calls_among e.call.process) (take-map entry_shown i entries)
-        ∙ calls_of-shown e.call.process (take i entries);
+        ∙ count_calls_of-shown e.call.process (take i entries);
     once = λ i j r s less at_i at_j same.
         let places = responses_at_places acts i j r s less (ap (λ rs. slice_get rs i) (sym told) ∙ at_i) (ap (λ rs. slice_get rs j) (sym told) ∙ at_j) in
         let place : places.0 ≡ places.1 = holds.once places.0 places.1 r.call.process r.call.nth r.reply s.reply places.3 (places.4 ∙ ap (λ (c : CallId). Some (Respond c.process c.nth s.reply)) (sym same)) in

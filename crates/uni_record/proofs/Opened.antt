@@ -2,7 +2,7 @@
 use Rattle.uni_record.proofs.Vocabulary.{HasRoom, IsOpenRefused, IsRecording, None, Recording, Sequential, [], arith, length, opened_world, pending_count, refl, set_aside, subst, sym, world_of, ℕ, ◌*◌, ◌+◌, ◌-◌, ◌≡◌, ◌≤◌}
 use Rattle.uni_core.specs.declared.fault.OpenFault.{OpenFault}
 use Rattle.uni_core.specs.declared.fault.OpenFault.TheVariants.{BadCount, BadRow, SeqFull, Memory}
-use Rattle.uni_record.specs.Recorded.{CanRecord, record_fault, IsOpenRefused as IsRecordRefused}
+use Rattle.uni_record.specs.Refusals.{CanRecord, record_fault, IsOpenRefused as IsRecordRefused}
 use Rattle.uni_record.proofs.Owed.{owed-quiescent}
 
 -- a world that isn't opened refuses the record, where memory was refused where all else fits

@@ -38,9 +38,10 @@ pub use Rattle.uni_audit.specs.Audited.{IsAudited}
 pub use Rattle.uni_audit.specs.CallPlaces.{AreMarked, HasGoneOver, IsTable, entry_place, mark_at, place_of, room_of, row_of}
 pub use Rattle.uni_record.specs.Event.{Completed, calls_in, completed_by, completed_in, ended_log, event_shown, events_shown, log_ended_by, responses_in}
 pub use Rattle.uni_record.specs.Packed.{ArePacked, HasCode, asked_by, asking, asking_in, call_with, code_of, event_with, unpacked}
-pub use Rattle.uni_record.specs.Recorded.{CanBegin, CanEnd, HasRoom, IsBeginRefused, IsEndRefused, IsPromised, IsRecording, IsStepRefused, KeepsOpening, Recording, Standing, meaning, opening, owed, owed_by, pending_count, set_aside, share, standing_of, untrimmed_world}
+pub use Rattle.uni_record.specs.Recorded.{HasRoom, IsPromised, IsRecording, KeepsOpening, Recording, meaning, opening, owed, owed_by, pending_count, set_aside, share, untrimmed_world}
+pub use Rattle.uni_record.specs.Refusals.{CanBegin, CanEnd, IsBeginRefused, IsEndRefused, IsStepRefused, Standing, standing_of}
 pub use Rattle.uni_record.specs.Run.{AreAnswersUntrimmed, AreOutcomes, IsAnswerIn, IsOutcome, TakesCommand, event_of, events_of, standing_after}
-pub use Rattle.uni_audit.specs.Verdict.{calls_of, entries_verdict, entry_verdict, first, has_returned, reply_to, return_verdict, returns_verdict, same_call, verdict_of}
+pub use Rattle.uni_audit.specs.Verdict.{count_calls_of, entries_verdict, entry_verdict, first, has_returned, reply_to, return_verdict, returns_verdict, same_call, verdict_of}
 pub use Rattle.uni_record.specs.declared.command.Command.{Command}
 pub use Rattle.uni_record.specs.declared.command.Outcome.{Outcome}
 pub use Rattle.uni_record.specs.declared.command.Outcome.TheVariants.{Called, Refused, Reshaped, Returned, Trimmed, Went}

@@ -1,4 +1,5 @@
 pub mod Event
 pub mod Packed
 pub mod Recorded
+pub mod Refusals
 pub mod Run

@@ -20,8 +20,10 @@ use Rattle.uni_record.specs.declared.fault.RecordStepFault.TheVariants as step
 use Rattle.uni_record.specs.declared.fault.RecordTrimFault.TheVariants as trim
 use Rattle.uni_record.specs.declared.fault.RecordReshapeFault.TheVariants as reshape
 use Rattle.uni_record.specs.Event.{event_shown, events_shown}
-use Rattle.uni_record.specs.Recorded.{Recording, Standing, meaning, standing_of, CanBegin, CanEnd, IsBeginRefused, IsStepRefused}
-use Rattle.uni_record.specs.Recorded.{IsEndRefused, IsReshapeRefused, KeepsOpening}
+use Rattle.uni_record.specs.Recorded.{Recording, meaning}
+use Rattle.uni_record.specs.Refusals.{Standing, standing_of, CanBegin, CanEnd, IsBeginRefused, IsStepRefused}
+use Rattle.uni_record.specs.Recorded.{KeepsOpening}
+use Rattle.uni_record.specs.Refusals.{IsEndRefused, IsReshapeRefused}
 
 -- why a call is refused
 abbrev pub IsCallRefused : {S I R : Type 0} → Standing S I R → (p : ℕ) → Refusal → Type 0

@@ -9,8 +9,10 @@ ghost use Rattle.uni_core.specs.World.{world_of};
 ghost use Rattle.uni_log.specs.Entry.{entry_shown};
 ghost use Rattle.uni_core.specs.Ends.{last_number};
 ghost use Rattle.uni_record.specs.declared.event.Event.TheVariants as event;
-ghost use Rattle.uni_record.specs.Recorded.{KeepsOpening, standing_of, untrimmed_world, CanEnd, IsEndRefused};
-ghost use Rattle.uni_record.specs.Recorded.{IsReshapeRefused, IsPromised};
+ghost use Rattle.uni_record.specs.Recorded.{KeepsOpening, untrimmed_world};
+ghost use Rattle.uni_record.specs.Refusals.{standing_of, CanEnd, IsEndRefused};
+ghost use Rattle.uni_record.specs.Recorded.{IsPromised};
+ghost use Rattle.uni_record.specs.Refusals.{IsReshapeRefused};
 ghost use Rattle.uni_core.specs.Refusals.{IsCount};
 
 use crate::event::Event;
@@ -52,7 +54,7 @@ impl<O: SeqObject> Recorded<O> {
     fn next_anchor(&self, m: u64) -> Result<u64, RecordTrimFault>
         requires { m ≤ 64 }
         ensures refused { IfErr result (IsEndRefused (standing_of self.now) m) }
-        ensures could { OnOk result (CanEnd (standing_of self.now) m) }
+        ensures allowed { OnOk result (CanEnd (standing_of self.now) m) }
         ensures number { IfOk result (λ number. number ≡ last_number (world_of self.now.world)) }
     {
         if let Some(p) = self.world.pending() {
@@ -70,7 +72,7 @@ impl<O: SeqObject> Recorded<O> {
     /// The same for any `m`. Errors: those of `reshape`, but for `Memory`.
     fn next_anchor_for(&self, m: u64) -> Result<u64, RecordReshapeFault>
         ensures refused { IfErr result (IsReshapeRefused (standing_of self.now) m) }
-        ensures could { OnOk result (IsCount m × CanEnd (standing_of self.now) m) }
+        ensures allowed { OnOk result (IsCount m × CanEnd (standing_of self.now) m) }
         ensures number { IfOk result (λ number. number ≡ last_number (world_of self.now.world)) }
     {
         if m < 1 || m > MAX_PROCESSES {
@@ -93,7 +95,7 @@ impl<O: SeqObject> Recorded<O> {
     /// stored events and 1 are more than the history can have; `Memory`. After each nothing is changed.
     pub fn trim(&mut self, alloc: Global) -> Result<u64, RecordTrimFault>
         ensures refused { IfErr result (IsEndRefused (standing_of self.old) (world_of self.old.world).n) }
-        ensures could { OnOk result (CanEnd (standing_of self.old) (world_of self.old.world).n) }
+        ensures allowed { OnOk result (CanEnd (standing_of self.old) (world_of self.old.world).n) }
         ensures number { IfOk result (λ number. number ≡ last_number (world_of self.old.world)) }
         ensures event { OnOk result (self.new.events ≡ self.old.events ++ event.Trim ∷ []) }
         ensures trimmed { OnOk result (world_of self.new.world
@@ -128,7 +130,7 @@ impl<O: SeqObject> Recorded<O> {
     /// `Memory`. After each nothing is changed.
     pub fn reshape(&mut self, alloc: Global, m: u64) -> Result<u64, RecordReshapeFault>
         ensures refused { IfErr result (IsReshapeRefused (standing_of self.old) m) }
-        ensures could { OnOk result (IsCount m × CanEnd (standing_of self.old) m) }
+        ensures allowed { OnOk result (IsCount m × CanEnd (standing_of self.old) m) }
         ensures number { IfOk result (λ number. number ≡ last_number (world_of self.old.world)) }
         ensures event { OnOk result (self.new.events ≡ self.old.events ++ event.Reshape m ∷ []) }
         ensures reshaped { OnOk result (world_of self.new.world

@@ -25,7 +25,7 @@ pub enum RecordOpenFault {
 
 impl From<OpenFault> for RecordOpenFault {
     ghost use Rattle.std.specs.Prelude.{◌≡◌};
-    ghost use Rattle.uni_record.specs.Recorded.{record_fault};
+    ghost use Rattle.uni_record.specs.Refusals.{record_fault};
 
     ghost from_gives = { λ fault made. made ≡ record_fault fault };
 

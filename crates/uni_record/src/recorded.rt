@@ -7,8 +7,9 @@ ghost use Rattle.uni_model.specs.Worlds.{Event as model};
 ghost use Rattle.uni_core.specs.World.{world_of, IsProgress};
 ghost use Rattle.uni_core.specs.Refusals.{CanGo};
 ghost use Rattle.uni_record.specs.declared.event.Event.TheVariants as event;
-ghost use Rattle.uni_record.specs.Recorded.{share, set_aside, standing_of, untrimmed_world, KeepsOpening, HasOpened};
-ghost use Rattle.uni_record.specs.Recorded.{CanRecord, IsOpenRefused, CanBegin, IsBeginRefused, IsStepRefused};
+ghost use Rattle.uni_record.specs.Recorded.{share, set_aside, untrimmed_world, KeepsOpening, HasOpened};
+ghost use Rattle.uni_record.specs.Refusals.{standing_of};
+ghost use Rattle.uni_record.specs.Refusals.{CanRecord, IsOpenRefused, CanBegin, IsBeginRefused, IsStepRefused};
 ghost use Rattle.uni_record.specs.Recorded.{IsPromised};
 
 use crate::counts::Counts;
@@ -81,7 +82,7 @@ impl<O: SeqObject> Recorded<O> {
         h: u64,
     ) -> Result<Recorded<O>, RecordOpenFault>
         ensures refused { IfErr result (IsOpenRefused n k 1 h) }
-        ensures could { OnOk result (CanRecord n k 1 h) }
+        ensures allowed { OnOk result (CanRecord n k 1 h) }
         ensures numbers { IsErrOf result RecordOpenFault.SeqFull → ⊥ }
         ensures opened { IfOk result (HasOpened O.sequential object n k 1 h) }
     {
@@ -105,7 +106,7 @@ impl<O: SeqObject> Recorded<O> {
     ) -> Result<Recorded<O>, RecordOpenFault>
         requires { 1 ≤ seq }
         ensures refused { IfErr result (IsOpenRefused n k seq h) }
-        ensures could { OnOk result (CanRecord n k seq h) }
+        ensures allowed { OnOk result (CanRecord n k seq h) }
         ensures opened { IfOk result (HasOpened O.sequential object n k seq h) }
     {
         counts_fit(n, k, seq)?;
@@ -127,7 +128,8 @@ impl<O: SeqObject> Recorded<O> {
 
     /// Process `p` begins a call: `World::begin`, whose event is stored. It sets aside `10 n + 13`
     /// events, its own among them, and makes the room of all that its call's steps and its return will
-    /// store.
+    /// store. Without the trims among the events the call has the same number (`untrimmed`). What `promised` says, the
+    /// laws give of every record.
     ///
     /// Errors, in this order: `BadProcess` where there is no process `p`; `Busy(p)` where it has a call
     /// pending; `RowFull(p)` where it has made as many calls in this era as a row has; `HistoryFull`
@@ -135,7 +137,7 @@ impl<O: SeqObject> Recorded<O> {
     /// than the history can have; `Memory`. After each nothing is changed.
     pub fn begin(&mut self, alloc: Global, p: u64, inv: &O::Inv) -> Result<CallId, RecordBeginFault>
         ensures refused { IfErr result (IsBeginRefused (standing_of self.old) p) }
-        ensures could { OnOk result (CanBegin (standing_of self.old) p) }
+        ensures allowed { OnOk result (CanBegin (standing_of self.old) p) }
         ensures id { IfOk result (λ call. (call.process ≡ p) × (call.nth ≡ (world_of self.old.world).begun p)) }
         ensures event { OnOk result (self.new.events ≡ self.old.events ++ event.Call p inv.now ∷ []) }
         ensures begun { OnOk result (world_of self.new.world
@@ -171,7 +173,7 @@ impl<O: SeqObject> Recorded<O> {
     /// passes the limit or the room. Errors: those of `begin`, but for `Memory`.
     fn room_of_call(&self, p: u64) -> Result<u64, RecordBeginFault>
         ensures refused { IfErr result (IsBeginRefused (standing_of self.now) p) }
-        ensures could { OnOk result (CanBegin (standing_of self.now) p) }
+        ensures allowed { OnOk result (CanBegin (standing_of self.now) p) }
         ensures room { IfOk result (λ more. set_aside (world_of self.now.world) + share (world_of self.now.world).n
             ≤ more) }
     {
@@ -200,14 +202,15 @@ impl<O: SeqObject> Recorded<O> {
 
     /// Process `p` takes the next step of its pending call: `World::step`, whose event is stored, and
     /// the call's return where it is the last one. It takes no memory for them, since `begin` has made
-    /// their room.
+    /// their room. Without the trims among the events it answers the same (`untrimmed`). What `promised` says, the laws
+    /// give of every record.
     ///
     /// Errors, in this order: `BadProcess` where there is no process `p`; `Idle(p)` where it has no
     /// call pending; `Memory` only where the object's apply was refused it. After each nothing is
     /// changed. The history is never too full for a step, by the bound of own steps.
     pub fn step(&mut self, alloc: Global, p: u64) -> Result<Progress<O::Resp>, RecordStepFault>
         ensures refused { IfErr result (IsStepRefused (standing_of self.old) p) }
-        ensures could { OnOk result (CanGo (world_of self.old.world) p) }
+        ensures allowed { OnOk result (CanGo (world_of self.old.world) p) }
         ensures event { OnOk result (self.new.events ≡ self.old.events ++ event.Step p ∷ []) }
         ensures step { OnOk result (world_of self.new.world
             ≡ world_after (O.sequential self.old.world.object) (world_of self.old.world) (model.Step p)) }

@@ -3,7 +3,8 @@
 ghost use Rattle.std.specs.Prelude.{◌≡◌, ◌+◌, ◌*◌, ◌≤◌, ◌↔◌, length, IsTrue, OnOk};
 ghost use Rattle.std.specs.Prelude.{vec_capacity};
 ghost use Rattle.uni_core.specs.World.{world_of};
-ghost use Rattle.uni_record.specs.Recorded.{IsHistoryLimit, set_aside};
+ghost use Rattle.uni_record.specs.Recorded.{set_aside};
+ghost use Rattle.uni_record.specs.Refusals.{IsHistoryLimit};
 
 use crate::counts::Counts;
 use seq_object::SeqObject;

@@ -1,7 +1,8 @@
 //! The run of a list of commands.
 
 ghost use Rattle.std.specs.Prelude.{◌≡◌, ◌++◌, IfOk, OnOk, OnErr};
-ghost use Rattle.uni_record.specs.Recorded.{KeepsOpening, IsPromised, standing_of, untrimmed_world};
+ghost use Rattle.uni_record.specs.Recorded.{KeepsOpening, IsPromised, untrimmed_world};
+ghost use Rattle.uni_record.specs.Refusals.{standing_of};
 ghost use Rattle.uni_record.specs.Run.{AreAnswersUntrimmed, AreOutcomes, TakesCommand, events_of};
 ghost use Rattle.uni_record.specs.declared.command.Command.TheVariants.{Call, Step, Trim, Reshape};
 

@@ -21,7 +21,8 @@ pub use Rattle.uni_model.specs.Places.{Name, head_seq, seq_of}
 pub use Rattle.uni_model.specs.Worlds.{Event, IsQuiescent, WorldOf, calls_in_era, opened_world, response_of_step, world_after, world_after_all, world_after_step}
 pub use Rattle.uni_model.specs.Worlds.Event.{Call, Reshape, Step, Trim}
 pub use Rattle.uni_record.specs.Event.{event_shown, events_shown}
-pub use Rattle.uni_record.specs.Recorded.{CanBegin, CanEnd, IsBeginRefused, IsEndRefused, IsRecording, IsReshapeRefused, KeepsOpening, Recording, meaning, standing_of}
+pub use Rattle.uni_record.specs.Recorded.{IsRecording, KeepsOpening, Recording, meaning}
+pub use Rattle.uni_record.specs.Refusals.{CanBegin, CanEnd, IsBeginRefused, IsEndRefused, IsReshapeRefused, standing_of}
 pub use Rattle.uni_script.specs.Answer.{called_text, end_text, entry_text, numbers_text, reshaped_text, trimmed_text}
 pub use Rattle.uni_script.specs.Commands.{answer_text}
 pub use Rattle.uni_script.specs.Ends.{AppendsPrefix, IsWritten, Moves}

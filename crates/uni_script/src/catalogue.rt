@@ -4,7 +4,7 @@ ghost use Rattle.std.specs.Prelude.{ℕ, ◌≡◌, ◌↔◌, true, false, [], 
 ghost use Rattle.std.specs.Prelude.{IsErrOf, option_map};
 ghost use Rattle.std.specs.Str.{bytes_eq};
 ghost use Rattle.ready_objects.specs.Words.{bytes_of};
-ghost use Rattle.uni_record.specs.Recorded.{IsHistoryLimit};
+ghost use Rattle.uni_record.specs.Refusals.{IsHistoryLimit};
 ghost use Rattle.uni_script.specs.declared.grammar.Header.{Header};
 ghost use Rattle.uni_script.specs.declared.options.Options.{Options};
 ghost use Rattle.uni_script.specs.declared.script_run.Ran.{Ran};

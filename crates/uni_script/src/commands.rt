@@ -8,7 +8,7 @@ ghost use Rattle.uni_model.specs.Bound.{most_steps};
 ghost use Rattle.uni_model.specs.Places.{head_seq};
 ghost use Rattle.uni_core.specs.World.{world_of};
 ghost use Rattle.uni_log.specs.Entry.{entry_shown};
-ghost use Rattle.uni_record.specs.Recorded.{IsHistoryLimit};
+ghost use Rattle.uni_record.specs.Refusals.{IsHistoryLimit};
 ghost use Rattle.uni_script.specs.Grammar.{IsInRange};
 ghost use Rattle.uni_script.specs.Commands.{answer_text, refusal_in, IsOver};
 ghost use Rattle.uni_script.specs.Answer.{call_text, numbers_text, heads_text, entry_text};

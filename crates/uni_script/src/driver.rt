@@ -3,7 +3,7 @@
 ghost use Rattle.std.specs.Prelude.{ℕ, ◌+◌, ◌≡◌, ◌≢◌, ◌↔◌, ◌⊎◌, [], true, false, List};
 ghost use Rattle.std.specs.Prelude.{Option, None, Some, Err, is_none, IfSome, IfNone, IfOk, IfErr, OnOk, OnErr};
 ghost use Rattle.std.specs.Prelude.{IsErrOf};
-ghost use Rattle.uni_record.specs.Recorded.{IsHistoryLimit};
+ghost use Rattle.uni_record.specs.Refusals.{IsHistoryLimit};
 ghost use Rattle.uni_script.specs.declared.options.Options.{Options};
 ghost use Rattle.uni_script.specs.Ends.{AppendsPrefix, Moves};
 ghost use Rattle.uni_script.specs.Grammar.{IsInRange, is_note};

@@ -2,7 +2,7 @@
 
 ghost use Rattle.std.specs.Prelude.{◌≡◌, ◌↔◌, true, false, None, Some, IfOk, IfErr, OnOk, IsErrOf};
 ghost use Rattle.std.specs.Io.KnownBytes.{IsAtEnd};
-ghost use Rattle.uni_record.specs.Recorded.{IsHistoryLimit};
+ghost use Rattle.uni_record.specs.Refusals.{IsHistoryLimit};
 ghost use Rattle.uni_script.specs.Objects.{spoken};
 ghost use Rattle.uni_script.specs.Promises.{IsPromised};
 ghost use Rattle.uni_script.specs.Replay.{IsReplay, Leaves, HasAnswered, HasFault, IsPartOfReplay, IsFaultOfScript};

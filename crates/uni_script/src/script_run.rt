@@ -2,7 +2,7 @@
 
 ghost use Rattle.std.specs.Prelude.{◌≡◌, false, true, IfOk, IfErr, OnOk, IsErrOf};
 ghost use Rattle.std.specs.Io.KnownBytes.{IsAtEnd};
-ghost use Rattle.uni_record.specs.Recorded.{IsHistoryLimit};
+ghost use Rattle.uni_record.specs.Refusals.{IsHistoryLimit};
 ghost use Rattle.uni_script.specs.Replay.{HasFault, IsFaultOfScript};
 ghost use Rattle.uni_script.specs.Scripts.{scripts};
 ghost use Rattle.uni_script.specs.ScriptRun.{IsScriptRun};

@@ -1,6 +1,6 @@
 -- What a contract sees of a seat, and what its calls leave of it.
 use Rattle.std.specs.Prelude.{◌≡◌, ℕ, ◌<◌, ◌≤◌, ◌⊎◌, List, [], ◌∷◌, ◌++◌, Option, Some, None, IsSome}
-use Rattle.std.specs.Prelude.{option_map, map, refl}
+use Rattle.std.specs.Prelude.{length, option_map, map, refl}
 use Rattle.std.specs.List.{range_with_len}
 use Rattle.seq_object.specs.declared.call_id.CallId.{CallId}
 use Rattle.uni_shared.specs.declared.fault.ApplyFault.{ApplyFault}
@@ -53,8 +53,8 @@ pub record HasStopped {I R : Type 0} (old new : SeatOf I R) : Type 0 where
   pub asks : inv_of new ≡ inv_of old
   pub receipts : new.receipts ≡ old.receipts
 
--- What apply leaves where it ends with a fault: the call pending, where the gate gave up. Where memory was refused or a stranger
--- was met, the call pending or the seat as it was, as its `pending` tells. Else the seat as it was.
+-- What apply leaves where it ends with a fault. `GaveUp`: the call is pending. `Memory` or `Stranger`: the call is
+-- pending, or the seat is as it was; its `pending` tells which. Any other fault: the seat is as it was.
 abbrev pub IsLeftByApply : {I R : Type 0} → SeatOf I R → I → ApplyFault → SeatOf I R → Type 0
 IsLeftByApply old inv GaveUp new = HasBegun old inv new
 IsLeftByApply old inv Memory new = (new ≡ old) ⊎ HasBegun old inv new
@@ -65,6 +65,11 @@ IsLeftByApply old inv _ new = new ≡ old
 pub record IsReceiptOf {I R : Type 0} (old : SeatOf I R) (receipt : Receipt I R) : Type 0 where
   pub call : call_of old ≡ Some receipt.call
   pub asks : inv_of old ≡ Some receipt.inv
+
+-- the call is of the seat's process, and the one after those that the seat has receipts of
+pub record IsNextCallOf {I R : Type 0} (old : SeatOf I R) (call : CallId) : Type 0 where
+  pub process : call.process ≡ old.process
+  pub nth : call.nth ≡ length old.receipts
 
 -- why a call that had begun hasn't ended
 abbrev pub IsCause : ApplyFault → Type 0

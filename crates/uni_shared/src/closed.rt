@@ -75,6 +75,11 @@ impl<O: SeqObject> Shared<O> {
     ///
     /// Errors, in this order: `MissingSeat`, `Stranger`, `PendingSeat`, `Mismatch`. After each what was
     /// handed in is handed back. `Memory` never comes (`fault`). That `Stranger` doesn't is in no clause.
+    ///
+    /// A lock tells nothing of what is under it. So `closed` speaks of the record that is handed out, and `fault` of
+    /// some record. In no clause: that it is the record that was under the lock, that its object is the one that it was
+    /// opened with, and that a refused `shared` still has it. A body that refused with `Mismatch` wherever each
+    /// process's seat is there once, none has a call pending, and one has a receipt, would meet the clauses.
     pub fn close(self, _alloc: Global, seats: Vec<Seat<O>>) -> Result<Closed<O>, Refused<O>>
         ensures closed { IfOk result (λ closed. IsClosed O.sequential closed.recorded closed.seats) }
         ensures processes { IfOk result (λ closed. closed.recorded.processes ≡ self.processes) }

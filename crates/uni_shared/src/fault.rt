@@ -2,8 +2,8 @@
 
 use thiserror::Error;
 
-/// Why a call has no receipt yet. Where several hold, the first of these is told, but that
-/// `Stranger` comes before `RowFull` where the call can't begin, and before `Memory` at a step.
+/// Why a call has no receipt yet. Where several hold, the one told is the first in the order that
+/// `Seat::apply` tells: so `Memory` for the receipt's room, and then `Stranger`, come before `RowFull`.
 #[derive(Clone, Copy, Debug, PartialEq, Eq, Error)]
 pub enum ApplyFault {
     /// The seat has a call pending.

@@ -7,7 +7,8 @@ ghost use Rattle.uni_model.specs.Worlds.{Event as model};
 ghost use Rattle.uni_core.specs.World.{world_of, current_of, MayNeedMemory};
 ghost use Rattle.uni_core.specs.Ends.{last_number};
 ghost use Rattle.uni_record.specs.declared.event.Event.TheVariants as event;
-ghost use Rattle.uni_record.specs.Recorded.{standing_of, KeepsOpening, CanBegin, CanEnd, IsBeginRefused, IsEndRefused};
+ghost use Rattle.uni_record.specs.Recorded.{KeepsOpening};
+ghost use Rattle.uni_record.specs.Refusals.{standing_of, CanBegin, CanEnd, IsBeginRefused, IsEndRefused};
 ghost use Rattle.uni_shared.specs.Held.{Replies, Tells};
 
 use seq_object::{CallId, SeqObject};
@@ -71,7 +72,7 @@ pub fn begin_held<O: SeqObject>(
     inv: &O::Inv,
 ) -> Result<Held<O::Resp>, RecordBeginFault>
     ensures refused { IfErr result (IsBeginRefused (standing_of recorded.old) p) }
-    ensures could { OnOk result (CanBegin (standing_of recorded.old) p) }
+    ensures allowed { OnOk result (CanBegin (standing_of recorded.old) p) }
     ensures call { IfOk result (λ held. (held.call.process ≡ p)
         × (held.call.nth ≡ (world_of recorded.old.world).begun p)) }
     ensures reply { IfOk result (λ held. held.reply ≡ None) }
@@ -101,7 +102,7 @@ pub fn step_held<O: SeqObject>(
     ensures not_its { IsErrOf result StepHeldFault.NotIts
         ↔ (current_of (world_of recorded.old.world) call.process ≢ Some call) }
     ensures memory { IsErrOf result StepHeldFault.Memory → MayNeedMemory (world_of recorded.old.world) call.process }
-    ensures could { OnOk result (current_of (world_of recorded.old.world) call.process ≡ Some call) }
+    ensures allowed { OnOk result (current_of (world_of recorded.old.world) call.process ≡ Some call) }
     ensures call { IfOk result (λ held. held.call ≡ call) }
     ensures reply { IfOk result (Replies (world_of recorded.old.world) call) }
     ensures tells { IfOk result (λ held. Tells (world_of recorded.new.world) call.process held) }
@@ -138,7 +139,7 @@ pub fn trim_held<O: SeqObject>(
     recorded: &mut Recorded<O>,
 ) -> Result<u64, RecordTrimFault>
     ensures refused { IfErr result (IsEndRefused (standing_of recorded.old) (world_of recorded.old.world).n) }
-    ensures could { OnOk result (CanEnd (standing_of recorded.old) (world_of recorded.old.world).n) }
+    ensures allowed { OnOk result (CanEnd (standing_of recorded.old) (world_of recorded.old.world).n) }
     ensures number { IfOk result (λ number. number ≡ last_number (world_of recorded.old.world)) }
     ensures event { OnOk result (recorded.new.events ≡ recorded.old.events ++ event.Trim ∷ []) }
     ensures trimmed { OnOk result (world_of recorded.new.world

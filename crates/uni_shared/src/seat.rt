@@ -4,7 +4,7 @@ ghost use Rattle.std.specs.Prelude.{◌≡◌, ◌-◌, ◌<◌, ◌≤◌, ◌�
 ghost use Rattle.std.specs.Prelude.{OnOk, IsSome, IsErrOf, IsTrue, None, Some, length, slice_get};
 ghost use Rattle.std.specs.Borrow.{sem};
 ghost use Rattle.uni_shared.specs.Seat.{first_seat, HasEnded, HasBegun, HasStopped, IsLeftByApply, IsReceiptOf};
-ghost use Rattle.uni_shared.specs.Seat.{IsCause};
+ghost use Rattle.uni_shared.specs.Seat.{IsCause, IsNextCallOf, call_of};
 ghost use Rattle.uni_shared.specs.Ending.{EndsApplied, EndsResumed};
 
 use crate::fault::ApplyFault;
@@ -227,6 +227,7 @@ impl<O: SeqObject> Seat<O> {
         inv: O::Inv,
     ) -> Result<(), ApplyFault>
         ensures begun { OnOk result (HasBegun self.old inv self.new) }
+        ensures next { OnOk result ((call : _) × IsNextCallOf self.old call × (call_of self.new ≡ Some call)) }
         ensures left { IfErr result (λ fault. IsLeftByApply self.old inv fault self.new) }
         ensures seat_pending { IsErrOf result ApplyFault.SeatPending ↔ IsSome self.old.pending }
         ensures none_pending { IsErrOf result ApplyFault.NothingPending → ⊥ }
@@ -302,9 +303,14 @@ impl<O: SeqObject> Seat<O> {
     /// Makes a call: one hold of the lock for its begin, and one for each step, before which the gate
     /// is asked. The answer is its receipt, which is added to those of the seat.
     ///
-    /// Clauses tell of the seat alone. What each hold does to the record `begin_held` and `step_held` say; that the
-    /// receipts are the calls of its history, with the object's replies, says `close`. That the gate is asked is in
-    /// none.
+    /// The clauses tell of the seat alone: a body that took no lock and made up the reply would meet them. `close`
+    /// compares each receipt with the record's history, and `begin_held` and `step_held` say what one hold does to the
+    /// record. That the gate is asked is in no clause.
+    ///
+    /// `ends`, read out: once the receipt is given back, the seat is as `HasEnded self.old receipt self.new` says;
+    /// after an error, as `IsLeftByApply self.old inv fault self.new` does. In no clause: which number a call has that
+    /// is left pending, and when faults but `SeatPending` come. A body that answered `Memory` wherever the seat
+    /// has no call pending, and left the seat as it was, would meet the clauses.
     ///
     /// Errors: `SeatPending` where the seat has a call pending; `Memory` where the room for the receipt
     /// was refused; then at the begin `Stranger` where there is no such process, or it has a call
@@ -324,6 +330,7 @@ impl<O: SeqObject> Seat<O> {
     ) -> Result<&Receipt<O::Inv, O::Resp>, ApplyFault>
         ensures* ends { sem 𝓛 (EndsApplied O.row O.State.row O.Inv.row O.Resp.row O.SeqObject O.Inv.PartialEq
             O.Resp.PartialEq inv self.entry result) }
+        ensures call { IfOk result (λ receipt. IsNextCallOf self.old receipt.now.call) }
         ensures inv { IfOk result (λ receipt. receipt.now.inv ≡ inv) }
         ensures seat_pending { IsErrOf result ApplyFault.SeatPending ↔ IsSome self.old.pending }
         ensures none_pending { IsErrOf result ApplyFault.NothingPending → ⊥ }

@@ -1,7 +1,8 @@
 //! The record under its lock.
 
 ghost use Rattle.std.specs.Prelude.{◌≡◌, ◌≤◌, IfOk, IfErr, OnOk, IsErrOf};
-ghost use Rattle.uni_record.specs.Recorded.{CanRecord, HasOpened, IsOpenRefused};
+ghost use Rattle.uni_record.specs.Recorded.{HasOpened};
+ghost use Rattle.uni_record.specs.Refusals.{CanRecord, IsOpenRefused};
 ghost use Rattle.uni_shared.specs.Seat.{first_seats};
 
 use crate::held::trim_held;
@@ -44,7 +45,7 @@ impl<O: SeqObject> Shared<O> {
         h: u64,
     ) -> Result<(Shared<O>, Vec<Seat<O>>), RecordOpenFault>
         ensures refused { IfErr result (IsOpenRefused n k 1 h) }
-        ensures could { OnOk result (CanRecord n k 1 h) }
+        ensures allowed { OnOk result (CanRecord n k 1 h) }
         ensures numbers { IsErrOf result RecordOpenFault.SeqFull → ⊥ }
         ensures processes { IfOk result (λ opened. opened.0.processes ≡ n) }
         ensures seats { IfOk result (λ opened. opened.1.items ≡ first_seats n) }
@@ -69,7 +70,7 @@ fn opened<O: SeqObject>(
     h: u64,
 ) -> Result<(Recorded<O>, Vec<Seat<O>>), RecordOpenFault>
     ensures refused { IfErr result (IsOpenRefused n k 1 h) }
-    ensures could { OnOk result (CanRecord n k 1 h) }
+    ensures allowed { OnOk result (CanRecord n k 1 h) }
     ensures numbers { IsErrOf result RecordOpenFault.SeqFull → ⊥ }
     ensures opened { IfOk result (λ opened. HasOpened O.sequential object n k 1 h opened.0) }
     ensures seats { IfOk result (λ opened. opened.1.items ≡ first_seats n) }

@@ -13,7 +13,7 @@ one_more shared count seats later seat are is table object sizes inside place ro
     | inl old ↦ are.each p u old
     | inr new ↦ (let at : p ≡ count = new.0 ∙ are.many in
         subst (IsFreshSeat shared p) new.1 (record {
-          own = record { table = table; object = object; sizes = sizes; inside = inside; room = room; buffers = buffers; kept = kept; read = λ version e. absurd (let none : None ≡ Some version = sym unread ∙ e in cc) };
+          own = record { table = table; object = object; sizes = sizes; inside = inside; keeps = record { room = room; buffers = buffers; kept = kept; read = λ version e. absurd (let none : None ≡ Some version = sym unread ∙ e in cc) } };
           process = place ∙ sym at;
           calls = own;
           made = made;

@@ -19,7 +19,8 @@ pub use Rattle.uni_model.proofs.Written.{lt_cases, number_cases, set_at-cases}
 pub use Rattle.uni_model.specs.AtomicObject.{AcceptsAll, Act, Atomic, Invoked, at_start, set_at}
 pub use Rattle.uni_model.specs.AtomicObject.Act.{Invoke, Linearize, Respond}
 pub use Rattle.uni_model.specs.ProcessCalls.{acts_by, sequential_acts}
-pub use Rattle.uni_small.specs.Belongs.{BuffersAgree, AreBuffers, AreFirstSeats, SpareHas, HasInvocation, HasRoom, IsFreshSeat, IsOutsideBoth, IsOutsideRows, IsKept, IsOutside, IsQuietOutside, IsSeatOf, IsUntouchedByBoth, all_seen, image_in, image_of_rows, known_calls, seen_in, word_held}
+pub use Rattle.uni_small.specs.Belongs.{AreFirstSeats, IsFreshSeat, IsSeatOf, known_calls}
+pub use Rattle.uni_small.specs.Kept.{BuffersAgree, AreBuffers, SpareHas, HasInvocation, HasRoom, IsOutsideBoth, IsOutsideRows, IsKept, IsOutside, IsQuietOutside, IsUntouchedByBoth, all_seen, image_in, image_of_rows, seen_in, word_held}
 pub use Rattle.uni_small.specs.Board.{Board, announce_word, argument_word, buffer_in, buffer_word, current_word, in_of, opened, version_in, words_before, words_of}
 pub use Rattle.uni_small.specs.Final.{HasHistory}
 pub use Rattle.uni_small.specs.Image.{AreWhole, AreWidths, HasRows, Image, IsReached, IsSteady, Meaning, buffer_words, calls_seen, due_at, first_held, first_image, held_place, image_from, joined, read_image, reply_of, reply_place, rows, spell, state_place, taken_in, with_row, with_seen}

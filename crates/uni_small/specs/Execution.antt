@@ -72,10 +72,10 @@ module _ (object : Sequential (List ℕ) (List ℕ) (List ℕ)) (sizes : Sizes) 
     -- a read ends where a direct attempt would look at the announcements: S is loaded again, and no call is made
     Confirm : (s : ℕ) (copy : List ℕ) → l.stage ≡ Reading 0 s copy [] → length copy ≡ buffer_words sizes
         → l.direct ≡ true → Next p l
-    -- a word of the spare buffer is stored, with all that was seen applied, and in a direct attempt a call of its own
-    -- too, where those before it are as they are to be; once all are, S is exchanged for one that names this buffer.
-    -- The invocation of a direct call is known here at the exchange alone: an execution may do more than the code does,
-    -- which has it from the first step on
+    -- The next version is written to the spare buffer, a word a step: the copy with all seen calls applied, and in a
+    -- direct attempt the own call too; the words before it are right already. Once all are, S is exchanged for a word
+    -- that names this buffer, where S is still s. The invocation of a direct call is first named at the exchange: an
+    -- execution may do more than the code, which has it from the first step on
     Write : (tries s : ℕ) (image : Image) (seen all : List (Option (List ℕ))) (written k : ℕ)
         → l.stage ≡ Writing tries s image seen written
         → HasComeTo object sizes p l image seen all written k → k < buffer_words sizes → Next p l

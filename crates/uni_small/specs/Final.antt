@@ -10,12 +10,13 @@ use Rattle.uni_small.specs.Image.{sample_counter}
 use Rattle.uni_small.specs.View.{Returned, ProcessReturned, plain}
 use Rattle.uni_small.specs.Order.{StandsIn}
 
--- There is a history that the atomic object accepts, from its start on. What is observed of it is linearizable, in the
--- order in which the calls took effect. The state is that after them. Each is a call of one of n processes; so where
--- all n are known, these are their calls and no others. In the history each known process takes the acts of its calls,
--- each with its reply before the next one begins, and no others. The first calls_in_version v calls of that order are
--- in version v, or all where there are fewer, and a later version has no fewer; and each known call comes after those
--- of one version, and is among those of another one, as its seat was told.
+-- Some history that the atomic object accepts has the known calls, and this state at its end. Any such history will
+-- do: it isn't said that it is the one that was made, and nothing is said of the calls of other processes.
+--   accepted, linearized: the object takes its acts, from the start on; so what is observed of it is linearizable
+--   state, inside: the state is that after its calls, each of which is one of n processes
+--   own: each known process makes its known calls, with their replies, and no others
+--   calls_in_version, rising: so many of its first calls are in a version, all where there are fewer
+--   stand: each known call comes after those of one version, and is among those of another, as its seat was told
 pub record HasHistory (object : Sequential (List ℕ) (List ℕ) (List ℕ)) (n : ℕ) (known : List ProcessReturned) (words : List ℕ) : Type 0 where
   pub acts : List (Act (List ℕ) (List ℕ))
   pub atomic : Atomic (List ℕ) (List ℕ)

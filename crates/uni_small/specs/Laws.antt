@@ -19,9 +19,12 @@ use Rattle.uni_small.specs.declared.sizes.Sizes.{Sizes}
 use Rattle.uni_small.specs.declared.view.View.{View}
 
 module _ {O : Type 0} (meaning : O → Meaning) (o : O) (sizes : Sizes) (id : ℕ) (me : Me Seen (View O)) where
-  -- A step of seat `id` turns word i from x into f x. If the table showed the board g, it then shows a board whose
-  -- history is that of g with `acts g x` appended; only the seat's process stands elsewhere; and of x and the seat as
-  -- it is left `says` holds. Each execution that led to the first table leads to the second one by one step more.
+  -- A step of seat `id` turns word i from x into f x. Wherever the table shows a board g, there are a view v, which the
+  -- seat has then, and a board g', so that, line by line:
+  --   the table then shows g', and only the seat's process stands elsewhere, as v says
+  --   `says` holds of x and of the seat as it is left
+  --   the history of g' is that of g with `acts g x` appended
+  --   each execution that led to the table before leads, by one step more of this process, to the table then
   abbrev pub Moves : (i : ℕ) → (f : ℕ → ℕ) → (acts : Board → (found : ℕ) → List (Act (List ℕ) (List ℕ)))
       → (says : ℕ → Me Seen (View O) → Type 0) → Type 0
   Moves i f acts says =

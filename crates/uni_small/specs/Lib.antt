@@ -14,6 +14,7 @@ pub mod Standing
 pub mod Execution
 pub mod Ran
 pub mod Progress
+pub mod Kept
 pub mod Belongs
 pub mod Final
 pub mod Ended

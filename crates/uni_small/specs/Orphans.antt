@@ -8,7 +8,8 @@ use Rattle.uni_small.specs.declared.log.SmallShared.{SmallShared}
 use Rattle.uni_small.specs.declared.orphan.SmallOrphan.{SmallOrphan}
 use Rattle.uni_small.specs.declared.sizes.Sizes.{Sizes}
 
--- the orphan is one of this object's: nothing else is known of where it stands
+-- the orphan is one of this object's; of where it stands its field `told` alone says something: a call of it that has
+-- begun was announced
 pub record IsOrphanOf {O : Type 0} (shared : SmallShared O) (orphan : SmallOrphan O) : Type 0 where
   pub table : orphan.seat.table_id ≡ shared.table.shared.table_id
   pub inside : orphan.p < shared.setup.sizes.processes
@@ -21,12 +22,11 @@ orphan_process orphan = orphan.p
 abbrev pub calls_before : {O : Type 0} → SmallOrphan O → List Returned
 calls_before orphan = (local_of orphan.seat.me).own
 
-abbrev pub steps_before : {O : Type 0} → SmallOrphan O → ℕ
-steps_before orphan = (local_of orphan.seat.me).steps
+abbrev pub orphan_steps : {O : Type 0} → SmallOrphan O → ℕ
+orphan_steps orphan = (local_of orphan.seat.me).steps
 
--- A call of it was announced and has not returned. `has_begun` is true also of a direct call that has taken effect; no
--- orphan is in one, since by the field `told` of `SmallOrphan` a call of it that has begun is announced. A direct attempt
--- that hasn't taken effect has begun no call.
+-- a call of it was announced and has not returned (no orphan is in a direct call that took effect: `told` of
+-- `SmallOrphan`)
 abbrev pub IsInCall : {O : Type 0} → SmallOrphan O → Type 0
 IsInCall orphan = has_begun (local_of orphan.seat.me).stage (local_of orphan.seat.me).direct ≡ true
 

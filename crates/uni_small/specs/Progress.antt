@@ -10,8 +10,8 @@ use Rattle.uni_small.specs.Execution.Next.{Store, Announce, Follow, Recall, TryD
 use Rattle.uni_small.specs.Execution.Next.{Recount, Reread, Restart}
 use Rattle.uni_small.specs.declared.sizes.Sizes.{Sizes}
 
--- a process is in the midst of a call, or of a read: it is in an attempt, directly or not, or a direct one has failed,
--- or it has stored words of the invocation; and the call has not returned
+-- A process is in the midst of a call, or of a read: at each stage but `Idle`; and there too, where it has stored words
+-- of the invocation, or its direct attempt has failed.
 abbrev pub IsUnderWay : Stage → (direct : Bool) → Type 0
 IsUnderWay (Idle []) direct = direct ≡ true
 IsUnderWay stage direct = Unit {0}

@@ -1,4 +1,4 @@
--- The state in the words of a table.
+-- The state in the words of a closed table. What a read tells is `IsVersion` and `IsAnswerAt`, in Final.
 use Rattle.std.specs.Prelude.{◌≡◌, ℕ, ◌<◌, List, length, slice_index}
 use Rattle.uni_small.specs.Board.{buffer_in, buffer_word}
 use Rattle.uni_small.specs.Image.{state_place}

@@ -9,7 +9,8 @@ ghost use Rattle.uni_small.specs.View.Stage.{Last};
 ghost use Rattle.uni_small.specs.Board.{buffer_in, version_in};
 ghost use Rattle.uni_small.specs.Standing.{CallEnds, GoesBy, IsAnnounced, IsOf, ReplyEnds, announced_steps};
 ghost use Rattle.uni_small.specs.Standing.{call_steps, local_of};
-ghost use Rattle.uni_small.specs.Belongs.{AreBuffers, IsKept, IsSeatOf, HasRoom, calls_made, calls_of, own_calls};
+ghost use Rattle.uni_small.specs.Belongs.{IsSeatOf, calls_made, calls_of, own_calls};
+ghost use Rattle.uni_small.specs.Kept.{AreBuffers, IsKept, HasRoom};
 ghost use Rattle.uni_small.specs.Belongs.{invocation_width_of, process_of, reply_width_of, sizes_of, taken_calls};
 ghost use Rattle.uni_small.specs.Belongs.{announced_by, version_of, word_steps_of};
 
@@ -158,20 +159,20 @@ impl<O: SmallObject> SmallShared<O> {
 }
 
 impl<O: SmallObject> SmallSeat<O> {
-    /// Applies the invocation, and writes the reply: a version in which the call is. Versions count from 0, the
-    /// start state, and each exchange of the current buffer makes the next one. The seat is one of this
-    /// object's; `invocation` and `reply` have as many words as `invocation_width` and `reply_width` of
-    /// the object say.
+    /// Applies the invocation, and writes its reply. The answer is the number of a version that has the call: version 0
+    /// is the start state, and each exchange of the current buffer makes the next one. The seat is one of this
+    /// object's; `invocation` and `reply` have as many words as `invocation_width` and `reply_width` of the object say.
     ///
     /// Where a state has W words, an invocation I and a reply R, it returns after at most
     /// `6 * W + (9 + 3 * I + 6 * R) * n + I + R + 11` word steps with n processes, whatever the other seats do,
-    /// and takes no memory and no lock: no allocator and no lock come in. Where its direct attempt fails it pauses 40
-    /// times, which touches no word (in no clause).
+    /// and takes no memory and no lock: it is passed neither. Where its direct attempt fails it pauses 40 times, which
+    /// touches no word (in no clause).
     ///
-    /// The call comes after all calls that are in the version which the seat follows, and its own version is greater;
-    /// the seat follows that one then. That the reply is the object's is the law `every_execution_is_linearizable` (by
-    /// the rule, `ShowsBoard` in Shown, what seats know is at each moment that of such an execution), and what closing
-    /// says.
+    /// The new version is greater than the one that the seat followed, and the seat follows it then. In no clause here:
+    /// that the reply is the object's, that the call is in that version, and that it comes after all calls of the
+    /// version followed before. Closing says so (`own` and `stand` of `HasHistory`), and so does the law
+    /// `every_execution_is_linearizable`: by the rule, `ShowsBoard` in Shown, what seats know is at each moment that of
+    /// an execution.
     ///
     /// The error says that the seat has made all the calls that it can make; nothing is changed then.
     pub fn apply(

@@ -11,12 +11,12 @@ ghost use Rattle.uni_small.specs.Plays.{stage_of, IsNamed, IsGood, begun, words_
 ghost use Rattle.uni_small.specs.Standing.{GoesBy, GoesWithin, IsAsking, IsCopying, IsLooking, IsOf};
 ghost use Rattle.uni_small.specs.Standing.{EndsWithin, HasCopy, HasRow, IsAnnounced, IsDirect, TriesWithin};
 ghost use Rattle.uni_small.specs.Standing.{WritesWithin, attempt_steps, local_of};
-ghost use Rattle.uni_small.specs.Belongs.{AreBuffers, SpareHas, HasInvocation, HasRoom};
-ghost use Rattle.uni_small.specs.Belongs.{IsOutsideBoth, IsOutsideRows, IsKept, IsOutside, IsQuietOutside};
-ghost use Rattle.uni_small.specs.Belongs.{IsUntouchedByBoth};
+ghost use Rattle.uni_small.specs.Kept.{AreBuffers, SpareHas, HasInvocation, HasRoom};
+ghost use Rattle.uni_small.specs.Kept.{IsOutsideBoth, IsOutsideRows, IsKept, IsOutside, IsQuietOutside};
+ghost use Rattle.uni_small.specs.Kept.{IsUntouchedByBoth};
 ghost use Rattle.uni_small.specs.Touched.{AreSameOutside};
 ghost use Rattle.uni_small.specs.declared.seat.Seen.{Seen};
-ghost use Rattle.uni_small.specs.Belongs.{all_seen, image_in, image_of_rows, seen_in};
+ghost use Rattle.uni_small.specs.Kept.{all_seen, image_in, image_of_rows, seen_in};
 
 use crate::log::SmallShared;
 use crate::object::SmallObject;

@@ -47,7 +47,7 @@ pub fn announcement_invokes<O: SmallObject>()
 {}
 
 /// The exchange of S that finds what the attempt began with linearizes the calls that its scan saw, in the
-/// order of their processes. Another exchange appends nothing.
+/// order of their processes. One that finds another word appends nothing.
 pub fn exchange_linearizes<O: SmallObject>()
     ensures { (o : O) (sizes : Sizes) (id tries s written : ℕ) (image : Image) (seen : List (Option (List ℕ)))
         (st : Step Seen) (me : Me Seen (View O)) →
@@ -60,7 +60,7 @@ pub fn exchange_linearizes<O: SmallObject>()
 {}
 
 /// The exchange of a direct attempt that finds what it began with begins the call and linearizes it with those
-/// that the scan saw, in the order of their processes. Another exchange appends nothing.
+/// that the scan saw, in the order of their processes. One that finds another word appends nothing.
 pub fn direct_exchange_linearizes<O: SmallObject>()
     ensures { (o : O) (sizes : Sizes) (id s written : ℕ) (image : Image) (seen : List (Option (List ℕ)))
         (its : Seen) (st : Step Seen) (me : Me Seen (View O)) →
@@ -98,14 +98,13 @@ pub fn stores_append_nothing<O: SmallObject>()
         nothing (λ found me'. HasWritten st me x me') }
 {}
 
-/// The other loads append nothing. Each clause is a kind of step: `Next` in Execution tells them in the order of a call
-/// (`start` is `Start`, `begin` `TryDirectly`, `check_own` `CheckOwn`, `reply` `Load`; the others have the same name),
-/// and the README, 'The steps', names the functions.
+/// The other loads append nothing. Each clause is named as its step in `Next` of Execution, which tells them in the
+/// order of a call; the README, 'The steps', names the functions.
 pub fn loads_append_nothing<O: SmallObject>()
     ensures start { (o : O) (sizes : Sizes) (id tries : ℕ) (st : Step Seen) (me : Me Seen (View O)) →
         sizes.processes ≤ 64 → me.0.known.count ≡ 1 → tries < 2 → stage_of me ≡ Ready tries
         → Moves O.meaning o sizes id me 0 (λ x. x) nothing (λ found me'. HasStarted st me found me') }
-    ensures begin { (o : O) (sizes : Sizes) (id : ℕ) (st : Step Seen) (me : Me Seen (View O)) →
+    ensures try_directly { (o : O) (sizes : Sizes) (id : ℕ) (st : Step Seen) (me : Me Seen (View O)) →
         sizes.processes ≤ 64 → me.0.known.count ≡ 1 → stage_of me ≡ Idle [] → IsAnnounced me
         → length (local_of me).own < most_calls
         → Moves O.meaning o sizes id me 0 (λ x. x) nothing (λ found me'. HasBegun st me found me') }
@@ -146,7 +145,7 @@ pub fn loads_append_nothing<O: SmallObject>()
         sizes.processes ≤ 64 → me.0.known.count ≡ 1 → stage_of me ≡ Idle [] → (local_of me).read ≡ Some read
         → Moves O.meaning o sizes id me 0 (λ x. x) nothing
         (λ found me'. (q : O) → me.0.object ≡ Some q → HasRecalled (O.meaning q) st me found me') }
-    ensures reply { (o : O) (sizes : Sizes) (id s k : ℕ) (st : Step Seen) (me : Me Seen (View O)) →
+    ensures load { (o : O) (sizes : Sizes) (id s k : ℕ) (st : Step Seen) (me : Me Seen (View O)) →
         me.0.known.count ≡ 1 → IsLoading s k me → k + 1 < sizes.reply → buffer_in s < 2 * sizes.processes
         → Moves O.meaning o sizes id me
         (buffer_word sizes (buffer_in s) (reply_place sizes me.0.known.first k)) (λ x. x)

@@ -20,7 +20,7 @@ pub struct SmallOrphan<O> {
 
 impl<O> SmallSeat<O> {
     ghost use Rattle.uni_small.specs.Belongs.{IsSeatOf, own_calls, process_of, word_steps_of};
-    ghost use Rattle.uni_small.specs.Orphans.{IsInCall, IsOrphanOf, calls_before, orphan_process, steps_before};
+    ghost use Rattle.uni_small.specs.Orphans.{IsInCall, IsOrphanOf, calls_before, orphan_process, orphan_steps};
     ghost use Rattle.uni_small.specs.declared.log.SmallShared.{SmallShared};
 
     /// Leaves the seat: whoever has the orphan can take it over.
@@ -28,7 +28,7 @@ impl<O> SmallSeat<O> {
         ensures orphan { (shared : SmallShared O) → IsSeatOf shared self → IsOrphanOf shared result }
         ensures process { orphan_process result ≡ process_of self }
         ensures calls { calls_before result ≡ own_calls self }
-        ensures steps { steps_before result ≡ word_steps_of self }
+        ensures steps { orphan_steps result ≡ word_steps_of self }
         ensures between { IsInCall result → ⊥ }
     {
         let SmallSeat { seat, p, .. } = self;

@@ -1,7 +1,8 @@
 //! The present state, read without a call.
 ghost use Rattle.std.specs.Prelude.{◌≡◌, ◌↔◌, ◌+◌, ◌<◌, ◌≤◌, ◌∷◌, [], None, length};
 ghost use Rattle.std.specs.Prelude.{IfOk, IfSome, IsErr, IsSome, OnErr, OnOk};
-ghost use Rattle.uni_small.specs.Belongs.{AreBuffers, HasRoom, IsKept, IsSeatOf, calls_made, calls_of, image_in};
+ghost use Rattle.uni_small.specs.Belongs.{IsSeatOf, calls_made, calls_of};
+ghost use Rattle.uni_small.specs.Kept.{AreBuffers, HasRoom, IsKept, image_in};
 ghost use Rattle.uni_small.specs.Belongs.{invocation_width_of, object_of, process_of, processes_of, reply_width_of};
 ghost use Rattle.uni_small.specs.Belongs.{sizes_of, state_read, taken_calls, version_of, word_steps_of};
 ghost use Rattle.uni_small.specs.Final.{IsAnswerAt, IsVersion};
@@ -114,25 +115,24 @@ impl<O: SmallObject> SmallShared<O> {
 }
 
 impl<O: SmallObject> SmallSeat<O> {
-    /// Reads the present state, without a call: the answer is its version, and `state` shows it. Nothing is stored in a
-    /// shared word. One word names the present version: where that is still the one that the seat has read last, and it
-    /// hasn't called since, no other word is loaded; where it names a buffer of the seat's own process, as after a call
-    /// that it brought in itself, no word of the state is.
+    /// Reads a version of the state, without a call: the answer is its number, and `state` shows its state. `None` says
+    /// that none was read, since another version came while words were loaded. Ask again, as often as you like: how
+    /// often another one comes is up to the others. Who has to be answered within a bound makes a call that changes
+    /// nothing.
     ///
-    /// The version has the state after all calls that took effect in a history that the atomic object accepts, and all
-    /// calls of the seat are among them. The seat follows it: its later calls come after all calls that are in that
-    /// version, and their versions are greater.
+    /// The state is that after some history which the atomic object accepts (`told`). The seat's own calls are in it,
+    /// with their replies; which calls the other processes make in it is not said. The seat follows the version, which
+    /// is no older than the one that it followed (`version`, `later`).
     ///
-    /// The answer is `None` where another version came while words were loaded; nothing is known of the state then.
-    /// Ask again, as often as you like: how often another version comes is up to the others. Who has to be answered
-    /// within a bound makes a call that changes nothing.
+    /// It returns after at most `W + (1 + R) * n + 3` word steps. One word names the present version: where that is the
+    /// one that the seat has read last, and it hasn't called since, no other word is loaded; where it names a buffer of
+    /// the seat's own process, as after a call that it brought in itself, no word of the state is. The error says that
+    /// the seat has made all the calls that it can make; nothing is changed then.
     ///
-    /// It returns after at most `W + (1 + R) * n + 3` word steps. The error says that the seat has made all the calls
-    /// that it can make; nothing is changed then.
-    ///
-    /// In no clause: that the version is the present one, that `None` comes only where another one came meanwhile, that
-    /// nothing is stored, and which words are loaded. A body that loads one word and always answers `None` would meet
-    /// the clauses.
+    /// In no clause: that the version is the present one, and so that the other calls in it were made; that `None`
+    /// comes only where another one came meanwhile; that nothing is stored, and which words are loaded. A body that
+    /// loads one word and always answers `None`, or that tells a seat without calls the start state, would meet the
+    /// clauses.
     pub fn refresh(&mut self, shared: &SmallShared<O>) -> Result<Option<u64>, CallsSpent>
         requires seat { IsSeatOf shared.now self.old }
         ensures kept { IsSeatOf shared.now self.new × (process_of self.new ≡ process_of self.old) }
@@ -170,9 +170,9 @@ impl<O: SmallObject> SmallSeat<O> {
         &self.room.state
     }
 
-    /// What a call of this invocation would be answered at the present state: the reply is written, and the answer is
-    /// the version that has the state. No call is made, so nothing changes, whatever the invocation is. One that only
-    /// asks, as for the value of a key of a map, needs no call but this, and no other process waits for it.
+    /// What the object would answer to this invocation at a version of the state: the reply is written, and the answer
+    /// is that version's number. No call is made: the seat's calls stay as they are, whatever the invocation is. One
+    /// that only asks, as for the value of a key of a map, needs no call but this, and no other process waits for it.
     ///
     /// The answer is `None` where another version came meanwhile; the reply stays as it was then. What the version is,
     /// and what the seat follows, how many steps it takes and the error are as `refresh` has them, and so is what is in

@@ -2,12 +2,13 @@
 ghost use Rattle.std.specs.Prelude.{true, false, ◌≡◌, ◌≢◌, ◌↔◌, ◌+◌, ◌*◌, ◌<◌, ◌≤◌, ◌++◌};
 ghost use Rattle.std.specs.Prelude.{◌∷◌, [], IfErr, IfOk, None, length};
 ghost use Rattle.uni_small.specs.Image.{buffer_words};
-ghost use Rattle.uni_small.specs.Belongs.{AreBuffers, HasRoom, IsKept, IsSeatOf, own_calls, process_of};
+ghost use Rattle.uni_small.specs.Belongs.{IsSeatOf, own_calls, process_of};
+ghost use Rattle.uni_small.specs.Kept.{AreBuffers, HasRoom, IsKept};
 ghost use Rattle.uni_small.specs.Touched.{all_changes};
 ghost use Rattle.uni_small.specs.Belongs.{reply_width_of, sizes_of, word_steps_of};
 ghost use Rattle.uni_small.specs.Invariant.{most_calls};
 ghost use Rattle.uni_small.specs.Orphans.{IsInCall, IsOrphanOf, calls_after, calls_before, orphan_process};
-ghost use Rattle.uni_small.specs.Orphans.{steps_before, take_over_steps};
+ghost use Rattle.uni_small.specs.Orphans.{orphan_steps, take_over_steps};
 ghost use Rattle.uni_small.specs.Plays.{IsLeft, has_begun, spare_at, stage_of};
 ghost use Rattle.uni_small.specs.Standing.{IsOf, attempt_steps, local_of};
 ghost use Rattle.uni_small.specs.View.Stage.{Idle};
@@ -140,7 +141,9 @@ impl<O: SmallObject> SmallOrphan<O> {
     ///
     /// It returns after at most `6 * W + (8 + 2 * I + 6 * R) * n + R + 9` word steps, whatever the other seats do.
     ///
-    /// The error is the orphan, where memory was refused; nothing is changed then.
+    /// The error is the orphan, where memory was refused; nothing is changed then. That it comes only then is in no
+    /// clause. In Rattle an orphan comes of `leave` alone, between calls, where `IsInCall` never holds: that a call is
+    /// ended here is for processes that share the object's memory.
     ///
     /// A call whose reply wasn't kept is not among `made`, even if its owner had loaded it
     /// (`last_load_leaves_no_trace`): it is ended here, and that its reply is the same is argued by hand. In no clause:
@@ -161,7 +164,7 @@ impl<O: SmallObject> SmallOrphan<O> {
         ensures calls { IfOk result (λ it. own_calls it.0 ≡ calls_after self reply.new it.1) }
         ensures unchanged { IfOk result (λ it. it.1 ≡ None → reply.new ≡ reply.old) }
         ensures few_steps { IfOk result (λ it. word_steps_of it.0
-            ≤ steps_before self + take_over_steps (sizes_of shared.now)) }
+            ≤ orphan_steps self + take_over_steps (sizes_of shared.now)) }
         ensures err { IfErr result (λ it. (it ≡ self) × (reply.new ≡ reply.old)) }
     {
         let Ok(mut room) = room(alloc, &shared.setup.sizes) else {

@@ -1,6 +1,6 @@
 //! Processes one after another.
 ghost use Rattle.std.specs.Prelude.{◌≢◌, ◌*◌, ◌<◌, ◌≤◌, ℕ};
-ghost use Rattle.uni_small.specs.Belongs.{IsOutside};
+ghost use Rattle.uni_small.specs.Kept.{IsOutside};
 
 /// The processes from one on that are before another one.
 #[derive(Clone, Copy)]

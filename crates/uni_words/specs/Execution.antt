@@ -22,7 +22,8 @@ use Rattle.uni_words.specs.Words.{content_of, first_words, reply_in, settled_wor
 use Rattle.uni_words.specs.declared.view.View.{View}
 
 -- What a step does to the word of one place. By what is found there: what the word becomes, and what the seat knows then. And which events of
--- the construction the step is: one, or none where it is a load of a settled word, or a question about a call.
+-- the construction the step is: one; or none where it is a question about a call (`Ask`), or a load of a settled word
+-- before the step that goes by it (`LookInv`, `LookNew`, `LookReply`). `LoadEnd`, the load that ends a call, is one.
 pub record Access : Type 0 where
   pub place : Place
   pub becomes : (found : ℕ) → ℕ

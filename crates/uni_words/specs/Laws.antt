@@ -72,7 +72,8 @@ module _ (object : Sequential ℕ ℕ ℕ) (row : ℕ) (w : WorldOf ℕ ℕ ℕ)
       IsShown object row w s → get_elem? s.views id ≡ some v → get_elem? s.views other ≡ some x → other ≢ id
       → 1 ≤ v.known.count → v.known.its.call ≡ None → x.known.count ≡ 1 → x.known.its.call ≡ None → Leads [] w (after_join s id v other x)
 
-  -- a call that has returned, begun and not pending any more, has a number, so that to ask about it is always answered yes
+  -- a call that has returned, begun and not pending any more, has a number: the word that one loads to ask about it
+  -- isn't 0
   abbrev pub ReturnedIsThere : (call : CallId) → (word : ℕ) → Type 0
   ReturnedIsThere call word =
       IsShown object row w s → HasReturned w call.process call.nth → word_of w.n row (SeqOf (Of call.process call.nth)) ≡ Some word

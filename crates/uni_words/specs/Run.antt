@@ -38,9 +38,10 @@ module _ (object : Sequential ℕ ℕ ℕ) (n : ℕ) where
     pub earlier : StandInLog before s.earlier
     pub made : acts_by s.made.process (run_history before) ≡ sequential_acts s.made.process 0 s.made.calls
 
-  -- The log is that of a run of n processes: it is the joined log of events that are accepted one after another from the opening on, and
-  -- end no era. All that holds of every run holds of it: it is universal, the log keeps real-time order, and has the response of each call. In its
-  -- history each of these processes takes the acts of its calls, each with its reply before the next one begins, and no others.
+  -- The log is that of some run of n processes: it is the joined log of events that are accepted one after another from
+  -- the opening on, and end no era. In its history each of these processes takes the acts of its calls, each with its
+  -- reply before the next one begins, and no others. What `universal`, `real_time` and `responses` say holds of every
+  -- run: there is nothing more to believe in them.
   pub record IsLogOfRun (log : List (Entry ℕ ℕ)) (calls : List (ProcessCalls ℕ ℕ)) : Type 0 where
     pub events : List (Event ℕ)
     pub accepted : AreAccepted object opened events

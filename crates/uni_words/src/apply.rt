@@ -168,8 +168,9 @@ impl WordSeat {
     /// ten a turn; where its last step stores the head that is one more, which the seat counts, and which comes only
     /// after n turns at most. The numbers of a seat's calls rise.
     ///
-    /// That the reply is the object's is in no clause here: `close_with` says it of all calls of the seat at once, and
-    /// so does the law `every_execution_is_linearizable`.
+    /// That the reply is the object's is in no clause here: `close_with` says it of all calls of the seat at once. The
+    /// law `every_execution_is_linearizable` says it of executions; that the steps of this code are those of one is for
+    /// the reader to compare.
     ///
     /// The error says that the seat has made all the calls that it can make; nothing is changed then.
     pub fn apply<O: WordObject>(&mut self, log: &WordLog<O>, inv: u64) -> Result<Answer, RowFull>

@@ -83,17 +83,17 @@ pub fn load_keeps<O: WordObject>()
         LoadKeeps (O.sequential object) row w s id v c word read }
 {}
 
-/// The calls that a seat was given replies to stand in the chain in their order.
+/// The calls that a seat was given replies to have rising numbers, in their order.
 pub fn own_calls_rise<O: WordObject>()
     ensures { (object : O) (row : ℕ) (w : WorldOf ℕ ℕ ℕ) (s : State ℕ View) (id : ℕ) (v : Known)
         (j k : ℕ) (a b : ℕ × ℕ) →
         OwnCallsRise (O.sequential object) row w s id v j k a b }
 {}
 
-/// Every execution from the opening, in which the seats take their word steps in any order, is cut and taken in, is
-/// linearizable in real time: its events are those of a run of the construction. And strongly: one function gives
-/// each its order, and where an execution goes on, only further calls come behind. What each seat has been told at its
-/// end are the acts of its process in this history. States and replies stay below 2^31.
+/// Of an object whose states and replies stay below 2^31 (`IsNarrow`): every execution from the opening, in which the
+/// seats take their word steps in any order, are cut and are taken in, is linearizable in real time; its events are
+/// those of a run of the construction. And strongly: one function gives each its order, and where an execution goes
+/// on, only further calls come behind. The acts of a process in this history are what its seat has been told by then.
 pub fn every_execution_is_linearizable<O: WordObject>()
     ensures { (object : O) (n row : ℕ) → IsNarrow (O.sequential object)
         → AreLinearizedStrongly (O.sequential object) n row }

@@ -16,7 +16,8 @@ pub use Rattle.seq_object.specs.Sequential.{Sequential}
 pub use Rattle.small_objects.specs.Placed.{placed}
 pub use Rattle.told_order.specs.Replay.{IsReplayed}
 pub use Rattle.told_order.specs.declared.in_place.InPlace.{InPlace}
-pub use Rattle.uni_record.specs.Recorded.{IsHistoryLimit, IsPromised, Recording}
+pub use Rattle.uni_record.specs.Recorded.{IsPromised, Recording}
+pub use Rattle.uni_record.specs.Refusals.{IsHistoryLimit}
 pub use Rattle.uni_script.specs.Ends.{AppendsPrefix}
 pub use Rattle.uni_script.specs.Grammar.{object_of_word}
 pub use Rattle.uni_script.specs.Replay.{IsFaultOfScript, IsReplay}

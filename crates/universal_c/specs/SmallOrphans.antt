@@ -3,7 +3,7 @@ use Rattle.std.specs.Prelude.{◌≡◌, ◌≢◌, ◌↔◌, ℕ, ◌+◌, ◌
 use Rattle.std.specs.declared.option.Option.{Option}
 use Rattle.std.specs.declared.option.Option.TheVariants.{None, Some}
 use Rattle.uni_small.specs.Belongs.{announced_by, calls_made, own_calls, process_of, reply_width_of, sizes_of, word_steps_of}
-use Rattle.uni_small.specs.Orphans.{IsInCall, calls_after, calls_before, orphan_process, steps_before, take_over_steps}
+use Rattle.uni_small.specs.Orphans.{IsInCall, calls_after, calls_before, orphan_process, orphan_steps, take_over_steps}
 use Rattle.uni_small.specs.declared.log.SmallShared.{SmallShared}
 use Rattle.uni_small.specs.declared.orphan.SmallOrphan.{SmallOrphan}
 use Rattle.uni_small.specs.declared.seat.SmallSeat.{SmallSeat}
@@ -46,7 +46,7 @@ pub record Resumes (shared : SmallShared SmallKind) (orphan : SmallOrphan SmallK
   pub in_call : (ended ≡ 1) ↔ IsInCall orphan
   pub process : process_of seat ≡ orphan_process orphan
   pub own : own_calls seat ≡ calls_after orphan reply (ended_in ended version)
-  pub steps : word_steps_of seat ≤ steps_before orphan + take_over_steps (sizes_of shared)
+  pub steps : word_steps_of seat ≤ orphan_steps orphan + take_over_steps (sizes_of shared)
 
 abbrev pub HasResumed : (old new : Option Held) (reply : List ℕ) (ended version : ℕ) → Type 0
 HasResumed old new reply ended version = IsSomeAnd (seated_in old) (λ shared. IsSomeAnd (orphan_in old) (λ orphan. IsSomeAnd (place_in new) (λ seat.

@@ -3,7 +3,7 @@ ghost use Rattle.std.specs.Prelude.{◌≡◌, ◌≢◌, ◌↔◌, ◌⊎◌, 
 ghost use Rattle.std.specs.declared.option.Option.TheVariants.{None, Some};
 ghost use Rattle.uni_small.specs.Belongs.{own_calls, process_of, reply_width_of, sizes_of, word_steps_of};
 ghost use Rattle.uni_small.specs.Orphans.{IsInCall, calls_after, calls_before, orphan_process};
-ghost use Rattle.uni_small.specs.Orphans.{steps_before, take_over_steps};
+ghost use Rattle.uni_small.specs.Orphans.{orphan_steps, take_over_steps};
 ghost use Rattle.universal_c.specs.SmallCalls.{place_in};
 ghost use Rattle.universal_c.specs.SmallOrphans.{HasLeft, HasMade, HasOtherReply, HasResumed, orphan_in, seated_in};
 
@@ -76,7 +76,7 @@ impl SmallLeft {
         ensures resumed { IfOk result (λ it. (process_of it.0.seat ≡ orphan_process self.orphan)
             × ((it.1 ≢ None) ↔ IsInCall self.orphan)
             × (own_calls it.0.seat ≡ calls_after self.orphan reply.new it.1)
-            × (word_steps_of it.0.seat ≤ steps_before self.orphan + take_over_steps (sizes_of self.shared.value))) }
+            × (word_steps_of it.0.seat ≤ orphan_steps self.orphan + take_over_steps (sizes_of self.shared.value))) }
         ensures unended { IfOk result (λ it. it.1 ≡ None → reply.new ≡ reply.old) }
         ensures unchanged { IfErr result (λ it. (it.0 ≡ self) × (reply.new ≡ reply.old)) }
     {

@@ -2,7 +2,7 @@
 
 ghost use Rattle.std.specs.Prelude.{◌≡◌, ◌⊎◌, ◌↔◌, ◌<◌, ◌≤◌, IsSome};
 ghost use Rattle.std.specs.declared.option.Option.TheVariants.{None};
-ghost use Rattle.uni_record.specs.Recorded.{IsHistoryLimit};
+ghost use Rattle.uni_record.specs.Refusals.{IsHistoryLimit};
 ghost use Rattle.uni_script.specs.Scripts.{scripts_of};
 ghost use Rattle.uni_script.specs.Replay.{fault_of_script};
 ghost use Rattle.universal_text.specs.Told.{IsTooLong, IsWritten, answer_to};

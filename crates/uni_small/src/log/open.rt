@@ -7,8 +7,10 @@ ghost use Rattle.uni_small.specs.TooWide.{IsTooWide};
 ghost use Rattle.uni_small.specs.Image.{due_at, first_held};
 ghost use Rattle.uni_small.specs.Touched.{all_changes};
 ghost use Rattle.uni_small.specs.View.{at_rest};
-ghost use Rattle.uni_small.specs.Belongs.{AreBuffers, AreFirstSeats, HasInvocation, HasRoom, IsSeatOf};
-ghost use Rattle.uni_small.specs.Belongs.{object_of, seen_in, sizes_of};
+ghost use Rattle.uni_small.specs.Belongs.{AreFirstSeats, IsSeatOf};
+ghost use Rattle.uni_small.specs.Kept.{AreBuffers, HasInvocation, HasRoom};
+ghost use Rattle.uni_small.specs.Belongs.{object_of, sizes_of};
+ghost use Rattle.uni_small.specs.Kept.{seen_in};
 
 use crate::log::{MAX_PROCESSES, SmallOpenFault, SmallShared, first_words};
 use crate::object::SmallObject;

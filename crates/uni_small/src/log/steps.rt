@@ -15,7 +15,7 @@ ghost use Rattle.uni_small.specs.Plays.{begun_by, has_begun, restarted, rests};
 ghost use Rattle.uni_small.specs.Standing.{HasWrittenAll, HasWrittenOwn, IsAnnounced, IsDirect, IsAsking};
 ghost use Rattle.uni_small.specs.Standing.{IsCopying, IsLoading, IsLooking, IsOf};
 ghost use Rattle.uni_small.specs.Standing.{IsStoring, IsWriting, local_of};
-ghost use Rattle.uni_small.specs.Belongs.{HasInvocation};
+ghost use Rattle.uni_small.specs.Kept.{HasInvocation};
 
 use crate::log::SmallShared;
 use crate::object::SmallObject;

@@ -34,6 +34,9 @@ impl<O: WordObject> WordLog<O> {
     /// keeps what it saw, but closing hands out the view of one seat alone.
     ///
     /// The entry of the seat's latest call has the number that the call was answered.
+    ///
+    /// `known` has all that `own` says, and `seen` all that `run` does. The run is chosen by the clause: that it is the
+    /// one that was made isn't said.
     pub fn close_with(self, seat: WordSeat) -> Words
         requires seat { IsSeatOf self seat }
         ensures counts { (count_in result ≡ processes_of self) × (row_in result ≡ row_of self) }
@@ -65,7 +68,9 @@ impl<O: WordObject> WordLog<O> {
     /// Closes the log with these seats, of which there is one at least: what `close_with` tells of one
     /// seat's process is told of each one's. It costs one load for each seat but one.
     ///
-    /// What these seats saw was so in the run, and orders their calls in the log.
+    /// What these seats saw was so in the run, and orders their calls in the log. The run is chosen by the clause: a
+    /// call that returned before another seat's call began stands before it only where that seat had asked about it, or
+    /// both are calls of one process.
     ///
     /// With the seats of all processes, in order, the log and what their callers were told agree, so
     /// that `differs` finds nothing.

@@ -9,13 +9,13 @@ returns-in-Ok-clause-session g c =
     let o : SpokenObject _ _ _ = record { object = g.O.SeqObject.sequential c.args.session.now.world.object; language = g.O.Spoken.language } in
     let b = session_of c.args.session.now in
     session_of-event o c.args.session.now c.begin.new.self (stored.Call c.args.process c.args.inv.now) c.in-Ok.ensures.fixed c.in-Ok.ensures.event c.in-Ok.ensures.begun
-    ∙ ap (λ (m : CommandResult _). session_after o b m.events) (sym (result_of_call-begun b c.args.process c.args.inv.now (refusal_of_call-none c.args.session.now c.args.process c.in-Ok.ensures.could)))
+    ∙ ap (λ (m : CommandResult _). session_after o b m.events) (sym (result_of_call-begun b c.args.process c.args.inv.now (refusal_of_call-none c.args.session.now c.args.process c.in-Ok.ensures.allowed)))
 
 pub returns-in-Ok-clause-answer : goal.returns-in-Ok-clause-answer
 returns-in-Ok-clause-answer g c =
     let b = session_of c.args.session.now in
     let named : called_text c.in-Ok.call ≡ called_text (record { process = c.args.process; nth = b.world.begun c.args.process }) = (let id = c.in-Ok.ensures.id in cc) in
-    named ∙ ap (λ (m : CommandResult _). m.text) (sym (result_of_call-begun b c.args.process c.args.inv.now (refusal_of_call-none c.args.session.now c.args.process c.in-Ok.ensures.could)))
+    named ∙ ap (λ (m : CommandResult _). m.text) (sym (result_of_call-begun b c.args.process c.args.inv.now (refusal_of_call-none c.args.session.now c.args.process c.in-Ok.ensures.allowed)))
 
 pub returns-in-Err-BadProcess-clause-session : goal.returns-in-Err-BadProcess-clause-session
 returns-in-Err-BadProcess-clause-session g c =
@@ -46,7 +46,7 @@ returns-in-Err-HistoryFull-clause-session g c =
     session_after-refused o b _ _ History (ap session_of c.in-Err-HistoryFull.ensures.unchanged) (result_of_call-refused b c.args.process c.args.inv.now _ (refusal_of_call-HistoryFull c.args.session.now c.args.process why))
 
 pub returns-in-Ok-clause-refusal : goal.returns-in-Ok-clause-refusal
-returns-in-Ok-clause-refusal g c = sym (refusal_of_call-none c.args.session.now c.args.process c.in-Ok.ensures.could)
+returns-in-Ok-clause-refusal g c = sym (refusal_of_call-none c.args.session.now c.args.process c.in-Ok.ensures.allowed)
 
 pub returns-in-Err-BadProcess-clause-refusal : goal.returns-in-Err-BadProcess-clause-refusal
 returns-in-Err-BadProcess-clause-refusal g c =

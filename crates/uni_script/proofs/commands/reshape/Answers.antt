@@ -8,17 +8,17 @@ pub returns-in-Ok-clause-session : goal.returns-in-Ok-clause-session
 returns-in-Ok-clause-session g c =
     let o : SpokenObject _ _ _ = record { object = g.O.SeqObject.sequential c.args.session.now.world.object; language = g.O.Spoken.language } in
     let b = session_of c.args.session.now in
-    let could = c.in-Ok.ensures.could in
+    let allowed = c.in-Ok.ensures.allowed in
     session_of-event o c.args.session.now c.reshape.new.self (stored.Reshape c.args.processes) c.in-Ok.ensures.fixed c.in-Ok.ensures.event c.in-Ok.ensures.reshaped
     ∙ ap (λ (m : CommandResult _). session_after o b m.events)
-    (sym (result_of_reshape-ended b c.args.processes (refusal_of_reshape-count c.args.session.now c.args.processes could.0 ∙ refusal_of_end-none c.args.session.now c.args.processes could.1)))
+    (sym (result_of_reshape-ended b c.args.processes (refusal_of_reshape-count c.args.session.now c.args.processes allowed.0 ∙ refusal_of_end-none c.args.session.now c.args.processes allowed.1)))
 
 pub returns-in-Ok-clause-answer : goal.returns-in-Ok-clause-answer
 returns-in-Ok-clause-answer g c =
     let b = session_of c.args.session.now in
-    let could = c.in-Ok.ensures.could in
+    let allowed = c.in-Ok.ensures.allowed in
     ap (reshaped_text c.args.processes) c.in-Ok.ensures.number
-    ∙ ap (λ (m : CommandResult _). m.text) (sym (result_of_reshape-ended b c.args.processes (refusal_of_reshape-count c.args.session.now c.args.processes could.0 ∙ refusal_of_end-none c.args.session.now c.args.processes could.1)))
+    ∙ ap (λ (m : CommandResult _). m.text) (sym (result_of_reshape-ended b c.args.processes (refusal_of_reshape-count c.args.session.now c.args.processes allowed.0 ∙ refusal_of_end-none c.args.session.now c.args.processes allowed.1)))
 
 pub returns-in-Err-BadCount-clause-session : goal.returns-in-Err-BadCount-clause-session
 returns-in-Err-BadCount-clause-session g c =
@@ -71,8 +71,8 @@ returns-in-Err-HistoryFull-clause-answer g c =
 
 pub returns-in-Ok-clause-refusal : goal.returns-in-Ok-clause-refusal
 returns-in-Ok-clause-refusal g c =
-    let could = c.in-Ok.ensures.could in
-    sym (refusal_of_reshape-count c.args.session.now c.args.processes could.0 ∙ refusal_of_end-none c.args.session.now c.args.processes could.1)
+    let allowed = c.in-Ok.ensures.allowed in
+    sym (refusal_of_reshape-count c.args.session.now c.args.processes allowed.0 ∙ refusal_of_end-none c.args.session.now c.args.processes allowed.1)
 
 pub returns-in-Err-BadCount-clause-refusal : goal.returns-in-Err-BadCount-clause-refusal
 returns-in-Err-BadCount-clause-refusal g c =

@@ -9,13 +9,13 @@ returns-in-Ok-clause-session g c =
     let o : SpokenObject _ _ _ = record { object = g.O.SeqObject.sequential c.args.session.now.world.object; language = g.O.Spoken.language } in
     let b = session_of c.args.session.now in
     session_of-event o c.args.session.now c.trim.new.self stored.Trim c.in-Ok.ensures.fixed c.in-Ok.ensures.event c.in-Ok.ensures.trimmed
-    ∙ ap (λ (m : CommandResult _). session_after o b m.events) (sym (result_of_trim-ended b (refusal_of_end-none c.args.session.now (world_of c.args.session.now.world).n c.in-Ok.ensures.could)))
+    ∙ ap (λ (m : CommandResult _). session_after o b m.events) (sym (result_of_trim-ended b (refusal_of_end-none c.args.session.now (world_of c.args.session.now.world).n c.in-Ok.ensures.allowed)))
 
 pub returns-in-Ok-clause-answer : goal.returns-in-Ok-clause-answer
 returns-in-Ok-clause-answer g c =
     let b = session_of c.args.session.now in
     ap trimmed_text c.in-Ok.ensures.number
-    ∙ ap (λ (m : CommandResult _). m.text) (sym (result_of_trim-ended b (refusal_of_end-none c.args.session.now (world_of c.args.session.now.world).n c.in-Ok.ensures.could)))
+    ∙ ap (λ (m : CommandResult _). m.text) (sym (result_of_trim-ended b (refusal_of_end-none c.args.session.now (world_of c.args.session.now.world).n c.in-Ok.ensures.allowed)))
 
 pub returns-in-Err-Pending-clause-session : goal.returns-in-Err-Pending-clause-session
 returns-in-Err-Pending-clause-session g c =
@@ -60,7 +60,7 @@ returns-in-Err-HistoryFull-clause-answer g c =
     ap (λ (m : CommandResult _). m.text) (sym (result_of_trim-refused (session_of c.args.session.now) _ (refusal_of_end-HistoryFull c.args.session.now n why)))
 
 pub returns-in-Ok-clause-refusal : goal.returns-in-Ok-clause-refusal
-returns-in-Ok-clause-refusal g c = sym (refusal_of_end-none c.args.session.now (world_of c.args.session.now.world).n c.in-Ok.ensures.could)
+returns-in-Ok-clause-refusal g c = sym (refusal_of_end-none c.args.session.now (world_of c.args.session.now.world).n c.in-Ok.ensures.allowed)
 
 pub returns-in-Err-Pending-clause-refusal : goal.returns-in-Err-Pending-clause-refusal
 returns-in-Err-Pending-clause-refusal g c =

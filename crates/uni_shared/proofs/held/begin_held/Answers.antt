@@ -6,8 +6,8 @@ pub returns-clause-place : goal.returns-clause-place
 returns-clause-place g c =
     IsSome-place (world_of c.args.recorded.now.world) (world_of c.begin.new.self.world) c.in_ok-call.call.process c.args.inv.now c.told.result (rw c.in_ok-call.ensures.id.0 c.in_ok-call.ensures.begun) c.told.ensures.tells
 
-pub returns-clause-could : goal.returns-clause-could
-returns-clause-could g c = c.in_ok-call.ensures.could
+pub returns-clause-allowed : goal.returns-clause-allowed
+returns-clause-allowed g c = c.in_ok-call.ensures.allowed
 
 pub returns-clause-call : goal.returns-clause-call
 returns-clause-call g c = rw c.told.ensures.call c.in_ok-call.ensures.id

@@ -3,8 +3,8 @@ use Rattle.uni_shared.proofs.held.trim_held.Goals as goal
 pub returns-clause-refused : goal.returns-clause-refused
 returns-clause-refused g c = c.trim.ensures.refused
 
-pub returns-clause-could : goal.returns-clause-could
-returns-clause-could g c = c.trim.ensures.could
+pub returns-clause-allowed : goal.returns-clause-allowed
+returns-clause-allowed g c = c.trim.ensures.allowed
 
 pub returns-clause-number : goal.returns-clause-number
 returns-clause-number g c = c.trim.ensures.number

@@ -24,11 +24,11 @@ returns-clause-turn g c o sizes id tries st me few single two stage announced = 
 pub returns-clause-follow : goal.returns-clause-follow
 returns-clause-follow g c o sizes id st me few single stage = follows_on g.O.SmallObject.meaning o sizes id few st me single stage
 
-pub returns-clause-reply : goal.returns-clause-reply
-returns-clause-reply g c o sizes id s k st me single loading below named = loads g.O.SmallObject.meaning o sizes id st me single s k loading below named
+pub returns-clause-load : goal.returns-clause-load
+returns-clause-load g c o sizes id s k st me single loading below named = loads g.O.SmallObject.meaning o sizes id st me single s k loading below named
 
-pub returns-clause-begin : goal.returns-clause-begin
-returns-clause-begin g c o sizes id st me few single stage untried room = begins_own g.O.SmallObject.meaning o sizes id few st me single stage untried room
+pub returns-clause-try_directly : goal.returns-clause-try_directly
+returns-clause-try_directly g c o sizes id st me few single stage untried room = begins_own g.O.SmallObject.meaning o sizes id few st me single stage untried room
 
 pub returns-clause-check_own : goal.returns-clause-check_own
 returns-clause-check_own g c o sizes id s st me few single looking direct = checks_own g.O.SmallObject.meaning o sizes id few st me single s looking direct (g.met.O.SmallObject.steady o)

@@ -23,8 +23,8 @@ returns-clause-simulated g c = Follows-call _ _ _ c.self.view_is c.self.invarian
 pub returns-clause-id : goal.returns-clause-id
 returns-clause-id g c = (refl, begun_now _ _ _ c.self.view_is c.self.invariant c.args.p c.index.result.now (inside_count _ _ c.args.p c.processes-n.ensures c.if-p-n.false) c.index.ensures)
 
-pub returns-clause-could : goal.returns-clause-could
-returns-clause-could g c = (
+pub returns-clause-allowed : goal.returns-clause-allowed
+returns-clause-allowed g c = (
   inside_view _ _ c.args.p (sym c.self.view_is) (inside_count _ _ c.args.p c.processes-n.ensures c.if-p-n.false),
   idle_now _ _ _ c.self.view_is c.self.invariant c.args.p c.index.result.now (inside_count _ _ c.args.p c.processes-n.ensures c.if-p-n.false) c.index.ensures
       c.make-mine.new.self c.in-Ok.inv c.args.inv.now c.in-Ok.ensures c.make-mine.result c.is_some.result c.is_some.ensures c.if-is_some.false (room_left _ _ _ c.room.ensures c.if-room-eq0.false)

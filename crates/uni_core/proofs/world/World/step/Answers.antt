@@ -1,7 +1,7 @@
 use Rattle.std.proofs.Common.{ap, refl, sym, ◌∙◌}
 use Rattle.uni_core.specs.World.{progress_of}
 use Rattle.uni_core.proofs.Begin.{inside_count, inside_view, no_call_now}
-use Rattle.uni_core.proofs.Stepped.{can_step, can_go, may_need, steps_fit, turns_fit, IsWorld-left, IsBounded-left, world_of-left_with, Follows-left_with, SeesSettled-left, answers, still_pending, if_not_ok}
+use Rattle.uni_core.proofs.Stepped.{can_step, can_go, may_need, steps_fit, turns_fit, IsWorld-left, IsBounded-left, world_of-left_with, Follows-left_with, PlacesBesideAreSettled-left, answers, still_pending, if_not_ok}
 use Rattle.uni_core.proofs.world.World.step.Goals as goal
 use Rattle.uni_core.proofs.world.World.step.Goals.{in-None, in-Some-response}
 
@@ -24,8 +24,8 @@ pub invariant_of-self-2 : goal.invariant_of-self-2
 invariant_of-self-2 g c = rw c.in-Ok.ensures.object (IsWorld-left _ _ _ c.self.view_is c.self.invariant c.args.p c.processes.result c.index_mut-local.result.now c.processes.ensures c.if-p-processes.false c.index_mut-local.ensures.value c.in-Some.call.now (sym c.in-Some.ensures.value)
     c.take_step.new.self.shared c.take_step.new.stage c.in-Ok.response c.in-Ok.ensures.taken c.is_some.result c.is_some.ensures c.advance.new.self c.advance.ensures.call c.advance.ensures.begun c.advance.ensures.among c.advance.ensures.steps c.advance.ensures.turns)
 
-pub returns-clause-could : goal.returns-clause-could
-returns-clause-could g c = can_go _ _ _ c.self.view_is c.self.invariant c.args.p c.processes.result c.index_mut-local.result.now c.processes.ensures c.if-p-processes.false c.index_mut-local.ensures.value c.in-Some.call.now (sym c.in-Some.ensures.value)
+pub returns-clause-allowed : goal.returns-clause-allowed
+returns-clause-allowed g c = can_go _ _ _ c.self.view_is c.self.invariant c.args.p c.processes.result c.index_mut-local.result.now c.processes.ensures c.if-p-processes.false c.index_mut-local.ensures.value c.in-Some.call.now (sym c.in-Some.ensures.value)
 
 pub returns-clause-step : goal.returns-clause-step
 returns-clause-step g c = world_of-left_with _ _ _ c.self.view_is c.self.invariant c.args.p c.processes.result c.index_mut-local.result.now c.processes.ensures c.if-p-processes.false c.index_mut-local.ensures.value c.in-Some.call.now (sym c.in-Some.ensures.value)
@@ -50,7 +50,7 @@ returns-clause-simulated g c = Follows-left_with _ _ _ c.self.view_is c.self.inv
     c.take_step.new.self.object g.O.SeqObject.sequential refl
 
 pub returns-clause-beside : goal.returns-clause-beside
-returns-clause-beside g c = SeesSettled-left _ _ _ c.self.view_is c.self.invariant c.args.p c.processes.result c.index_mut-local.result.now c.processes.ensures c.if-p-processes.false c.index_mut-local.ensures.value c.in-Some.call.now (sym c.in-Some.ensures.value)
+returns-clause-beside g c = PlacesBesideAreSettled-left _ _ _ c.self.view_is c.self.invariant c.args.p c.processes.result c.index_mut-local.result.now c.processes.ensures c.if-p-processes.false c.index_mut-local.ensures.value c.in-Some.call.now (sym c.in-Some.ensures.value)
     c.take_step.new.self.shared c.take_step.new.stage c.in-Ok.response c.in-Ok.ensures.taken c.is_some.result c.is_some.ensures c.advance.new.self c.advance.ensures.call c.advance.ensures.begun c.advance.ensures.among c.advance.ensures.steps c.advance.ensures.turns
 
 pub returns-in_default-clause-refused : goal.returns-in_default-clause-refused

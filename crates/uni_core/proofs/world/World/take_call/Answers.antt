@@ -4,7 +4,7 @@ use Rattle.uni_core.proofs.world.World.take_call.Goals as goal
 
 pub returns-in-Ok-clause-takes : goal.returns-in-Ok-clause-takes
 returns-in-Ok-clause-takes g c = record {
-  is = (c.in-Ok.ensures.could, λ i. record { process = c.in-Ok.ensures.id.0 i; nth = c.in-Ok.ensures.id.1 i });
+  is = (c.in-Ok.ensures.allowed, λ i. record { process = c.in-Ok.ensures.id.0 i; nth = c.in-Ok.ensures.id.1 i });
   left = c.in-Ok.ensures.begun;
   accepted = c.in-Ok.ensures.simulated;
 }

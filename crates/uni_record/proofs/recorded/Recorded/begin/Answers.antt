@@ -16,9 +16,9 @@ invariant_of-self-in_default-begin g c = rw (c.in_default-begin.ensures.unchange
 
 pub invariant_of-self-2 : goal.invariant_of-self-2
 invariant_of-self-2 g c =
-    let could = subst (λ r. CanBegin (standing_of r) c.args.p) (sym c.self.view_is) c.in_ok-more.ensures.could in
+    let allowed = subst (λ r. CanBegin (standing_of r) c.args.p) (sym c.self.view_is) c.in_ok-more.ensures.allowed in
     let room = subst (λ r. set_aside (world_of r.world) + share (world_of r.world).n ≤ c.in_ok-more.more) (sym c.self.view_is) c.in_ok-more.ensures.room in
-    let fits = could.1 in
+    let fits = allowed.1 in
     let n = c.processes-n.ensures in
     let room_events = c.in-Ok-reserve_call.ensures.fits in
     let room_returns = c.in-Ok-make_room.ensures.returns_fit in
@@ -36,7 +36,7 @@ invariant_of-self-2 g c =
       counts = c.make_room.ensures.counts.0 ∙ sym (append-nil _);
       ended = sym (append-nil _);
     })
-    could.0.0 could.0.1 (omega (arith, fits)) (omega (arith, room, room_events)) (omega (arith, n, room_returns)) (omega (arith, n, room_counts)))
+    allowed.0.0 allowed.0.1 (omega (arith, fits)) (omega (arith, room, room_events)) (omega (arith, n, room_returns)) (omega (arith, n, room_counts)))
 
 pub returns-clause-begun : goal.returns-clause-begun
 returns-clause-begun g c = subst (λ r. world_of c.begin.new.self ≡ world_after (g.O.SeqObject.sequential r.world.object) (world_of r.world) (Call c.args.p c.args.inv.now)) c.self.view_is c.in-Ok-begin.ensures.begun

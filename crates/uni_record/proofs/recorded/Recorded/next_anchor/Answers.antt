@@ -13,8 +13,8 @@ returns-then-len-self-clause-refused g c =
     subst (λ r. IsEndRefused (standing_of r) c.args.m HistoryFull) c.self.view_is
     (c.in_default.ensures.none.0 refl, c.in-Some-next_number.ensures.fits.0 refl, omega (arith, len, past))
 
-pub returns-clause-could : goal.returns-clause-could
-returns-clause-could g c =
+pub returns-clause-allowed : goal.returns-clause-allowed
+returns-clause-allowed g c =
     let len = c.len.ensures in
     let fits = c.if-len-self.false in
     subst (λ r. CanEnd (standing_of r) c.args.m) c.self.view_is (c.in_default.ensures.none.0 refl, c.in-Some-next_number.ensures.fits.0 refl, omega (arith, len, fits))

@@ -9,10 +9,10 @@ invariant_of-self g c = rw (c.prepare_end.ensures.events.0, c.prepare_end.ensure
     (c.self.invariant.0, roomier _ _ _ _ _ _ _ _ _ _ c.self.invariant.1 c.prepare_end.ensures.events.1 (omega arith) (omega arith))
 
 pub renew_for-requires-clause-quiescent : goal.renew_for-requires-clause-quiescent
-renew_for-requires-clause-quiescent g c = (subst (λ r. CanEnd (standing_of r) c.args.m) (sym c.self.view_is) c.in_ok-number.ensures.could.1).0
+renew_for-requires-clause-quiescent g c = (subst (λ r. CanEnd (standing_of r) c.args.m) (sym c.self.view_is) c.in_ok-number.ensures.allowed.1).0
 
 pub renew_for-requires-clause-numbers : goal.renew_for-requires-clause-numbers
-renew_for-requires-clause-numbers g c = (subst (λ r. CanEnd (standing_of r) c.args.m) (sym c.self.view_is) c.in_ok-number.ensures.could.1).1
+renew_for-requires-clause-numbers g c = (subst (λ r. CanEnd (standing_of r) c.args.m) (sym c.self.view_is) c.in_ok-number.ensures.allowed.1).1
 
 pub invariant_of-self-in_default-renew_for : goal.invariant_of-self-in_default-renew_for
 invariant_of-self-in_default-renew_for g c = rw (c.in_default-renew_for.ensures.unchanged, c.prepare_end.ensures.events.0, c.prepare_end.ensures.ended)
@@ -20,9 +20,9 @@ invariant_of-self-in_default-renew_for g c = rw (c.in_default-renew_for.ensures.
 
 pub invariant_of-self-2 : goal.invariant_of-self-2
 invariant_of-self-2 g c =
-    let can = subst (λ r. CanEnd (standing_of r) c.args.m) (sym c.self.view_is) c.in_ok-number.ensures.could.1 in
+    let can = subst (λ r. CanEnd (standing_of r) c.args.m) (sym c.self.view_is) c.in_ok-number.ensures.allowed.1 in
     let w = world_of c.self.inside.world in
-    let some = c.in_ok-number.ensures.could.0.0 in
+    let some = c.in_ok-number.ensures.allowed.0.0 in
     let quiet = subst (λ v. IsQuiescent v) (sym c.in-Ok-renew_for.ensures.renewed) (quiescent_after (g.O.SeqObject.sequential c.self.inside.world.object) w c.args.m c.shape.ensures.sound can.0) in
     rw c.push.ensures.room
     (ended_kept g.O.SeqObject.sequential _ (stored.Reshape c.args.m) _ _ _ _ _ c.self.invariant.0 c.self.invariant.1

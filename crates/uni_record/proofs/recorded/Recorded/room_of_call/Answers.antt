@@ -14,8 +14,8 @@ returns-then-self-stored-clause-refused g c =
     let past = c.if-self-stored.true in
     subst (λ r. IsBeginRefused (standing_of r) c.args.p HistoryFull) c.self.view_is (can, omega (arith, sum, n, len, past))
 
-pub returns-then-stored-most-2-clause-could : goal.returns-then-stored-most-2-clause-could
-returns-then-stored-most-2-clause-could g c =
+pub returns-then-stored-most-2-clause-allowed : goal.returns-then-stored-most-2-clause-allowed
+returns-then-stored-most-2-clause-allowed g c =
     let can = can_call_now (world_of c.self.inside.world) c.self.inside.world.row c.args.p c.current.result c.calls_in_era.result c.row.result (rw c.processes-n.ensures at c.if-p-n.false)
     c.current.ensures c.if-is_some.ensures c.calls_in_era.ensures c.row.ensures (c.shape.ensures.room c.args.p) c.if-calls_in_era-row.false in
     let few = set_aside-le (world_of c.self.inside.world) in
@@ -29,8 +29,8 @@ returns-then-stored-most-2-clause-room g c =
     subst (λ r. set_aside (world_of r.world) + share (world_of r.world).n ≤ c.processes-n.result * (10 * c.processes-n.result + 12) + 10 * c.processes-n.result + 13) c.self.view_is
     (rw c.processes-n.ensures (omega (arith, few)))
 
-pub returns-clause-could : goal.returns-clause-could
-returns-clause-could g c =
+pub returns-clause-allowed : goal.returns-clause-allowed
+returns-clause-allowed g c =
     let can = can_call_now (world_of c.self.inside.world) c.self.inside.world.row c.args.p c.current.result c.calls_in_era.result c.row.result (rw c.processes-n.ensures at c.if-p-n.false)
     c.current.ensures c.if-is_some.ensures c.calls_in_era.ensures c.row.ensures (c.shape.ensures.room c.args.p) c.if-calls_in_era-row.false in
     let sum = c.set_aside.ensures.sum in

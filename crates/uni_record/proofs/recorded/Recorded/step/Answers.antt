@@ -114,12 +114,12 @@ returns-in-Err-clause-refused g c =
     subst (λ r. IsStepRefused (standing_of r) c.args.p Memory) c.self.view_is
     (can, memory_needed (world_of c.self.inside.world) c.args.p c.in-Err.field-0 can c.in-Err.ensures.refused)
 
-pub returns-in-Ok-Going-clause-could : goal.returns-in-Ok-Going-clause-could
-returns-in-Ok-Going-clause-could g c = subst (λ r. CanGo (world_of r.world) c.args.p) c.self.view_is
+pub returns-in-Ok-Going-clause-allowed : goal.returns-in-Ok-Going-clause-allowed
+returns-in-Ok-Going-clause-allowed g c = subst (λ r. CanGo (world_of r.world) c.args.p) c.self.view_is
     (rw c.processes.ensures at c.if-p-processes.false, current_some (world_of c.self.inside.world) c.args.p c.in-Some.call c.in-Some.ensures)
 
-pub returns-in-Ok-Done-clause-could : goal.returns-in-Ok-Done-clause-could
-returns-in-Ok-Done-clause-could g c = subst (λ r. CanGo (world_of r.world) c.args.p) c.self.view_is
+pub returns-in-Ok-Done-clause-allowed : goal.returns-in-Ok-Done-clause-allowed
+returns-in-Ok-Done-clause-allowed g c = subst (λ r. CanGo (world_of r.world) c.args.p) c.self.view_is
     (rw c.processes.ensures at c.if-p-processes.false, current_some (world_of c.self.inside.world) c.args.p c.in-Some.call c.in-Some.ensures)
 
 pub returns-in-Ok-Going-clause-untrimmed : goal.returns-in-Ok-Going-clause-untrimmed

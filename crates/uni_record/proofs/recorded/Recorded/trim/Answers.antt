@@ -10,16 +10,16 @@ invariant_of-self g c = rw (c.prepare_end.ensures.events.0, c.prepare_end.ensure
     (c.self.invariant.0, roomier _ _ _ _ _ _ _ _ _ _ c.self.invariant.1 c.prepare_end.ensures.events.1 (omega arith) (omega arith))
 
 pub renew-requires-clause-quiescent : goal.renew-requires-clause-quiescent
-renew-requires-clause-quiescent g c = (subst (λ r. CanEnd (standing_of r) c.processes.result) (sym c.self.view_is) c.in_ok-number.ensures.could).0
+renew-requires-clause-quiescent g c = (subst (λ r. CanEnd (standing_of r) c.processes.result) (sym c.self.view_is) c.in_ok-number.ensures.allowed).0
 
 pub renew-requires-clause-numbers : goal.renew-requires-clause-numbers
 renew-requires-clause-numbers g c =
-    let can = subst (λ r. CanEnd (standing_of r) c.processes.result) (sym c.self.view_is) c.in_ok-number.ensures.could in
+    let can = subst (λ r. CanEnd (standing_of r) c.processes.result) (sym c.self.view_is) c.in_ok-number.ensures.allowed in
     subst (λ k. NumbersFit (world_of c.self.inside.world) k c.self.inside.world.row) c.processes.ensures can.1
 
 pub invariant_of-self-2 : goal.invariant_of-self-2
 invariant_of-self-2 g c =
-    let can = subst (λ r. CanEnd (standing_of r) c.processes.result) (sym c.self.view_is) c.in_ok-number.ensures.could in
+    let can = subst (λ r. CanEnd (standing_of r) c.processes.result) (sym c.self.view_is) c.in_ok-number.ensures.allowed in
     let w = world_of c.self.inside.world in
     let quiet = subst (λ v. IsQuiescent v) (sym c.renew.ensures.renewed) (quiescent_after (g.O.SeqObject.sequential c.self.inside.world.object) w w.n c.shape.ensures.sound can.0) in
     rw c.push.ensures.room
