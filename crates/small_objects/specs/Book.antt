@@ -87,6 +87,11 @@ reply_fits (Sum n) is = refl
 abbrev pub spelled : Meaning
 spelled = record { object = in_words book call_in reply_words; invocation = 4; reply = 2 }
 
+-- sixteen balances, each of them an amount
+pub record IsBook (balances : List ℕ) : Type 0 where
+  pub sixteen : length balances ≡ 16
+  pub small : (i : ℕ) → slice_index balances i ≤ 999999999999
+
 -- no call changes how many balances there are
 pub length-book_next : (balances : List ℕ) (call : BookInv) → length (book_next balances call) ≡ length balances
 length-book_next balances (Deposit a v) = by_test (has_room balances a v) where

@@ -2,10 +2,8 @@
 ghost use Rattle.std.specs.Prelude.{List, ℕ, ◌<◌, ◌≡◌, ◌^◌, map, sum};
 ghost use Rattle.ready_objects.specs.Book.{book, book_answer, book_next, book_start};
 ghost use Rattle.seq_object.specs.History.{state_after};
-ghost use Rattle.small_objects.specs.Book.{IsCall, IsReply, book_steady, call_fits, call_in, call_long, call_of};
-ghost use Rattle.small_objects.specs.Book.{call_words};
-ghost use Rattle.small_objects.specs.Book.{reply_fits, reply_in, reply_long, reply_words, spelled};
-ghost use Rattle.small_objects.specs.Encoding.{IsStateOf};
+ghost use Rattle.small_objects.specs.Book.{IsBook, IsCall, IsReply, book_steady, call_fits, call_in, call_long};
+ghost use Rattle.small_objects.specs.Book.{call_of, call_words, reply_fits, reply_in, reply_long, reply_words, spelled};
 
 use crate::row::clear;
 use crate::words::Words;
@@ -121,7 +119,7 @@ pub struct SmallBook;
 
 /// Puts an amount into an account.
 fn deposit(balances: &mut [u64], account: Account, amount: Amount) -> BookResp
-    requires { IsStateOf book call_in balances.old }
+    requires { IsBook balances.old }
     ensures balances { balances.new ≡ book_next balances.old (BookInv.Deposit account amount) }
     ensures response { result ≡ book_answer balances.old (BookInv.Deposit account amount) }
 {
@@ -135,7 +133,7 @@ fn deposit(balances: &mut [u64], account: Account, amount: Amount) -> BookResp
 
 /// Takes an amount out of an account.
 fn withdraw(balances: &mut [u64], account: Account, amount: Amount) -> BookResp
-    requires { IsStateOf book call_in balances.old }
+    requires { IsBook balances.old }
     ensures balances { balances.new ≡ book_next balances.old (BookInv.Withdraw account amount) }
     ensures response { result ≡ book_answer balances.old (BookInv.Withdraw account amount) }
 {
@@ -160,7 +158,7 @@ fn total(balances: &[u64]) -> u64
 
 /// Takes an amount out of the first account, and puts it into the second.
 fn transfer(balances: &mut [u64], from: Account, target: Account, amount: Amount) -> BookResp
-    requires { IsStateOf book call_in balances.old }
+    requires { IsBook balances.old }
     ensures balances { balances.new ≡ book_next balances.old (BookInv.Move from target amount) }
     ensures response { result ≡ book_answer balances.old (BookInv.Move from target amount) }
 {
@@ -180,7 +178,7 @@ fn transfer(balances: &mut [u64], from: Account, target: Account, amount: Amount
     BookResp::Moved
 }
 
-#[tactic(auto, using(crate::proofs::Reached::reached_in))]
+#[tactic(auto, using(crate::proofs::Books::is_book))]
 impl SmallObject for SmallBook {
     ghost meaning = { λ _. spelled };
 
