@@ -1,6 +1,15 @@
 -- An object on the words of its states does what the plain one does.
 use Rattle.small_objects.proofs.Vocabulary.{Fits, IsReached, IsStateOf, List, Sequential, [], ap, encoded, in_words, map, map-append, refl, state_after, state_after-append, sym, ℕ, ◌++◌, ◌∙◌, ◌∷◌, ◌≡◌}
 
+module _ {I R : Type 0} (object : Sequential (List ℕ) I R) (call_in : List ℕ → I) (spell : R → List ℕ) where
+  -- invocations in words lead where the invocations lead that they are
+  pub after_in : (state : List ℕ) (is : List (List ℕ)) → state_after (in_words object call_in spell) state is ≡ state_after object state (map call_in is)
+  after_in state [] = refl
+  after_in state (i ∷ is) = after_in (object.next state (call_in i)) is
+
+  pub reached_in : (words : List ℕ) → IsReached (in_words object call_in spell) words → IsStateOf object call_in words
+  reached_in words was = (was.0, sym (after_in object.initial was.0) ∙ was.1)
+
 module _ {S I R : Type 0} (plain : Sequential S I R) (call_in : List ℕ → I) where
   -- one more call leads to such a state again
   pub further : (state : S) → IsStateOf plain call_in state → (i : List ℕ) → IsStateOf plain call_in (plain.next state (call_in i))
@@ -23,21 +32,23 @@ module _ {S I R : Type 0} (plain : Sequential S I R) (call_in : List ℕ → I) 
     follows_plain is = from plain.initial ([], refl) is
 
     -- words that calls lead to are those of a state that calls lead to
-    pub reached_is : (words : List ℕ) → IsStateOf (encoded plain encode decode) call_in words
+    pub state_is : (words : List ℕ) → IsStateOf (encoded plain encode decode) call_in words
         → (state : S) × IsStateOf plain call_in state × (words ≡ encode state) × (decode words ≡ state)
-    reached_is words was =
+    state_is words was =
         let state = state_after plain plain.initial (map call_in was.0) in
         let is : words ≡ encode state = sym was.1 ∙ follows_plain was.0 in
         (state, (was.0, refl), is, ap decode is ∙ fits state (was.0, refl))
 
-module _ {I R : Type 0} (object : Sequential (List ℕ) I R) (call_in : List ℕ → I) (spell : R → List ℕ) where
-  -- invocations in words lead where the invocations lead that they are
-  pub after_in : (state : List ℕ) (is : List (List ℕ)) → state_after (in_words object call_in spell) state is ≡ state_after object state (map call_in is)
-  after_in state [] = refl
-  after_in state (i ∷ is) = after_in (object.next state (call_in i)) is
-
-  pub reached_in : (words : List ℕ) → IsReached (in_words object call_in spell) words → IsStateOf object call_in words
-  reached_in words was = (was.0, sym (after_in object.initial was.0) ∙ was.1)
+    -- words that calls in words lead to are those of a state that calls lead to
+    pub reached_is : (spell : R → List ℕ) (words : List ℕ)
+        → IsReached (in_words (encoded plain encode decode) call_in spell) words
+        → IsStateOf plain call_in (decode words) × (words ≡ encode (decode words))
+    reached_is spell words reached =
+        let was = reached_in (encoded plain encode decode) call_in spell words reached in
+        let state = state_after plain plain.initial (map call_in was.0) in
+        let is : words ≡ encode state = sym was.1 ∙ follows_plain was.0 in
+        let read : decode words ≡ state = ap decode is ∙ fits state (was.0, refl) in
+        ((was.0, sym read), is ∙ ap encode (sym read))
 
 -- a state that calls lead to: the start state, and one that a further call leads to
 pub reached_start : (object : Sequential (List ℕ) (List ℕ) (List ℕ)) (state : List ℕ) → state ≡ object.initial → IsReached object state

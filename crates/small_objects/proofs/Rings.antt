@@ -5,7 +5,7 @@ use Rattle.std.proofs.Math.Seq.{drop-append_seam, take-append_seam, take-set-lt}
 use Rattle.std.specs.Prelude.{true}
 use Rattle.std.proofs.lemmas.List.{append_assoc, drop-append-le, drop-set-add, drop-set-lt, get_or-append_right, get_or-take, length-drop, set-append_left, set-append_right, take-append-drop, take-append-le, take-set-le}
 use Rattle.small_objects.specs.Ring.{IsRing, Ring, around, end_slot, first_slot, in_ring, ring_in, ring_queue, ring_wide, ring_words, rotated, with_last, without_first}
-use Rattle.small_objects.proofs.Reached.{after_in, follows_plain, reached_is}
+use Rattle.small_objects.proofs.Reached.{after_in, follows_plain, state_is}
 use Rattle.small_objects.proofs.Rows.{index-padded, pushed, row_fits, zero_row}
 
 -- words that are moved round, and back
@@ -107,7 +107,7 @@ zero_ring capacity state long each =
     let slots = padded capacity [] in
     let few : length slots ≤ capacity = (let l = length-padded capacity [] in omega arith) in
     let all : capacity - 0 ≡ capacity = omega arith in
-    zero_row (suc capacity) state long (λ i below. each i)
+    zero_row (suc capacity) state (long ∙ sym (ap suc (length-padded (suc capacity) []))) each
     ∙ ap (λ l. 0 ∷ 0 ∷ l) (sym (ap (λ n. rotated n slots) all ∙ ap (λ l. l ++ take capacity slots) (drop_all capacity slots few) ∙ take_all capacity slots few))
 
 -- what is so of each ring that calls lead to
@@ -177,7 +177,7 @@ module _ {I R : Type 0} (capacity : ℕ) (plain : Sequential (List ℕ) I R) whe
     pub ring_of : (words : List ℕ) → IsStateOf (ring_queue capacity plain) call_in words
         → (ring : Ring) × HasRing capacity words ring × IsStateOf plain call_in ring.values
     ring_of words was =
-        let h = reached_is (in_ring capacity plain) call_in (ring_words capacity) ring_in ring_fits words was in (
+        let h = state_is (in_ring capacity plain) call_in (ring_words capacity) ring_in ring_fits words was in (
           h.0,
           record { fits = reached h.0 h.1; words_are = h.2; read = h.3 },
           (h.1.0, sym (values_after (in_ring capacity plain).initial (map call_in h.1.0)) ∙ ap (λ ring. ring.values) h.1.1),
@@ -269,7 +269,7 @@ module _ (capacity : ℕ) (words : List ℕ) (ring : Ring) (h : HasRing capacity
     first_is =
         ap (slice_index words) first_place ∙ ap (λ w. slice_index w (suc (suc ring.start))) h.words_are
         ∙ index_start capacity ring.start (padded capacity ring.values) (length-padded capacity ring.values) inside
-        ∙ index-padded capacity ring.values 0 (let i = inside in omega arith)
+        ∙ index-padded capacity ring.values 0 h.fits.few
 
   module _ {I R : Type 0} (plain : Sequential (List ℕ) I R) (inv : I) where
     -- the words after the call, by the ring after it

@@ -1,6 +1,7 @@
 -- The names that the proofs of this crate share.
 pub use Rattle.std.proofs.Common.{Global, IsSome, List, None, Option, Some, Vec, [], ap, append-nil, arith, drop, if◌then◌else◌, inl, inr, length, length-append, length-set, map, nat_eq, nat_lt, option_and_then, refl, replicate, slice_get, slice_index, slice_index_or, slice_set, subst, suc, sym, take, vec_len, zero, ℕ, ◌%◌, ◌*◌, ◌++◌, ◌+◌, ◌-◌, ◌<◌, ◌∙◌, ◌∷◌, ◌≡◌, ◌≢◌, ◌≤◌, ◌⊎◌}
-pub use Rattle.std.proofs.lemmas.List.{drop_all, get_or-set_other, get_or-set_same, get_or_past, length-map, length-replicate, map-append, take_all}
+pub use Rattle.std.proofs.lemmas.List.{drop_all, get_or-set_other, get_or-set_same, get_or_past, length-map, length-replicate, map-append, nil_from_length, take_all}
+pub use Rattle.std.proofs.lemmas.Bool.{le-ltb, lt-ltb}
 pub use Rattle.std.proofs.lemmas.List.Edits.{get_or-remove_above, get_or-remove_below, length-remove}
 pub use Rattle.std.proofs.lemmas.List.Sums.{sum_by-cons, sum_by-set}
 pub use Rattle.std.specs.List.{All, remove, sum, sum_by}

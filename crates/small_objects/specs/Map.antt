@@ -1,5 +1,5 @@
 -- A map from words to words with a capacity: its state is the list of its pairs, in the order in which their keys came.
-use Rattle.std.specs.Prelude.{◌≡◌, ℕ, ◌*◌, ◌==◌, List, [], ◌∷◌, ◌++◌, Option, None, Some, is_some, nat_eq, nat_lt, if◌then◌else◌}
+use Rattle.std.specs.Prelude.{◌≡◌, ◌≢◌, ◌<◌, ◌≤◌, ℕ, ◌*◌, ◌+◌, ◌==◌, List, [], ◌∷◌, ◌++◌, Option, None, Some, is_some, nat_eq, nat_lt, if◌then◌else◌}
 use Rattle.std.specs.Prelude.{length, take, drop, refl, slice_index}
 use Rattle.std.specs.Map.{lookup, remove_entry, set_value}
 use Rattle.seq_object.specs.Sequential.{Sequential}
@@ -60,6 +60,21 @@ map_words capacity pairs = length pairs ∷ padded (2 * capacity) (flat pairs)
 
 abbrev pub pairs_in : List ℕ → List (ℕ × ℕ)
 pairs_in words = paired (take (2 * slice_index words 0) (drop 1 words))
+
+-- words of the pairs in them, of which there are no more than fit
+pub record IsMap (capacity : ℕ) (words : List ℕ) : Type 0 where
+  pub wide : length words ≡ 2 * capacity + 1
+  pub few : slice_index words 0 ≤ capacity
+  pub words_are : words ≡ map_words capacity (pairs_in words)
+
+-- the pair at an index is the first one in such words with a key; and no pair has it
+pub record IsFirst (words : List ℕ) (key i : ℕ) : Type 0 where
+  pub below : i < slice_index words 0
+  pub here : slice_index words (1 + 2 * i) ≡ key
+  pub first : (j : ℕ) → j < i → slice_index words (1 + 2 * j) ≢ key
+
+pub record IsAbsent (words : List ℕ) (key : ℕ) : Type 0 where
+  pub none : (j : ℕ) → j < slice_index words 0 → slice_index words (1 + 2 * j) ≢ key
 
 -- the map on words
 abbrev pub map : (capacity : ℕ) → Sequential (List ℕ) MapCall MapReply

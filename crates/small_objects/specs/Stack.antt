@@ -1,5 +1,5 @@
 -- A bounded stack: its state is the list of its values, the newest one last.
-use Rattle.std.specs.Prelude.{◌≡◌, ℕ, zero, suc, ◌-◌, List, [], ◌∷◌, ◌++◌, refl, length, take, slice_index, nat_lt, if◌then◌else◌}
+use Rattle.std.specs.Prelude.{◌≡◌, ◌≤◌, ℕ, ◌+◌, zero, suc, ◌-◌, List, [], ◌∷◌, ◌++◌, refl, length, take, slice_index, nat_lt, if◌then◌else◌}
 use Rattle.seq_object.specs.Sequential.{Sequential}
 use Rattle.small_objects.specs.Encoding.{encoded}
 use Rattle.small_objects.specs.Padded.{row_of, row_wide, values_in}
@@ -20,6 +20,12 @@ bounded_stack capacity = record { initial = []; next = stack_next capacity; answ
 -- the stack on words: how many values there are, and then they
 abbrev pub stack : (capacity : ℕ) → Sequential (List ℕ) ℕ ℕ
 stack capacity = encoded (bounded_stack capacity) (row_of capacity) values_in
+
+-- words of the values in them, of which there are no more than fit
+pub record IsStack (capacity : ℕ) (words : List ℕ) : Type 0 where
+  pub wide : length words ≡ capacity + 1
+  pub few : slice_index words 0 ≤ capacity
+  pub words_are : words ≡ row_of capacity (values_in words)
 
 -- all its states have as many words
 pub stack_steady : (capacity : ℕ) (state : List ℕ) (inv : ℕ) → length state ≡ length (stack capacity).initial → length ((stack capacity).next state inv) ≡ length (stack capacity).initial

@@ -1,10 +1,9 @@
 //! A map with a capacity.
-ghost use Rattle.std.specs.Prelude.{IfNone, IfSome, ℕ, ◌*◌, ◌+◌, ◌<◌, ◌≡◌, ◌≢◌, length, slice_index};
-ghost use Rattle.small_objects.specs.Encoding.{IsStateOf};
-ghost use Rattle.small_objects.specs.Map.{call_fits, call_in, call_long, call_words, map, map_steady};
-ghost use Rattle.small_objects.specs.Map.{reply_fits, reply_in, reply_long, reply_words, spelled};
+ghost use Rattle.std.specs.Prelude.{IfNone, IfSome, ◌*◌, ◌<◌, ◌≡◌, length, slice_index};
+ghost use Rattle.small_objects.specs.Map.{IsAbsent, IsFirst, IsMap, call_fits, call_in, call_long, call_words, map};
+ghost use Rattle.small_objects.specs.Map.{map_steady, reply_fits, reply_in, reply_long, reply_words, spelled};
 
-use crate::row::{clear, take_out};
+use crate::row::clear;
 use crate::words::Words;
 use uni_small::{SmallObject, Touched};
 
@@ -112,10 +111,8 @@ pub struct SmallMap {
 /// The index of the pair of a key; `None` where the key is not there.
 fn pair_of(state: &[u64], key: u64) -> Option<usize>
     requires inside { 2 * slice_index state.now 0 < length state.now }
-    ensures here { IfSome result (λ i. (i < slice_index state.now 0) × (slice_index state.now (1 + 2 * i) ≡ key)) }
-    ensures first { IfSome result (λ i. (j : ℕ) → j < i → slice_index state.now (1 + 2 * j) ≢ key) }
-    ensures absent { IfNone result ((j : ℕ) → j < slice_index state.now 0
-        → slice_index state.now (1 + 2 * j) ≢ key) }
+    ensures first { IfSome result (IsFirst state.now key) }
+    ensures absent { IfNone result (IsAbsent state.now key) }
 {
     for i in 0..state[0] as usize {
         if state[1 + 2 * i] == key {
@@ -128,8 +125,7 @@ fn pair_of(state: &[u64], key: u64) -> Option<usize>
 impl SmallMap {
     /// Gives a key a value, and tells the value before.
     fn insert(&self, state: &mut [u64], key: u64, value: u64) -> MapReply
-        requires wide { length state.old ≡ length (map self.now.capacity).initial }
-        requires reached { IsStateOf (map self.now.capacity) call_in state.old }
+        requires { IsMap self.now.capacity state.old }
         ensures state { state.new ≡ (map self.now.capacity).next state.old (MapCall.Insert key value) }
         ensures reply { result ≡ (map self.now.capacity).answer state.old (MapCall.Insert key value) }
     {
@@ -150,8 +146,7 @@ impl SmallMap {
 
     /// Takes out a key, and tells its value.
     fn remove(&self, state: &mut [u64], key: u64) -> MapReply
-        requires wide { length state.old ≡ length (map self.now.capacity).initial }
-        requires reached { IsStateOf (map self.now.capacity) call_in state.old }
+        requires { IsMap self.now.capacity state.old }
         ensures state { state.new ≡ (map self.now.capacity).next state.old (MapCall.Remove key) }
         ensures reply { result ≡ (map self.now.capacity).answer state.old (MapCall.Remove key) }
     {
@@ -159,17 +154,18 @@ impl SmallMap {
             return MapReply::Absent;
         };
         let count = state[0] as usize;
-        let last = 2 * count;
-        let _key = take_out(state, 1 + 2 * i, last);
-        let before = take_out(state, 1 + 2 * i, last - 1);
+        let (at, end) = (1 + 2 * i, 1 + 2 * count);
+        let before = state[2 + 2 * i];
+        state.copy_within(at + 2..end, at);
+        state[end - 2] = 0;
+        state[end - 1] = 0;
         state[0] = count as u64 - 1;
         MapReply::Value(before)
     }
 
     /// Asks for the value of a key.
     fn get(&self, state: &[u64], key: u64) -> MapReply
-        requires wide { length state.now ≡ length (map self.now.capacity).initial }
-        requires reached { IsStateOf (map self.now.capacity) call_in state.now }
+        requires { IsMap self.now.capacity state.now }
         ensures same { state.now ≡ (map self.now.capacity).next state.now (MapCall.Get key) }
         ensures reply { result ≡ (map self.now.capacity).answer state.now (MapCall.Get key) }
     {
@@ -180,7 +176,7 @@ impl SmallMap {
     }
 }
 
-#[tactic(auto, using(crate::proofs::Reached::reached_in))]
+#[tactic(auto, using(crate::proofs::Rows::none_long, crate::proofs::Rows::zero_row))]
 impl SmallObject for SmallMap {
     ghost meaning = { λ o. spelled o.capacity };
 

@@ -5,8 +5,8 @@ ghost use Rattle.small_objects.specs.Encoding.{IsStateOf, first_word, of_one_wor
 ghost use Rattle.small_objects.specs.Queue.{bounded_queue, queue, queue_steady};
 ghost use Rattle.small_objects.specs.Ring.{ring_in, ring_words};
 
-use crate::ring::{end_of, first_of, put_last, take_first, touching};
-use crate::row::clear;
+use crate::ring::{end_of, first_of, put_last, take_first};
+use crate::row::{clear, touching};
 use uni_small::{SmallObject, Touched};
 
 /// A queue of numbers that aren't 0, at most so many. An invocation that isn't 0 puts its number in, and is
@@ -70,7 +70,7 @@ impl SmallObject for SmallQueue {
         } else {
             end_of(state)
         };
-        touching(slot)
+        touching(2, slot)
     }
 
     ghost steady = { λ o state inv long. (queue_steady o.capacity state (first_word inv) long, refl) };

@@ -1,9 +1,6 @@
 //! Steps on a ring of words: how many values there are, the slot of the oldest one, and then the slots.
-ghost use Rattle.std.specs.Prelude.{ℕ, ◌+◌, ◌-◌, ◌<◌, ◌^◌, ◌≡◌, ◌≢◌, ◌≤◌, length, slice_index};
-ghost use Rattle.uni_small.specs.Touched.{IsUntouched};
+ghost use Rattle.std.specs.Prelude.{◌-◌, ◌<◌, ◌≡◌, ◌≤◌, length, slice_index};
 ghost use Rattle.small_objects.specs.Ring.{IsRing, around, end_slot, first_slot, with_last, without_first};
-
-use uni_small::Touched;
 
 /// The slot that a place is, which is one of the first round or the next.
 fn slot_of(place: u64, slots: u64) -> u64
@@ -28,18 +25,6 @@ pub(crate) fn end_of(state: &[u64]) -> u64
     ensures inside { result ≤ length state.now }
 {
     2 + slot_of(state[1] + state[0], state.len() as u64 - 2)
-}
-
-/// What a call changes that puts a value into a slot, or takes it out: the count, the start, and that slot.
-pub(crate) fn touching(slot: u64) -> Touched
-    requires { slot + 1 < 2 ^ 64 }
-    ensures { (i : ℕ) → IsUntouched result i → (2 ≤ i) × (i ≢ slot) }
-{
-    Touched {
-        head: 2,
-        from: slot,
-        to: slot + 1,
-    }
 }
 
 /// Puts a value behind the others.

@@ -10,8 +10,8 @@ ghost use Rattle.small_objects.specs.ScriptQueue.{IsCall, IsReply, call_fits, ca
 ghost use Rattle.small_objects.specs.ScriptQueue.{queue_of, queue_steady, reply_fits, reply_in, reply_long};
 ghost use Rattle.small_objects.specs.ScriptQueue.{reply_words, spelled};
 
-use crate::ring::{end_of, first_of, put_last, take_first, touching};
-use crate::row::clear;
+use crate::ring::{end_of, first_of, put_last, take_first};
+use crate::row::{clear, touching};
 use crate::words::Words;
 use ready_objects::{Amount, QueueInv, QueueResp};
 use uni_small::{SmallObject, Touched};
@@ -165,7 +165,7 @@ impl SmallObject for SmallScriptQueue {
             QueueInv::Enq(_) => end_of(state),
             QueueInv::Deq => first_of(state),
         };
-        touching(slot)
+        touching(2, slot)
     }
 
     ghost steady = { λ o. queue_steady o.capacity };

@@ -1,9 +1,9 @@
 //! A bounded stack.
-ghost use Rattle.std.specs.Prelude.{◌≡◌, length, refl};
-ghost use Rattle.small_objects.specs.Stack.{stack, stack_steady};
-ghost use Rattle.small_objects.specs.Encoding.{IsStateOf, first_word, of_one_word};
+ghost use Rattle.std.specs.Prelude.{◌≡◌, refl};
+ghost use Rattle.small_objects.specs.Stack.{IsStack, stack, stack_steady};
+ghost use Rattle.small_objects.specs.Encoding.{first_word, of_one_word};
 
-use crate::row::clear;
+use crate::row::{clear, touching};
 use uni_small::{SmallObject, Touched};
 
 /// A stack of numbers that aren't 0, at most so many. An invocation that isn't 0 puts its number on, and is
@@ -18,8 +18,7 @@ pub struct SmallStack {
 impl SmallStack {
     /// Applies an invocation of one word to a state that calls lead to, and gives the reply.
     fn step(&self, state: &mut [u64], inv: u64) -> u64
-        requires wide { length state.old ≡ length (stack self.now.capacity).initial }
-        requires reached { IsStateOf (stack self.now.capacity) first_word state.old }
+        requires { IsStack self.now.capacity state.old }
         ensures state { state.new ≡ (stack self.now.capacity).next state.old inv }
         ensures reply { result ≡ (stack self.now.capacity).answer state.old inv }
     {
@@ -42,7 +41,7 @@ impl SmallStack {
     }
 }
 
-#[tactic(auto, using(crate::proofs::Reached::reached_in, crate::proofs::Short::one_set))]
+#[tactic(auto, using(crate::proofs::Rows::none_long, crate::proofs::Rows::zero_row, crate::proofs::Short::one_set))]
 impl SmallObject for SmallStack {
     ghost meaning = { λ o. of_one_word (stack o.capacity) };
 
@@ -67,13 +66,9 @@ impl SmallObject for SmallStack {
     }
 
     fn touches(&self, state: &[u64], invocation: &[u64]) -> Touched {
-        let end = state[0] + 1;
-        let from = if invocation[0] == 0 { end - 1 } else { end };
-        Touched {
-            head: 1,
-            from,
-            to: from + 1,
-        }
+        let count = state[0];
+        let place = if invocation[0] == 0 { count } else { count + 1 };
+        touching(1, place)
     }
 
     ghost steady = { λ o state inv long. (stack_steady o.capacity state (first_word inv) long, refl) };

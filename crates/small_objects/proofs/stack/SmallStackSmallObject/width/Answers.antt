@@ -1,5 +1,0 @@
-use Rattle.small_objects.proofs.Vocabulary.{[], arith, length-padded}
-use Rattle.small_objects.proofs.stack.SmallStackSmallObject.width.Goals as goal
-
-pub returns : goal.returns
-returns c = (let e = length-padded c.args.self.now.capacity [] in omega arith)
