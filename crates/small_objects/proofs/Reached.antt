@@ -31,14 +31,6 @@ module _ {S I R : Type 0} (plain : Sequential S I R) (call_in : List ℕ → I) 
         → state_after (encoded plain encode decode) (encode plain.initial) (map call_in is) ≡ encode (state_after plain plain.initial (map call_in is))
     follows_plain is = from plain.initial ([], refl) is
 
-    -- words that calls lead to are those of a state that calls lead to
-    pub state_is : (words : List ℕ) → IsStateOf (encoded plain encode decode) call_in words
-        → (state : S) × IsStateOf plain call_in state × (words ≡ encode state) × (decode words ≡ state)
-    state_is words was =
-        let state = state_after plain plain.initial (map call_in was.0) in
-        let is : words ≡ encode state = sym was.1 ∙ follows_plain was.0 in
-        (state, (was.0, refl), is, ap decode is ∙ fits state (was.0, refl))
-
     -- words that calls in words lead to are those of a state that calls lead to
     pub reached_is : (spell : R → List ℕ) (words : List ℕ)
         → IsReached (in_words (encoded plain encode decode) call_in spell) words

@@ -1,11 +1,10 @@
 -- A queue in a ring of words: what the steps on the words do to the values.
-use Rattle.small_objects.proofs.Vocabulary.{Fits, IsStateOf, List, Sequential, [], ap, append-nil, arith, drop, drop_all, get_or-set_other, if◌then◌else◌, in_words, inl, inr, kept_by_calls, length, length-append, length-padded, lt_cases, map, nat_lt, padded, refl, slice_index, slice_set, state_after, suc, sym, take, take_all, zero, ℕ, ◌%◌, ◌++◌, ◌+◌, ◌-◌, ◌<◌, ◌∙◌, ◌∷◌, ◌≡◌, ◌≢◌, ◌≤◌}
+use Rattle.small_objects.proofs.Vocabulary.{Fits, IsReached, IsStateOf, List, Sequential, [], ap, append-nil, arith, drop, drop_all, get_or-set_other, if◌then◌else◌, in_words, inl, inr, kept_by_calls, le-ltb, length, length-append, length-padded, lt-ltb, lt_cases, map, nat_lt, nil_from_length, padded, refl, slice_index, slice_set, state_after, suc, sym, take, take_all, zero, ℕ, ◌%◌, ◌++◌, ◌+◌, ◌-◌, ◌<◌, ◌∙◌, ◌∷◌, ◌≡◌, ◌≢◌, ◌≤◌}
 use Rattle.std.proofs.Math.Nat.{mod-eq_of_lt, mod-lt, mod_self}
 use Rattle.std.proofs.Math.Seq.{drop-append_seam, take-append_seam, take-set-lt}
-use Rattle.std.specs.Prelude.{true}
 use Rattle.std.proofs.lemmas.List.{append_assoc, drop-append-le, drop-set-add, drop-set-lt, get_or-append_right, get_or-take, length-drop, set-append_left, set-append_right, take-append-drop, take-append-le, take-set-le}
-use Rattle.small_objects.specs.Ring.{IsRing, Ring, around, end_slot, first_slot, in_ring, ring_in, ring_queue, ring_wide, ring_words, rotated, with_last, without_first}
-use Rattle.small_objects.proofs.Reached.{after_in, follows_plain, state_is}
+use Rattle.small_objects.specs.Ring.{HasRing, IsRing, Ring, around, end_slot, first_slot, in_ring, ring_in, ring_queue, ring_wide, ring_words, rotated, with_last, without_first}
+use Rattle.small_objects.proofs.Reached.{after_in, follows_plain, reached_is}
 use Rattle.small_objects.proofs.Rows.{index-padded, pushed, row_fits, zero_row}
 
 -- words that are moved round, and back
@@ -92,26 +91,33 @@ taken_slots slots start [] inside few some = absurd (omega arith)
 taken_slots zero start (v ∷ values) inside few some = absurd (omega arith)
 taken_slots (suc room) start (v ∷ values) inside few some =
     let slots = suc room in
-    let less : nat_lt start slots ≡ true = elim (lt_cases start slots) [ inl l ↦ l.1 | inr m ↦ absurd (let n = m.0 in omega arith) ] in
     let first : start + 0 ≡ start = omega arith in
-    let here : around slots (start + 0) ≡ start = ap (around slots) first ∙ rw less refl in
+    let here : around slots (start + 0) ≡ start = ap (around slots) first ∙ rw (lt-ltb start slots inside) refl in
     ap (λ k. slice_set (rotated (slots - start) (v ∷ padded room values)) k 0) (sym here)
     ∙ set_slot slots start 0 0 (v ∷ padded room values) (ap suc (length-padded room values)) (omega arith) (omega arith)
     ∙ turned_on slots start 0 (padded room values) (ap suc (length-padded room values)) inside
     ∙ ap (rotated (slots - around slots (start + 1))) (sym (padded_more room values (omega arith)))
 
+pub ring_long : (capacity : ℕ) → length (rotated (capacity - 0) (padded capacity [])) ≡ capacity
+ring_long capacity = (let w = ring_wide capacity (record { start = 0; values = [] }) in omega arith)
+
 -- a ring of zeros has no values
-pub zero_ring : (capacity : ℕ) (state : List ℕ) → length state ≡ suc (suc capacity) → ((i : ℕ) → slice_index state i ≡ 0)
+pub zero_ring : (capacity : ℕ) (state : List ℕ)
+    → length state ≡ length (ring_words capacity (record { start = 0; values = [] }))
+    → ((i : ℕ) → slice_index state i ≡ 0)
     → state ≡ ring_words capacity (record { start = 0; values = [] })
 zero_ring capacity state long each =
     let slots = padded capacity [] in
     let few : length slots ≤ capacity = (let l = length-padded capacity [] in omega arith) in
     let all : capacity - 0 ≡ capacity = omega arith in
-    zero_row (suc capacity) state (long ∙ sym (ap suc (length-padded (suc capacity) []))) each
+    let row = ap suc (length-padded (suc capacity) []) in
+    let wide : length state ≡ suc (length (padded (suc capacity) []))
+    = long ∙ ring_wide capacity (record { start = 0; values = [] }) ∙ sym row in
+    zero_row (suc capacity) state wide each
     ∙ ap (λ l. 0 ∷ 0 ∷ l) (sym (ap (λ n. rotated n slots) all ∙ ap (λ l. l ++ take capacity slots) (drop_all capacity slots few) ∙ take_all capacity slots few))
 
 -- what is so of each ring that calls lead to
-pub record FitsIn (capacity : ℕ) (ring : Ring) : Type 0 where
+record FitsIn (capacity : ℕ) (ring : Ring) : Type 0 where
   pub few : length ring.values ≤ capacity
   pub start : ring.start ≤ capacity - 1
 
@@ -122,36 +128,24 @@ ring_read capacity ring fits = ap (λ (vs : List ℕ). the_ring vs) (ap (take (l
       the_ring : List ℕ → Ring
       the_ring vs = record { start = ring.start; values = vs }
 
--- words are those of a ring
-pub record HasRing (capacity : ℕ) (words : List ℕ) (ring : Ring) : Type 0 where
-  pub fits : FitsIn capacity ring
-  pub words_are : words ≡ ring_words capacity ring
-  pub read : ring_in words ≡ ring
-
 module _ {I R : Type 0} (capacity : ℕ) (plain : Sequential (List ℕ) I R) where
   -- the values are those of the queue
-  pub values_after : (ring : Ring) (is : List I) → (state_after (in_ring capacity plain) ring is).values ≡ state_after plain ring.values is
+  values_after : (ring : Ring) (is : List I)
+      → (state_after (in_ring capacity plain) ring is).values ≡ state_after plain ring.values is
   values_after ring [] = refl
   values_after ring (i ∷ is) = values_after ((in_ring capacity plain).next ring i) is
 
   -- the start stays, or moves on
   stays : (ring : Ring) (inv : I) (more : List ℕ) → plain.next ring.values inv ≡ more → length ring.values ≤ length more
       → (in_ring capacity plain).next ring inv ≡ record { start = ring.start; values = more }
-  stays ring inv more is long = elim (lt_cases (length more) (length ring.values)) [
-    | inl less ↦ absurd (let l = less.0 in omega arith)
-    | inr other ↦ rw (is, other.1) refl
-  ]
+  stays ring inv more is long = rw (is, le-ltb (length more) (length ring.values) long) refl
 
   moves : (ring : Ring) (inv : I) (less : List ℕ) → plain.next ring.values inv ≡ less → length less < length ring.values → ring.start < capacity
       → (in_ring capacity plain).next ring inv ≡ record { start = around capacity (ring.start + 1); values = less }
-  moves ring inv less is fewer inside = elim (lt_cases (length less) (length ring.values)) [
-    | inl other ↦ rw (is, other.1) (ap (λ (s : ℕ). ring_at s) (next_slot capacity ring.start inside))
-    | inr more ↦ absurd (let m = more.0 in omega arith)
-  ] where
-    ring_at : ℕ → Ring
-    ring_at s = record { start = s; values = less }
+  moves ring inv less is fewer inside =
+      rw (is, lt-ltb (length less) (length ring.values) fewer, next_slot capacity ring.start inside) refl
 
-  module _ (call_in : List ℕ → I) (empty : plain.initial ≡ [])
+  module _ (call_in : List ℕ → I) (spell : R → List ℕ) (empty : plain.initial ≡ [])
       (few : (values words : List ℕ) → length values ≤ capacity → length (plain.next values (call_in words)) ≤ capacity) where
     keeps : (ring : Ring) (words : List ℕ) → FitsIn capacity ring → FitsIn capacity ((in_ring capacity plain).next ring (call_in words))
     keeps ring words fits = record {
@@ -174,17 +168,21 @@ module _ {I R : Type 0} (capacity : ℕ) (plain : Sequential (List ℕ) I R) whe
     ring_fits ring was = ring_read capacity ring (reached ring was)
 
     -- words that calls lead to are those of a ring whose values calls lead to
-    pub ring_of : (words : List ℕ) → IsStateOf (ring_queue capacity plain) call_in words
-        → (ring : Ring) × HasRing capacity words ring × IsStateOf plain call_in ring.values
+    pub ring_of : (words : List ℕ) → IsReached (in_words (ring_queue capacity plain) call_in spell) words
+        → HasRing capacity words × IsStateOf plain call_in (ring_in words).values
     ring_of words was =
-        let h = state_is (in_ring capacity plain) call_in (ring_words capacity) ring_in ring_fits words was in (
-          h.0,
-          record { fits = reached h.0 h.1; words_are = h.2; read = h.3 },
-          (h.1.0, sym (values_after (in_ring capacity plain).initial (map call_in h.1.0)) ∙ ap (λ ring. ring.values) h.1.1),
+        let h = reached_is (in_ring capacity plain) call_in (ring_words capacity) ring_in ring_fits spell words was in
+        let fits = reached (ring_in words) h.0 in
+        let long = ap length h.1 ∙ ring_wide capacity (ring_in words) in
+        let count = ap (λ w. slice_index w 0) h.1 in
+        let ring : IsRing words = record { wide = omega arith; few = omega arith; start = omega arith } in
+        let after = values_after (in_ring capacity plain).initial (map call_in h.0.0) in (
+          record { wide = omega arith; ring = ring; words_are = h.1 },
+          (h.0.0, sym after ∙ ap (λ ring. ring.values) h.0.1),
         )
 
     -- after invocations in words
-    module _ (spell : R → List ℕ) (is : List (List ℕ)) where
+    module _ (is : List (List ℕ)) where
       abbrev pub last : List ℕ
       last = state_after (in_words (ring_queue capacity plain) call_in spell) (ring_queue capacity plain).initial is
 
@@ -206,96 +204,64 @@ module _ {I R : Type 0} (capacity : ℕ) (plain : Sequential (List ℕ) I R) whe
       next_reply i = ap (λ values. spell (plain.answer values (call_in i))) last_values
 
 -- the words of a queue, by its ring
-module _ (capacity : ℕ) (words : List ℕ) (ring : Ring) (h : HasRing capacity words ring) where
-  pub count_is : slice_index words 0 ≡ length ring.values
+module _ {capacity : ℕ} {words : List ℕ} (h : HasRing capacity words) where
+  abbrev values : List ℕ
+  values = (ring_in words).values
+
+  abbrev start : ℕ
+  start = slice_index words 1
+
+  pub count_is : slice_index words 0 ≡ length values
   count_is = ap (λ w. slice_index w 0) h.words_are
 
-  start_is : slice_index words 1 ≡ ring.start
-  start_is = ap (λ w. slice_index w 1) h.words_are
-
-  pub wide : length words ≡ suc (suc capacity)
-  wide = ap length h.words_are ∙ ring_wide capacity ring
-
   slots_are : length words - 2 ≡ capacity
-  slots_are = (let w = wide in omega arith)
+  slots_are = (let w = h.wide in omega arith)
 
-  pub is_ring : IsRing words
-  is_ring =
-      let w = wide in
-      let c = count_is in
-      let s = start_is in
-      let few = h.fits.few in
-      let start = h.fits.start in
-      record { wide = omega arith; few = omega arith; start = omega arith }
+  first_place : first_slot words ≡ suc (suc start)
+  first_place = omega arith
 
-  first_place : first_slot words ≡ suc (suc ring.start)
-  first_place = (let s = start_is in omega arith)
-
-  end_place : end_slot words ≡ suc (suc (around capacity (ring.start + length ring.values)))
+  end_place : end_slot words ≡ suc (suc (around capacity (start + length values)))
   end_place =
-      let slot = around capacity (ring.start + length ring.values) in
+      let slot = around capacity (start + length values) in
       let two : 2 + slot ≡ suc (suc slot) = omega arith in
-      ap (λ n. 2 + around n (slice_index words 1 + slice_index words 0)) slots_are ∙ ap (λ s. 2 + around capacity (s + slice_index words 0)) start_is
-      ∙ ap (λ c. 2 + around capacity (ring.start + c)) count_is ∙ two
+      ap (λ n. 2 + around n (start + slice_index words 0)) slots_are
+      ∙ ap (λ c. 2 + around capacity (start + c)) count_is ∙ two
 
-  put_words : (v : ℕ) → length ring.values < capacity → with_last words v ≡ ring_words capacity (record { start = ring.start; values = ring.values ++ v ∷ [] })
-  put_words v room =
-      let slot = around capacity (ring.start + length ring.values) in
-      let more = ring.values ++ v ∷ [] in
-      let one : slice_index words 0 + 1 ≡ length more = (let c = count_is in let a = length-append ring.values (v ∷ []) in omega arith) in
-      let within : ring.start ≤ capacity = (let s = h.fits.start in omega arith) in
-      ap (λ k. slice_set (slice_set words k v) 0 (slice_index words 0 + 1)) end_place
-      ∙ ap (λ w. slice_set (slice_set w (suc (suc slot)) v) 0 (slice_index words 0 + 1)) h.words_are
-      ∙ ap (λ n. n ∷ ring.start ∷ slice_set (rotated (capacity - ring.start) (padded capacity ring.values)) slot v) one
-      ∙ ap (λ l. length more ∷ ring.start ∷ l) (pushed_slots capacity ring.start v ring.values within room)
-
-  module _ (some : 1 ≤ length ring.values) where
-    inside : ring.start < capacity
-    inside = (let s = h.fits.start in let f = h.fits.few in omega arith)
-
-    take_words : without_first words ≡ ring_words capacity (record { start = around capacity (ring.start + 1); values = drop 1 ring.values })
-    take_words =
-        let slot = around (length words - 2) (slice_index words 1 + 1) in
-        let next = around capacity (ring.start + 1) in
-        let next_is : slot ≡ next = ap (λ n. around n (slice_index words 1 + 1)) slots_are ∙ ap (λ s. around capacity (s + 1)) start_is in
-        let fewer : slice_index words 0 - 1 ≡ length (drop 1 ring.values) = (let c = count_is in let l = length-drop 1 ring.values in omega arith) in
-        ap (λ k. slice_set (slice_set (slice_set words k 0) 1 slot) 0 (slice_index words 0 - 1)) first_place
-        ∙ ap (λ w. slice_set (slice_set (slice_set w (suc (suc ring.start)) 0) 1 slot) 0 (slice_index words 0 - 1)) h.words_are
-        ∙ ap (λ s. (slice_index words 0 - 1) ∷ s ∷ slice_set (rotated (capacity - ring.start) (padded capacity ring.values)) ring.start 0) next_is
-        ∙ ap (λ n. n ∷ next ∷ slice_set (rotated (capacity - ring.start) (padded capacity ring.values)) ring.start 0) fewer
-        ∙ ap (λ l. length (drop 1 ring.values) ∷ next ∷ l) (taken_slots capacity ring.start ring.values inside h.fits.few some)
-
-    pub first_is : slice_index words (first_slot words) ≡ slice_index ring.values 0
-    first_is =
-        ap (slice_index words) first_place ∙ ap (λ w. slice_index w (suc (suc ring.start))) h.words_are
-        ∙ index_start capacity ring.start (padded capacity ring.values) (length-padded capacity ring.values) inside
-        ∙ index-padded capacity ring.values 0 h.fits.few
+  pub first_is : 1 ≤ slice_index words 0 → slice_index words (first_slot words) ≡ slice_index values 0
+  first_is some =
+      let f = h.ring.few in
+      let s = h.ring.start in
+      let w = h.wide in
+      ap (slice_index words) first_place ∙ ap (λ w. slice_index w (suc (suc start))) h.words_are
+      ∙ index_start capacity start (padded capacity values) (length-padded capacity values) (omega arith)
+      ∙ index-padded capacity values 0 (omega (arith, count_is))
 
   module _ {I R : Type 0} (plain : Sequential (List ℕ) I R) (inv : I) where
-    -- the words after the call, by the ring after it
-    next_is : (after : Ring) → (in_ring capacity plain).next ring inv ≡ after → ring_words capacity after ≡ (ring_queue capacity plain).next words inv
-    next_is after is = ap (ring_words capacity) (sym is) ∙ ap (λ r. ring_words capacity ((in_ring capacity plain).next r inv)) (sym h.read)
-
     -- a call that changes no value
-    same_next : plain.next ring.values inv ≡ ring.values → words ≡ (ring_queue capacity plain).next words inv
-    same_next is = h.words_are ∙ next_is ring (stays capacity plain ring inv ring.values is (omega arith))
+    same_next : plain.next values inv ≡ values → words ≡ (ring_queue capacity plain).next words inv
+    same_next is =
+        h.words_are ∙ ap (ring_words capacity) (sym (stays capacity plain (ring_in words) inv values is (omega arith)))
 
     -- one that puts a value in, where there is room
-    module _ (v : ℕ) (puts : plain.next ring.values inv ≡ (if nat_lt (length ring.values) capacity then ring.values ++ v ∷ [] else ring.values)) where
+    module _ (v : ℕ)
+        (puts : plain.next values inv ≡ (if nat_lt (length values) capacity then values ++ v ∷ [] else values)) where
       pub put_next : slice_index words 0 < capacity → with_last words v ≡ (ring_queue capacity plain).next words inv
-      put_next room = elim (lt_cases (length ring.values) capacity) [
-        | inl less ↦
-            let after : plain.next ring.values inv ≡ ring.values ++ v ∷ [] = puts ∙ rw less.1 refl in
-            put_words v less.0 ∙ next_is (record { start = ring.start; values = ring.values ++ v ∷ [] })
-            (stays capacity plain ring inv (ring.values ++ v ∷ []) after (let a = length-append ring.values (v ∷ []) in omega arith))
-        | inr more ↦ absurd (let m = more.0 in let c = count_is in omega arith)
-      ]
+      put_next room =
+          let less : length values < capacity = omega (arith, count_is) in
+          let slot = around capacity (start + length values) in
+          let more = values ++ v ∷ [] in
+          let longer = length-append values (v ∷ []) in
+          let one : slice_index words 0 + 1 ≡ length more = omega (arith, count_is) in
+          let within : start ≤ capacity = (let s = h.ring.start in let w = h.wide in omega arith) in
+          let after : plain.next values inv ≡ more = puts ∙ rw (lt-ltb (length values) capacity less) refl in
+          ap (λ k. slice_set (slice_set words k v) 0 (slice_index words 0 + 1)) end_place
+          ∙ ap (λ w. slice_set (slice_set w (suc (suc slot)) v) 0 (slice_index words 0 + 1)) h.words_are
+          ∙ ap (λ n. n ∷ start ∷ slice_set (rotated (capacity - start) (padded capacity values)) slot v) one
+          ∙ ap (λ l. length more ∷ start ∷ l) (pushed_slots capacity start v values within less)
+          ∙ ap (ring_words capacity) (sym (stays capacity plain (ring_in words) inv more after (omega arith)))
 
       pub full_next : capacity ≤ slice_index words 0 → words ≡ (ring_queue capacity plain).next words inv
-      full_next full = elim (lt_cases (length ring.values) capacity) [
-        | inl less ↦ absurd (let l = less.0 in let c = count_is in omega arith)
-        | inr more ↦ same_next (puts ∙ rw more.1 refl)
-      ]
+      full_next full = same_next (puts ∙ rw (le-ltb (length values) capacity (omega (arith, count_is))) refl)
 
       pub put_alike : (i : ℕ) → 2 ≤ i → i ≢ end_slot words → slice_index ((ring_queue capacity plain).next words inv) i ≡ slice_index words i
       put_alike i slot other = elim (lt_cases (slice_index words 0) capacity) [
@@ -306,24 +272,37 @@ module _ (capacity : ℕ) (words : List ℕ) (ring : Ring) (h : HasRing capacity
       ]
 
     -- and one that takes the oldest value out, where there is one
-    module _ (takes : plain.next ring.values inv ≡ drop 1 ring.values) where
+    module _ (takes : plain.next values inv ≡ drop 1 values) where
       pub take_next : 1 ≤ slice_index words 0 → without_first words ≡ (ring_queue capacity plain).next words inv
       take_next some =
-          let one : 1 ≤ length ring.values = (let c = count_is in omega arith) in
-          let l = length-drop 1 ring.values in
-          take_words one ∙ next_is (record { start = around capacity (ring.start + 1); values = drop 1 ring.values })
-          (moves capacity plain ring inv (drop 1 ring.values) takes (omega arith) (inside one))
+          let c = count_is in
+          let f = h.ring.few in
+          let s = h.ring.start in
+          let w = h.wide in
+          let others = drop 1 values in
+          let l = length-drop 1 values in
+          let inside : start < capacity = omega arith in
+          let slot = around (length words - 2) (start + 1) in
+          let next = around capacity (start + 1) in
+          let n = slice_index words 0 - 1 in
+          let fewer : n ≡ length others = omega arith in
+          ap (λ k. slice_set (slice_set (slice_set words k 0) 1 slot) 0 n) first_place
+          ∙ ap (λ w. slice_set (slice_set (slice_set w (suc (suc start)) 0) 1 slot) 0 n) h.words_are
+          ∙ ap (λ s. n ∷ around s (start + 1) ∷ slice_set (rotated (capacity - start) (padded capacity values)) start 0)
+          slots_are
+          ∙ ap (λ l. n ∷ next ∷ l) (taken_slots capacity start values inside (omega arith) (omega arith))
+          ∙ ap (λ n. n ∷ next ∷ rotated (capacity - next) (padded capacity others)) fewer
+          ∙ ap (ring_words capacity) (sym (moves capacity plain (ring_in words) inv others takes (omega arith) inside))
 
       pub none_next : slice_index words 0 ≡ 0 → words ≡ (ring_queue capacity plain).next words inv
-      none_next none = same_next (takes ∙ nil ring.values (sym count_is ∙ none)) where
-        nil : (values : List ℕ) → length values ≡ 0 → drop 1 values ≡ values
-        nil [] e = refl
-        nil (v ∷ values) e = absurd (omega arith)
+      none_next none =
+          let nil : values ≡ [] = nil_from_length values (sym count_is ∙ none) in
+          same_next (takes ∙ ap (drop 1) nil ∙ sym nil)
 
       pub take_alike : (i : ℕ) → 2 ≤ i → i ≢ first_slot words → slice_index ((ring_queue capacity plain).next words inv) i ≡ slice_index words i
       take_alike i slot other = elim (lt_cases 0 (slice_index words 0)) [
         | inl some ↦
-            let next = around (length words - 2) (slice_index words 1 + 1) in
+            let next = around (length words - 2) (start + 1) in
             let without = slice_set words (first_slot words) 0 in
             ap (λ w. slice_index w i) (sym (take_next (let s = some.0 in omega arith)))
             ∙ get_or-set_other (slice_set without 1 next) 0 i (slice_index words 0 - 1) 0 (λ e. omega (arith, e)) ∙ get_or-set_other without 1 i next 0 (λ e. omega (arith, e))

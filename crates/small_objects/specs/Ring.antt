@@ -74,6 +74,12 @@ pub record IsRing (words : List ℕ) : Type 0 where
   pub few : slice_index words 0 ≤ length words - 2
   pub start : slice_index words 1 ≤ length words - 3
 
+-- words of the ring in them, of so many slots
+pub record HasRing (capacity : ℕ) (words : List ℕ) : Type 0 where
+  pub wide : length words ≡ capacity + 2
+  pub ring : IsRing words
+  pub words_are : words ≡ ring_words capacity (ring_in words)
+
 -- a ring has as many words for all values
 pub length-rotated : (n : ℕ) (words : List ℕ) → length (rotated n words) ≡ length words
 length-rotated n words =

@@ -1,9 +1,9 @@
 //! A bounded queue.
-ghost use Rattle.std.specs.Prelude.{List, [], ℕ, ◌≡◌, length, map, refl};
+ghost use Rattle.std.specs.Prelude.{List, [], ℕ, ◌≡◌, map, refl};
 ghost use Rattle.seq_object.specs.History.{state_after};
-ghost use Rattle.small_objects.specs.Encoding.{IsStateOf, first_word, of_one_word, one_word};
+ghost use Rattle.small_objects.specs.Encoding.{first_word, of_one_word, one_word};
 ghost use Rattle.small_objects.specs.Queue.{bounded_queue, queue, queue_steady};
-ghost use Rattle.small_objects.specs.Ring.{ring_in, ring_words};
+ghost use Rattle.small_objects.specs.Ring.{HasRing, ring_in, ring_words};
 
 use crate::ring::{end_of, first_of, put_last, take_first};
 use crate::row::{clear, touching};
@@ -21,8 +21,7 @@ pub struct SmallQueue {
 impl SmallQueue {
     /// Applies an invocation of one word to a state that calls lead to, and gives the reply.
     fn step(&self, state: &mut [u64], inv: u64) -> u64
-        requires wide { length state.old ≡ length (queue self.now.capacity).initial }
-        requires reached { IsStateOf (queue self.now.capacity) first_word state.old }
+        requires { HasRing self.now.capacity state.old }
         ensures state { state.new ≡ (queue self.now.capacity).next state.old inv }
         ensures reply { result ≡ (queue self.now.capacity).answer state.old inv }
     {
@@ -40,7 +39,7 @@ impl SmallQueue {
     }
 }
 
-#[tactic(auto, using(crate::proofs::Reached::reached_in, crate::proofs::Short::one_set))]
+#[tactic(auto, using(crate::proofs::Rings::ring_long, crate::proofs::Rings::zero_ring, crate::proofs::Short::one_set))]
 impl SmallObject for SmallQueue {
     ghost meaning = { λ o. of_one_word (queue o.capacity) };
 

@@ -1,11 +1,10 @@
 //! The queue of scripts.
-ghost use Rattle.std.specs.Prelude.{List, [], ℕ, ◌<◌, ◌≡◌, ◌≤◌, length, map};
+ghost use Rattle.std.specs.Prelude.{List, [], ℕ, ◌<◌, ◌≡◌, ◌≤◌, length, map, slice_index};
 ghost use Rattle.ready_objects.specs.Queue.{queue};
 ghost use Rattle.ready_objects.specs.declared.queue.QueueInv.{QueueInv};
 ghost use Rattle.seq_object.specs.History.{state_after};
 ghost use Rattle.small_objects.specs.Amount.{amount_long};
-ghost use Rattle.small_objects.specs.Encoding.{IsStateOf};
-ghost use Rattle.small_objects.specs.Ring.{ring_in, ring_words};
+ghost use Rattle.small_objects.specs.Ring.{HasRing, ring_in, ring_words};
 ghost use Rattle.small_objects.specs.ScriptQueue.{IsCall, IsReply, call_fits, call_in, call_words, on_words, put_by};
 ghost use Rattle.small_objects.specs.ScriptQueue.{queue_of, queue_steady, reply_fits, reply_in, reply_long};
 ghost use Rattle.small_objects.specs.ScriptQueue.{reply_words, spelled};
@@ -102,8 +101,7 @@ pub struct SmallScriptQueue {
 impl SmallScriptQueue {
     /// Puts a value last.
     fn enqueue(&self, state: &mut [u64], value: Amount) -> QueueResp
-        requires wide { length state.old ≡ length (on_words self.now.capacity).initial }
-        requires reached { IsStateOf (on_words self.now.capacity) call_in state.old }
+        requires { HasRing self.now.capacity state.old }
         ensures state { state.new ≡ (on_words self.now.capacity).next state.old (QueueInv.Enq value) }
         ensures reply { result ≡ (on_words self.now.capacity).answer state.old (QueueInv.Enq value) }
     {
@@ -116,8 +114,8 @@ impl SmallScriptQueue {
 
     /// Takes out the first value.
     fn dequeue(&self, state: &mut [u64]) -> QueueResp
-        requires wide { length state.old ≡ length (on_words self.now.capacity).initial }
-        requires reached { IsStateOf (on_words self.now.capacity) call_in state.old }
+        requires ring { HasRing self.now.capacity state.old }
+        requires small { slice_index (ring_in state.old).values 0 ≤ 999999999999 }
         ensures state { state.new ≡ (on_words self.now.capacity).next state.old QueueInv.Deq }
         ensures reply { result ≡ (on_words self.now.capacity).answer state.old QueueInv.Deq }
     {
@@ -132,7 +130,7 @@ impl SmallScriptQueue {
     }
 }
 
-#[tactic(auto, using(crate::proofs::Reached::reached_in))]
+#[tactic(auto, using(crate::proofs::Rings::ring_long, crate::proofs::Rings::zero_ring))]
 impl SmallObject for SmallScriptQueue {
     ghost meaning = { λ o. spelled o.capacity };
 

@@ -1,6 +1,5 @@
-use Rattle.small_objects.proofs.Vocabulary.{first_word, one_word, queue}
-use Rattle.small_objects.proofs.Reached.{reached_in}
+use Rattle.small_objects.proofs.Queues.{is_queue}
 use Rattle.small_objects.proofs.queue.SmallQueueSmallObject.apply.Goals as goal
 
-pub step-requires-clause-reached : goal.step-requires-clause-reached
-step-requires-clause-reached c = reached_in (queue c.args.self.now.capacity) first_word one_word c.args.state.now c.requires.reached
+pub step-requires : goal.step-requires
+step-requires c = is_queue c.args.self.now.capacity c.args.state.now c.requires.reached

@@ -1,9 +1,11 @@
-use Rattle.small_objects.specs.ScriptQueue.{call_in, on_words, reply_words}
-use Rattle.small_objects.proofs.Reached.{reached_in}
+use Rattle.small_objects.proofs.Scripts.{are_small, is_script}
 use Rattle.small_objects.proofs.script_queue.SmallScriptQueueSmallObject.apply.Goals as goal
 
-pub enqueue-told-requires-clause-reached : goal.enqueue-told-requires-clause-reached
-enqueue-told-requires-clause-reached c = reached_in (on_words c.args.self.now.capacity) call_in reply_words c.args.state.now c.requires.reached
+pub enqueue-told-requires : goal.enqueue-told-requires
+enqueue-told-requires c = is_script c.args.self.now.capacity c.args.state.now c.requires.reached
 
-pub dequeue-told-requires-clause-reached : goal.dequeue-told-requires-clause-reached
-dequeue-told-requires-clause-reached c = reached_in (on_words c.args.self.now.capacity) call_in reply_words c.args.state.now c.requires.reached
+pub dequeue-told-requires : goal.dequeue-told-requires
+dequeue-told-requires c =
+    let room = c.args.self.now.capacity in
+    let reached = c.requires.reached in
+    record { ring = is_script room c.args.state.now reached; small = are_small room c.args.state.now reached 0 }
