@@ -1,8 +1,7 @@
 //! An array of counters.
-ghost use Rattle.std.specs.Prelude.{[], ◌≡◌, ◌∷◌, refl};
+ghost use Rattle.std.specs.Prelude.{refl};
 ghost use Rattle.std.proofs.Common.{◌∙◌, length-set};
 ghost use Rattle.small_objects.specs.Counters.{call_in, call_words, counters, spelled};
-ghost use Rattle.small_objects.specs.Encoding.{in_words, one_word};
 
 use crate::row::clear;
 use crate::words::Words;
