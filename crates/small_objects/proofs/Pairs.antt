@@ -188,7 +188,6 @@ module _ {capacity : ℕ} {words : List ℕ} (h : IsMap capacity words) where
       let its = first_pair pairs key i first in
       let spot : 2 + 2 * i ≡ suc (suc (double i)) = omega arith in
       let l = length-flat pairs in
-      let b = first.below in
       let inside : suc (double i) < length (flat pairs) = omega arith in
       let set = set-padded (2 * capacity) (flat pairs) (suc (double i)) value inside long in
       let long = sym (length-set_value (nat_eq key) pairs value) in (
@@ -250,7 +249,6 @@ module _ {capacity : ℕ} {words : List ℕ} (h : IsMap capacity words) where
       let d = double_is i in
       let l = length-flat pairs in
       let first = found f in
-      let b = first.below in
       let its = first_pair pairs key i first in
       let fewer : less ≡ length (remove_entry (nat_eq key) pairs) = (let s = its.3 in omega arith) in
       taken_out (2 * capacity) (length pairs) (flat pairs) words moved (double i) at (at + 2) end (end - 2) (end - 1)

@@ -229,9 +229,6 @@ module _ {capacity : ℕ} {words : List ℕ} (h : HasRing capacity words) where
 
   pub first_is : 1 ≤ slice_index words 0 → slice_index words (first_slot words) ≡ slice_index values 0
   first_is some =
-      let f = h.ring.few in
-      let s = h.ring.start in
-      let w = h.wide in
       ap (slice_index words) first_place ∙ ap (λ w. slice_index w (suc (suc start))) h.words_are
       ∙ index_start capacity start (padded capacity values) (length-padded capacity values) (omega arith)
       ∙ index-padded capacity values 0 (omega (arith, count_is))
@@ -276,9 +273,6 @@ module _ {capacity : ℕ} {words : List ℕ} (h : HasRing capacity words) where
       pub take_next : 1 ≤ slice_index words 0 → without_first words ≡ (ring_queue capacity plain).next words inv
       take_next some =
           let c = count_is in
-          let f = h.ring.few in
-          let s = h.ring.start in
-          let w = h.wide in
           let others = drop 1 values in
           let l = length-drop 1 values in
           let inside : start < capacity = omega arith in
