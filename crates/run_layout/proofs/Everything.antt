@@ -27,9 +27,7 @@ end_kept None = refl
 end_kept (Some e) = rw (in_all e.event) (ap (λ n. let f : End = record e { event = n } in Some f) (less_none e.event))
 
 bar_kept : (bar : Called) → bar_in all_events bar ≡ bar
-bar_kept bar =
-    ap (λ n. let b : Called = record bar { from = n; end = option_and_then (end_in all_events) bar.end } in b) (less_none bar.from)
-    ∙ ap (λ e. let b : Called = record bar { end = e } in b) (end_kept bar.end)
+bar_kept bar = rw (less_none bar.from, end_kept bar.end) refl
 
 none_outside : (cell : Cell) (dots : List Dot) → list_any (links_outside all_events cell) dots ≡ false
 none_outside cell [] = refl
@@ -41,11 +39,8 @@ last_kept (Some n) = rw (in_all n) (ap (λ k. Some k) (less_none n))
 
 era_kept : (dots : List Dot) (era : EraMarks) → era_in all_events dots era ≡ era
 era_kept dots era =
-    let cells = filter (λ cell. not (list_any (links_outside all_events cell) dots)) era.cells in
-    let last = option_and_then (λ last. if is_in all_events last then Some (last - 0) else None) era.last in
-    ap (λ n. let e : EraMarks = record era { from = n; last = last; cells = cells } in e) (less_none era.from)
-    ∙ ap (λ l. let e : EraMarks = record era { last = l; cells = cells } in e) (last_kept era.last)
-    ∙ ap (λ l. let e : EraMarks = record era { cells = l } in e) (filter_kept (λ cell. not (list_any (links_outside all_events cell) dots)) (λ cell. rw (none_outside cell dots) refl) era.cells)
+    let cells = filter_kept (λ cell. not (list_any (links_outside all_events cell) dots)) (λ cell. rw (none_outside cell dots) refl) era.cells in
+    rw (less_none era.from, last_kept era.last, cells) refl
 
 pub chosen_all : (marks : RunMarks) → chosen all_events marks ≡ marks
 chosen_all marks =

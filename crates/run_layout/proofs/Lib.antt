@@ -3,4 +3,3 @@ pub mod Adding
 pub mod Ranges
 pub mod Scripts
 pub mod Everything
-pub mod Lanes

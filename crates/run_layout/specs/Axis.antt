@@ -6,13 +6,13 @@ use Rattle.run_layout.specs.Vocabulary.{filter, Stretch}
 abbrev pub is_between : (from to : ℕ) → Stretch → Bool
 is_between from to stretch = nat_lt stretch.from to && nat_lt from stretch.to
 
--- the most lanes of the eras that are, where another has so many
-abbrev pub most_from : (most from to : ℕ) → List Stretch → ℕ
-most_from most from to stretches = fold (λ lanes stretch. max stretch.lanes lanes) most (filter (is_between from to) stretches)
+-- the most lanes of the eras that are
+abbrev pub most_between : List Stretch → (from to : ℕ) → ℕ
+most_between stretches from to = fold (λ most stretch. max stretch.lanes most) 0 (filter (is_between from to) stretches)
 
 -- the most lanes of such an era, 64 at most
 abbrev pub lanes_between : List Stretch → (from to : ℕ) → ℕ
-lanes_between stretches from to = min (most_from 0 from to stretches) 64
+lanes_between stretches from to = min (most_between stretches from to) 64
 
 -- an era of two lanes ends where one of three begins: before that place there are two, from it on there are three
 abbrev two_eras : List Stretch

@@ -1,6 +1,6 @@
 -- Some events of a run, and what is drawn of it where these are chosen.
 use Rattle.std.specs.Prelude.{◌≡◌, ℕ, ◌+◌, ◌-◌, ◌==◌, ◌&&◌, ◌||◌, not, min, max, nat_le, nat_lt, if◌then◌else◌, Bool, true, false, List, [], ◌∷◌, map, Option, Some, None, Vec, option_and_then, refl}
-use Rattle.run_layout.specs.Vocabulary.{filter, list_any, option_map_or, Global, Remark, Heading, Note, Refused, PlacedRemark, Sequence, StepMark, Dot, EraLine, End, Called, Cell, EraMarks, RunMarks, Range, RangeFault, PastEnd, TooManyEvents}
+use Rattle.run_layout.specs.Vocabulary.{filter, list_any, option_map_or, Global, Remark, Heading, Refused, PlacedRemark, Sequence, StepMark, Dot, EraLine, End, Called, Cell, EraMarks, RunMarks, Range, RangeFault, PastEnd, TooManyEvents}
 
 -- whether an event isn't after the last one, if there is a last
 abbrev pub is_by : (event : ℕ) → (last : Option ℕ) → Bool
@@ -82,8 +82,7 @@ chosen range marks =
 
 abbrev pub is_heading : Remark → Bool
 is_heading (Heading text) = true
-is_heading (Note text) = false
-is_heading (Refused command refusal) = false
+is_heading _ = false
 
 abbrev pub is_told_in : Range → PlacedRemark → Bool
 is_told_in range one = is_heading one.remark || is_in range one.before

@@ -1,7 +1,7 @@
 -- What a drawing has to show of a run, mark by mark, whatever it is drawn with: from which event's column to which, in the lanes of
 -- which processes, and with what text.
-use Rattle.std.specs.Prelude.{◌≡◌, ℕ, zero, suc, ◌+◌, ◌-◌, ◌==◌, nat_lt, if◌then◌else◌, true, false, Bool, List, [], ◌∷◌, ◌++◌, map, Option, Some, None, codes, refl}
-use Rattle.run_layout.specs.Vocabulary.{flat_map, digits, option_map_or, Look, Edge, Start, Before, After, Meaning, PlacedRemark, StepMark, Dot, EraLine, End, Called, EraMarks, RunMarks, Mark}
+use Rattle.std.specs.Prelude.{◌≡◌, ℕ, zero, suc, ◌+◌, ◌-◌, ◌==◌, nat_lt, if◌then◌else◌, List, [], ◌∷◌, ◌++◌, map, Option, Some, None, Vec, codes, refl}
+use Rattle.run_layout.specs.Vocabulary.{flat_map, digits, option_map_or, Global, Look, Edge, Start, Before, After, Meaning, PlacedRemark, StepMark, Dot, EraLine, End, Called, EraMarks, RunMarks, Mark}
 use Rattle.run_layout.specs.Wording.{name_text, label_text, counts_text, line_text, Label, labels_of, step_title}
 use Rattle.run_layout.specs.declared.marked.Mark.TheVariants as mark
 use Rattle.run_layout.specs.declared.marked.Sign as code
@@ -16,6 +16,10 @@ pub record Sign : Type 0 where
 -- what the code's sign is
 abbrev pub sign_shown : code.Sign → Sign
 sign_shown s = record { mark = s.mark; columns = s.columns; lanes = s.lanes; text = s.text.items }
+
+-- a list has these more at its end, as its items are shown
+abbrev pub Adds : {A B : Type 0} → (shown : A → B) → (old new : Vec A Global) → List B → Type 0
+Adds shown old new more = map shown new.items ≡ map shown old.items ++ more
 
 abbrev pub sign_of : Mark → Edge × Edge → (lanes : Option (ℕ × ℕ)) → (text : List ℕ) → Sign
 sign_of mark columns lanes text = record { mark = mark; columns = columns; lanes = lanes; text = text }
@@ -45,13 +49,11 @@ bar_sign events bar =
     (Some (bar.call.process, bar.call.process)) []
 
 -- the arrow of help, from the lane of who helps down or up to that of the call
-abbrev pub arrow_in : (event by process : ℕ) → Sign
-arrow_in event by process =
-    if nat_lt by process then sign_of mark.Down (Before event, After event) (Some (by, process)) []
-    else sign_of mark.Up (Before event, After event) (Some (process, by)) []
-
 abbrev pub arrow_signs : Dot → List Sign
-arrow_signs dot = if dot.call.process == dot.by then [] else arrow_in dot.event dot.by dot.call.process ∷ []
+arrow_signs dot =
+    if dot.call.process == dot.by then []
+    else if nat_lt dot.by dot.call.process then sign_of mark.Down (Before dot.event, After dot.event) (Some (dot.by, dot.call.process)) [] ∷ []
+    else sign_of mark.Up (Before dot.event, After dot.event) (Some (dot.call.process, dot.by)) [] ∷ []
 
 -- a step, with its title
 abbrev pub step_sign : StepMark → Sign
@@ -62,24 +64,21 @@ abbrev pub dot_sign : Dot → Sign
 dot_sign dot = at mark.Dot dot.event dot.call.process []
 
 -- the label of a call at its begin, and where it has returned its counts, which are over with its end
-abbrev pub counts_signs : (process : ℕ) → Option End → List Sign
-counts_signs process (Some end) = sign_of mark.Counts (Start, After end.event) (Some (process, process)) (counts_text end) ∷ []
-counts_signs process None = []
+abbrev pub counts_sign : (process : ℕ) → End → Sign
+counts_sign process end = sign_of mark.Counts (Start, After end.event) (Some (process, process)) (counts_text end)
 
 abbrev pub text_signs : Called → List Sign
-text_signs bar = at mark.Label bar.from bar.call.process (label_text bar) ∷ counts_signs bar.call.process bar.end
+text_signs bar =
+    at mark.Label bar.from bar.call.process (label_text bar) ∷ option_map_or (λ end. counts_sign bar.call.process end ∷ []) bar.end []
 
 -- where so many events are over
 abbrev pub after_events : (count : ℕ) → Edge
 after_events count = if count == 0 then Start else After (count - 1)
 
 -- a refusal, above the lanes, after so many events and before the next one
-abbrev pub refusal_of_text : (before : ℕ) → Option (List ℕ) → List Sign
-refusal_of_text before (Some text) = sign_of mark.Refusal (after_events before, Before before) None text ∷ []
-refusal_of_text before None = []
-
 abbrev pub refusal_signs : Label → List Sign
-refusal_signs label = refusal_of_text label.before label.text
+refusal_signs label =
+    option_map_or (λ text. sign_of mark.Refusal (after_events label.before, Before label.before) None text ∷ []) label.text []
 
 -- all of them, from the lowest on; no era before the first one has fewer lanes, so that its lanes have no names among them
 abbrev pub signs_of : RunMarks → List PlacedRemark → List Sign

@@ -51,9 +51,8 @@ picture_fault_text Misdrawn = codes "the picture does not show its run"
 
 -- a fault of the choice of events
 abbrev pub IsOfRange : PictureFault → Type 0
-IsOfRange (Script e) = ⊥
 IsOfRange (OfRange e) = Unit {0}
-IsOfRange Misdrawn = ⊥
+IsOfRange _ = ⊥
 
 -- those of a session of scripts over one object, which this word names
 abbrev pub marks_of_own : {S I R : Type 0} → SpokenObject S I R → (S → List ℕ) → (name : List ℕ) → OwnSession S I R → RunMarks

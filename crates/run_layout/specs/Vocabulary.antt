@@ -10,8 +10,8 @@ pub use Rattle.run_layout.specs.declared.marked.Mark.{Mark}
 pub use Rattle.run_layout.specs.declared.refusals.Told.{Told}
 pub use Rattle.run_layout.specs.declared.subject.PictureFault.{PictureFault}
 pub use Rattle.run_layout.specs.declared.subject.PictureFault.TheVariants.{Misdrawn, Range as OfRange, Script}
-pub use Rattle.run_replay.specs.Marks.{Called, Cell, End, EraMarks, RunMarks, lanes_of, marks_of_run}
-pub use Rattle.run_replay.specs.Marks.{bar_shown, cell_shown, end_shown, era_shown, marks_shown}
+pub use Rattle.run_replay.specs.Marks.{Called, Cell, End, EraMarks, RunMarks, bar_shown, cell_shown, end_shown, era_shown, lanes_of, marks_of_run, marks_shown}
+pub use Rattle.run_replay.specs.Vocabulary.{Event, SpokenObject, StepKind, events_shown, flat_map, opened_world, option_map_or, spoken}
 pub use Rattle.run_replay.specs.declared.marks.Dot.{Dot}
 pub use Rattle.run_replay.specs.declared.marks.EraEnd.{EraEnd}
 pub use Rattle.run_replay.specs.declared.marks.EraEnd.TheVariants.{Reshape, Trim}
@@ -24,16 +24,12 @@ pub use Rattle.signs.specs.declared.sign.Look.{Look}
 pub use Rattle.std.specs.Cmp.Lexicographic.{pointwise}
 pub use Rattle.std.specs.Fmt.{decimal}
 unfoldable pub use Rattle.std.specs.Fmt.{digits}
-pub use Rattle.std.specs.List.{filter, find, flat_map, list_any}
-pub use Rattle.std.specs.Option.{option_map_or}
+pub use Rattle.std.specs.List.{filter, find, list_any}
 pub use Rattle.std.specs.declared.alloc.Global.{Global}
-pub use Rattle.uni_core.specs.declared.stage.StepKind.{StepKind}
 pub use Rattle.uni_core.specs.declared.stage.StepKind.TheVariants.{Announce, DecideAfter, DecideNew, Finish, ReadAnnounce, ReadHelpSeq, ScanHead, ScanSeq, Test, WriteBefore, WriteHead, WriteScan, WriteSeq}
-pub use Rattle.uni_model.specs.Worlds.{Event, opened_world}
-pub use Rattle.uni_record.specs.Event.{events_shown}
 pub use Rattle.uni_script.specs.Answer.{call_text}
 pub use Rattle.uni_script.specs.Fault.{fault_text}
-pub use Rattle.uni_script.specs.Objects.{InvOf, SpokenObject, StateOf, spoken, spoken_of}
+pub use Rattle.uni_script.specs.Objects.{InvOf, StateOf, spoken_of}
 pub use Rattle.uni_script.specs.Outcome.{Kind, outcome_of_script}
 pub use Rattle.uni_script.specs.Remarks.{remark_at, remarks_of_script}
 pub use Rattle.uni_script.specs.Replay.{HasFault, IsFaultOfScript, IsInput, fault_of_script}

@@ -1,6 +1,6 @@
 -- The texts of a picture: of its marks, of refusals, and the lines of a text.
 use Rattle.std.specs.Prelude.{◌≡◌, ℕ, if◌then◌else◌, nat_le, List, ◌++◌, length, take, replicate, codes, refl, ◌==◌, [], ◌∷◌, Option, Some, None, Bool, true, false, ◌&&◌, not, option_map, ◌+◌, nat_eq, Vec, zero, suc, drop, slice_index}
-use Rattle.run_layout.specs.Vocabulary.{find, decimal, digits, option_map_or, StepKind, Announce, ScanHead, ScanSeq, WriteScan, Test, ReadAnnounce, ReadHelpSeq, DecideAfter, DecideNew, WriteBefore, WriteSeq, WriteHead, Finish, Refusal, Process, Busy, Row, Idle, Pending, Sequence, History, Count, call_text, Dot, EraEnd, Trim, Reshape, EraLine, End, Called, Cell, RunMarks, lanes_of, StepMark, pointwise, Global, Remark, Heading, Note, Refused, PlacedRemark, Told}
+use Rattle.run_layout.specs.Vocabulary.{find, decimal, digits, option_map_or, StepKind, Announce, ScanHead, ScanSeq, WriteScan, Test, ReadAnnounce, ReadHelpSeq, DecideAfter, DecideNew, WriteBefore, WriteSeq, WriteHead, Finish, Refusal, Process, Busy, Row, Idle, Pending, Sequence, History, Count, call_text, Dot, EraEnd, Trim, Reshape, EraLine, End, Called, Cell, RunMarks, lanes_of, StepMark, pointwise, Global, Remark, Refused, PlacedRemark, Told}
 
 -- a text of at most 24 letters; of a longer one the first 22, with two dots for the rest
 abbrev pub shortened : List ℕ → List ℕ
@@ -91,10 +91,7 @@ lane_of (Busy process) = Some process
 lane_of (Row process) = Some process
 lane_of (Idle process) = Some process
 lane_of (Pending process) = Some process
-lane_of (Process process) = None
-lane_of Sequence = None
-lane_of History = None
-lane_of (Count count) = None
+lane_of _ = None
 
 -- what a cell says: the words of its call and its reply, where that is settled
 abbrev pub cell_words : Cell → List ℕ
@@ -109,15 +106,11 @@ abbrev pub is_help : Cell → Dot → Bool
 is_help cell dot =
     dot.call.process == cell.call.process && dot.call.nth == cell.call.nth && not (dot.by == cell.call.process)
 
--- the process that linked a cell by this dot
-abbrev pub linker_text : Dot → List ℕ
-linker_text dot = codes " by " ++ name_text dot.by
-
 -- the number and the call of a cell, and the process that linked it, where that is another than the call's
 abbrev pub cell_name : List Dot → Cell → List ℕ
 cell_name dots cell =
     decimal cell.number ++ codes ": " ++ call_text cell.call
-    ++ option_map_or linker_text (find (is_help cell) dots) []
+    ++ option_map_or (λ dot. codes " by " ++ name_text dot.by) (find (is_help cell) dots) []
 
 -- the title of a picture
 abbrev pub title_text : RunMarks → List ℕ
@@ -223,8 +216,7 @@ times_text times = if times == 1 then [] else codes " x" ++ decimal times
 -- the label of a remark that was told so often in a row; a note has none
 abbrev pub told_text : (times : ℕ) → Remark → Option (List ℕ)
 told_text times (Refused command refusal) = Some (refused_text command.items refusal ++ times_text times)
-told_text times (Heading text) = None
-told_text times (Note text) = None
+told_text times _ = None
 
 -- whether both are refusals with the same text
 abbrev pub have_same_text : Remark → Remark → Bool

@@ -2,7 +2,7 @@
 //! go.
 
 ghost use Rattle.std.specs.Prelude.{◌≡◌, ◌≤◌};
-ghost use Rattle.run_layout.specs.Axis.{is_between, lanes_between};
+ghost use Rattle.run_layout.specs.Axis.{is_between, lanes_between, most_between};
 
 use crate::refusals::{Told, told_of};
 use crate::wording::{counts_of, label_of, line_of};
@@ -68,19 +68,22 @@ impl Stretch {
     }
 }
 
+/// The most lanes of an era that is there from a place on and before another.
+fn most_between(stretches: &[Stretch], from: u64, to: u64) -> u64
+    ensures { result ≡ most_between stretches.now from to }
+{
+    let there = stretches.iter().copied();
+    there
+        .filter(|stretch| stretch.is_between(from, to))
+        .fold(0, |most: u64, stretch| stretch.lanes.max(most))
+}
+
 /// The most lanes of an era that is there from a place on and before another, 64 at most.
-#[tactic(auto, using(crate::proofs::Lanes::one_era_on))]
 pub fn lanes_between(stretches: &[Stretch], from: u64, to: u64) -> u64
     ensures few { result ≤ 64 }
     ensures most { result ≡ lanes_between stretches.now from to }
 {
-    let mut most = 0;
-    for stretch in stretches {
-        if stretch.is_between(from, to) {
-            most = stretch.lanes.max(most);
-        }
-    }
-    most.min(MOST_LANES)
+    most_between(stretches, from, to).min(MOST_LANES)
 }
 
 /// The columns of a run.
@@ -161,11 +164,7 @@ fn texts_room(alloc: Global, bar: &Bar, scale: Scale) -> Result<u64, AllocError>
 
 /// How wide the column of a call is: its bar takes its texts, and each further event of it has the room of a step.
 fn bar_room(alloc: Global, bar: &Bar, events: u64, scale: Scale) -> Result<u64, AllocError> {
-    let last = match &bar.end {
-        Some(end) => end.event.min(events),
-        None => events.saturating_sub(1),
-    };
-    let rest = last.saturating_sub(bar.from);
+    let rest = bar.last(events).min(events).saturating_sub(bar.from);
     let texts = texts_room(alloc, bar, scale)?;
     Ok(texts.saturating_sub(rest.saturating_mul(scale.step)))
 }

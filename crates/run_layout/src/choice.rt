@@ -1,12 +1,10 @@
 //! Some events of a run, and what is drawn of it where these are chosen.
 
 ghost use Rattle.std.specs.Prelude.{◌≡◌, ◌≤◌, ◌&&◌, ◌-◌, ◌==◌, not, IfOk, List, length, map};
-ghost use Rattle.std.specs.Prelude.{option_and_then, option_map};
-ghost use Rattle.run_layout.specs.Vocabulary.{filter, list_any, bar_shown, cell_shown, end_shown, era_shown};
-ghost use Rattle.run_layout.specs.Vocabulary.{marks_shown, Placed, RunMarks};
-ghost use Rattle.run_layout.specs.Choice.{is_by, is_in, meets, all_events, count_in, step_in, dot_in, line_in, end_in};
-ghost use Rattle.run_layout.specs.Choice.{bar_in, is_bar_in, links_outside, era_in, chosen, is_told_in, remark_in};
-ghost use Rattle.run_layout.specs.Choice.{chosen_remarks, range_fault};
+ghost use Rattle.run_layout.specs.Vocabulary.{filter, list_any, bar_shown, cell_shown, era_shown, marks_shown};
+ghost use Rattle.run_layout.specs.Vocabulary.{Placed, RunMarks};
+ghost use Rattle.run_layout.specs.Choice.{is_by, is_in, meets, all_events, count_in, bar_in, is_bar_in, links_outside};
+ghost use Rattle.run_layout.specs.Choice.{era_in, chosen, is_told_in, chosen_remarks, range_fault};
 
 use crate::axis::MOST_EVENTS;
 use run_replay::{Bar, BarEnd, CellBox, Dot, Era, EraLine, Marks, StepMark};
@@ -109,75 +107,19 @@ impl Range {
     }
 }
 
-/// The steps that are chosen.
-fn steps_in(alloc: Global, range: Range, steps: &[StepMark]) -> Result<Vec<StepMark>, AllocError>
-    ensures { IfOk result (λ part. part.items
-        ≡ map (step_in range) (filter (λ step. is_in range step.event) steps.now)) }
-{
-    steps
-        .iter()
-        .copied()
-        .filter(|step| range.has(step.event))
-        .map(|step| StepMark {
-            event: range.shifted(step.event),
-            ..step
-        })
-        .collect(alloc)
-}
-
-/// The dots that are chosen.
-fn dots_in(alloc: Global, range: Range, dots: &[Dot]) -> Result<Vec<Dot>, AllocError>
-    ensures { IfOk result (λ part. part.items
-        ≡ map (dot_in range) (filter (λ dot. is_in range dot.event) dots.now)) }
-{
-    dots.iter()
-        .copied()
-        .filter(|dot| range.has(dot.event))
-        .map(|dot| Dot {
-            event: range.shifted(dot.event),
-            ..dot
-        })
-        .collect(alloc)
-}
-
-/// The ends of eras that are chosen.
-fn lines_in(alloc: Global, range: Range, lines: &[EraLine]) -> Result<Vec<EraLine>, AllocError>
-    ensures { IfOk result (λ part. part.items
-        ≡ map (line_in range) (filter (λ line. is_in range line.event) lines.now)) }
-{
-    lines
-        .iter()
-        .copied()
-        .filter(|line| range.has(line.event))
-        .map(|line| EraLine {
-            event: range.shifted(line.event),
-            ..line
-        })
-        .collect(alloc)
-}
-
-/// How a call ended, where that event is chosen.
-fn end_in(range: Range, end: BarEnd) -> Option<BarEnd>
-    ensures { option_map end_shown result ≡ end_in range (end_shown end) }
-{
-    if !range.has(end.event) {
-        return None;
-    }
-    Some(BarEnd {
-        event: range.shifted(end.event),
-        ..end
-    })
-}
-
 /// A call that began before begins with the first event, and one that ends later has no end.
 fn bar_in(range: Range, bar: Bar) -> Bar
     ensures { bar_shown result ≡ bar_in range (bar_shown bar) }
 {
+    let end = bar.end.filter(|end| range.has(end.event));
     Bar {
         call: bar.call,
         from: range.shifted(bar.from),
         words: bar.words,
-        end: bar.end.and_then(|end| end_in(range, end)),
+        end: end.map(|end| BarEnd {
+            event: range.shifted(end.event),
+            ..end
+        }),
     }
 }
 
@@ -229,13 +171,10 @@ fn cells_in(
 fn era_in(alloc: Global, range: Range, dots: &[Dot], era: Era) -> Result<Era, AllocError>
     ensures { IfOk result (λ part. era_shown part ≡ era_in range dots.now (era_shown era)) }
 {
-    let last = match era.last {
-        Some(last) if range.has(last) => Some(range.shifted(last)),
-        _ => None,
-    };
+    let last = era.last.filter(|last| range.has(*last));
     Ok(Era {
         from: range.shifted(era.from),
-        last,
+        last: last.map(|last| range.shifted(last)),
         processes: era.processes,
         anchor: era.anchor,
         cells: cells_in(alloc, range, dots, era.cells)?,
@@ -267,14 +206,33 @@ pub(crate) fn chosen(alloc: Global, range: Range, marks: Marks) -> Result<Marks,
     ensures chosen { IfOk result (λ part. marks_shown part ≡ chosen range (marks_shown marks)) }
 {
     let eras = marks.eras;
+    let eras = eras_in(alloc, range, &marks.dots, eras)?;
+    let steps = marks.steps.into_iter().filter(|step| range.has(step.event));
+    let dots = marks.dots.into_iter().filter(|dot| range.has(dot.event));
+    let lines = marks.lines.into_iter().filter(|line| range.has(line.event));
     Ok(Marks {
         object: marks.object,
         events: range.count(marks.events),
-        steps: steps_in(alloc, range, &marks.steps)?,
+        steps: steps
+            .map(|step| StepMark {
+                event: range.shifted(step.event),
+                ..step
+            })
+            .collect(alloc)?,
         bars: bars_in(alloc, range, marks.events, marks.bars)?,
-        eras: eras_in(alloc, range, &marks.dots, eras)?,
-        dots: dots_in(alloc, range, &marks.dots)?,
-        lines: lines_in(alloc, range, &marks.lines)?,
+        dots: dots
+            .map(|dot| Dot {
+                event: range.shifted(dot.event),
+                ..dot
+            })
+            .collect(alloc)?,
+        lines: lines
+            .map(|line| EraLine {
+                event: range.shifted(line.event),
+                ..line
+            })
+            .collect(alloc)?,
+        eras,
     })
 }
 
@@ -287,15 +245,13 @@ pub(crate) fn chosen_remarks(
     ensures fewer { IfOk result (λ part. length part.items ≤ length remarks.items) }
     ensures chosen { IfOk result (λ part. part.items ≡ chosen_remarks range remarks.items) }
 {
-    let mut part = Vec::new(alloc);
-    for one in remarks {
-        if range.tells(&one) {
-            part.push(PlacedRemark {
-                line: one.line,
-                before: range.shifted(one.before),
-                remark: one.remark,
-            })?;
-        }
-    }
-    Ok(part)
+    remarks
+        .into_iter()
+        .filter(|one| range.tells(one))
+        .map(|one| PlacedRemark {
+            line: one.line,
+            before: range.shifted(one.before),
+            remark: one.remark,
+        })
+        .collect(alloc)
 }

@@ -1,11 +1,11 @@
 //! What a drawing has to show of a run, mark by mark, whatever it is drawn with.
 
-ghost use Rattle.std.specs.Prelude.{◌≡◌, ◌-◌, ◌++◌, ◌∷◌, [], IfOk, OnOk, Some, map};
-ghost use Rattle.run_layout.specs.Vocabulary.{flat_map, meaning, bar_shown, era_shown, marks_shown};
+ghost use Rattle.std.specs.Prelude.{◌≡◌, ◌-◌, ◌∷◌, [], IfOk, OnOk, map};
+ghost use Rattle.run_layout.specs.Vocabulary.{meaning, bar_shown, era_shown, marks_shown};
 ghost use Rattle.run_layout.specs.Wording.{told_shown};
-ghost use Rattle.run_layout.specs.Marked.{after_events, arrow_signs, at, bar_sign, dot_sign, line_sign, names_from};
-ghost use Rattle.run_layout.specs.Marked.{new_names, part, part_in, refusal_signs, sign_of, sign_shown, signs_of};
-ghost use Rattle.run_layout.specs.Marked.{step_sign, text_signs};
+ghost use Rattle.run_layout.specs.Marked.{Adds, after_events, arrow_signs, at, bar_sign, line_sign, names_from, part};
+ghost use Rattle.run_layout.specs.Marked.{new_names, part_in, refusal_signs, sign_of, sign_shown, signs_of, step_sign};
+ghost use Rattle.run_layout.specs.Marked.{text_signs};
 
 use crate::axis::MOST_LANES;
 use crate::refusals::{Told, told_of};
@@ -67,8 +67,7 @@ fn push_sign(
     lanes: Option<(u64, u64)>,
     text: Vec<u8>,
 ) -> Result<(), AllocError>
-    ensures { OnOk result (map sign_shown signs.new.items
-        ≡ map sign_shown signs.old.items ++ sign_of mark columns lanes text.items ∷ []) }
+    ensures { OnOk result (Adds sign_shown signs.old signs.new (sign_of mark columns lanes text.items ∷ [])) }
 {
     signs.push(Sign {
         mark,
@@ -87,8 +86,7 @@ fn push_at(
     process: u64,
     text: Vec<u8>,
 ) -> Result<(), AllocError>
-    ensures { OnOk result (map sign_shown signs.new.items
-        ≡ map sign_shown signs.old.items ++ at mark event process text.items ∷ []) }
+    ensures { OnOk result (Adds sign_shown signs.old signs.new (at mark event process text.items ∷ [])) }
 {
     let columns = (Edge::Before(event), Edge::After(event));
     push_sign(signs, mark, columns, Some((process, process)), text)
@@ -102,8 +100,7 @@ fn push_names(
     to: u64,
     signs: &mut Signs,
 ) -> Result<(), AllocError>
-    ensures { OnOk result (map sign_shown signs.new.items
-        ≡ map sign_shown signs.old.items ++ names_from event from (to - from)) }
+    ensures { OnOk result (Adds sign_shown signs.old signs.new (names_from event from (to - from))) }
 {
     for process in from..to {
         push_at(signs, Mark::Name, event, process, name_of(alloc, process)?)?;
@@ -113,8 +110,7 @@ fn push_names(
 
 /// Adds the names of the lanes that an era has and the one before it hasn't.
 fn push_new_names(alloc: Global, eras: &[Era], signs: &mut Signs) -> Result<(), AllocError>
-    ensures { OnOk result (map sign_shown signs.new.items
-        ≡ map sign_shown signs.old.items ++ new_names 64 (map era_shown eras.now)) }
+    ensures { OnOk result (Adds sign_shown signs.old signs.new (new_names 64 (map era_shown eras.now))) }
 {
     let mut named = MOST_LANES;
     for era in eras {
@@ -127,8 +123,7 @@ fn push_new_names(alloc: Global, eras: &[Era], signs: &mut Signs) -> Result<(), 
 
 /// Adds the end of an era.
 fn push_line(alloc: Global, line: &EraLine, signs: &mut Signs) -> Result<(), AllocError>
-    ensures { OnOk result (map sign_shown signs.new.items
-        ≡ map sign_shown signs.old.items ++ line_sign line.now ∷ []) }
+    ensures { OnOk result (Adds sign_shown signs.old signs.new (line_sign line.now ∷ [])) }
 {
     let columns = (Edge::Before(line.event), Edge::After(line.event));
     push_sign(signs, Mark::End, columns, None, line_of(alloc, line)?)
@@ -136,8 +131,7 @@ fn push_line(alloc: Global, line: &EraLine, signs: &mut Signs) -> Result<(), All
 
 /// Adds a call.
 fn push_bar(alloc: Global, events: u64, bar: &Bar, signs: &mut Signs) -> Result<(), AllocError>
-    ensures { OnOk result (map sign_shown signs.new.items
-        ≡ map sign_shown signs.old.items ++ bar_sign events (bar_shown bar.now) ∷ []) }
+    ensures { OnOk result (Adds sign_shown signs.old signs.new (bar_sign events (bar_shown bar.now) ∷ [])) }
 {
     let (mark, last) = match &bar.end {
         Some(end) => (Mark::Bar, end.event),
@@ -151,8 +145,7 @@ fn push_bar(alloc: Global, events: u64, bar: &Bar, signs: &mut Signs) -> Result<
 
 /// Adds the arrow of help, where another process linked the cell of a call: from its lane to that of the call.
 fn push_arrow(alloc: Global, dot: Dot, signs: &mut Signs) -> Result<(), AllocError>
-    ensures { OnOk result (map sign_shown signs.new.items
-        ≡ map sign_shown signs.old.items ++ arrow_signs dot) }
+    ensures { OnOk result (Adds sign_shown signs.old signs.new (arrow_signs dot)) }
 {
     let columns = (Edge::Before(dot.event), Edge::After(dot.event));
     let (by, process) = (dot.by, u64::from(dot.call.process));
@@ -168,8 +161,7 @@ fn push_arrow(alloc: Global, dot: Dot, signs: &mut Signs) -> Result<(), AllocErr
 
 /// Adds a step.
 fn push_step(alloc: Global, step: StepMark, signs: &mut Signs) -> Result<(), AllocError>
-    ensures { OnOk result (map sign_shown signs.new.items
-        ≡ map sign_shown signs.old.items ++ step_sign step ∷ []) }
+    ensures { OnOk result (Adds sign_shown signs.old signs.new (step_sign step ∷ [])) }
 {
     let mark = Mark::Step(step.kind, step.changed);
     let title = step_title(alloc, step)?;
@@ -178,8 +170,7 @@ fn push_step(alloc: Global, step: StepMark, signs: &mut Signs) -> Result<(), All
 
 /// Adds the label of a call, and where it has returned its counts.
 fn push_texts(alloc: Global, bar: &Bar, signs: &mut Signs) -> Result<(), AllocError>
-    ensures { OnOk result (map sign_shown signs.new.items
-        ≡ map sign_shown signs.old.items ++ text_signs (bar_shown bar.now)) }
+    ensures { OnOk result (Adds sign_shown signs.old signs.new (text_signs (bar_shown bar.now))) }
 {
     let process = u64::from(bar.call.process);
     push_at(signs, Mark::Label, bar.from, process, label_of(alloc, bar)?)?;
@@ -199,8 +190,7 @@ pub fn push_part(
     text: &[u8],
     parts: &mut Vec<Part>,
 ) -> Result<(), AllocError>
-    ensures { OnOk result (map meaning parts.new.items
-        ≡ map meaning parts.old.items ++ part look (sign_shown sign.now) text.now ∷ []) }
+    ensures { OnOk result (Adds meaning parts.old parts.new (part look (sign_shown sign.now) text.now ∷ [])) }
 {
     push_part_in(alloc, sign, sign.lanes, look, text, parts)
 }
@@ -214,8 +204,7 @@ pub fn push_part_in(
     text: &[u8],
     parts: &mut Vec<Part>,
 ) -> Result<(), AllocError>
-    ensures { OnOk result (map meaning parts.new.items
-        ≡ map meaning parts.old.items ++ part_in lanes look (sign_shown sign.now) text.now ∷ []) }
+    ensures { OnOk result (Adds meaning parts.old parts.new (part_in lanes look (sign_shown sign.now) text.now ∷ [])) }
 {
     parts.push(Part {
         look,
@@ -239,8 +228,7 @@ pub fn after_events(count: u64) -> Edge
 
 /// Adds what is told, where it has a label.
 fn push_refusal(alloc: Global, told: &Told, signs: &mut Signs) -> Result<(), AllocError>
-    ensures { OnOk result (map sign_shown signs.new.items
-        ≡ map sign_shown signs.old.items ++ refusal_signs (told_shown told.now)) }
+    ensures { OnOk result (Adds sign_shown signs.old signs.new (refusal_signs (told_shown told.now))) }
 {
     if let Some(label) = &told.label {
         let columns = (after_events(told.before), Edge::Before(told.before));

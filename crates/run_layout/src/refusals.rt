@@ -2,8 +2,8 @@
 
 ghost use Rattle.std.specs.Prelude.{◌≡◌, ◌++◌, ◌+◌, ◌≤◌, ◌<◌, ◌^◌, ◌∷◌, []};
 ghost use Rattle.std.specs.Prelude.{IfOk, OnOk, length, map, option_map};
-ghost use Rattle.run_layout.specs.Wording.{reason_text, refused_text, have_same_text, comes_again, label_after};
-ghost use Rattle.run_layout.specs.Wording.{times_text, told_shown, told_text, times_after, labels_of};
+ghost use Rattle.run_layout.specs.Wording.{refused_text, have_same_text, comes_again, label_after};
+ghost use Rattle.run_layout.specs.Wording.{told_shown, told_text, times_after, labels_of};
 
 use crate::wording::push_shortened;
 use std::alloc::{AllocError, Global};
@@ -19,10 +19,13 @@ pub struct Told {
     pub label: Option<Vec<u8>>,
 }
 
-/// Adds why a command was refused.
-fn push_reason(text: &mut Vec<u8>, refusal: Refusal) -> Result<(), AllocError>
-    ensures { OnOk result (text.new.items ≡ text.old.items ++ reason_text refusal) }
+/// What was refused, in at most 24 letters, and why. An `Err` says that memory was refused.
+pub fn refused_text(alloc: Global, command: &[u8], refusal: Refusal) -> Result<Vec<u8>, AllocError>
+    ensures { IfOk result (λ text. text.items ≡ refused_text command.now refusal) }
 {
+    let mut text = Vec::new(alloc);
+    push_shortened(command, &mut text)?;
+    text.extend_from_slice(b" refused: ")?;
     match refusal {
         Refusal::Process(_) => write!(text, "no such process"),
         Refusal::Busy(process) | Refusal::Pending(process) => {
@@ -34,28 +37,8 @@ fn push_reason(text: &mut Vec<u8>, refusal: Refusal) -> Result<(), AllocError>
         Refusal::History => write!(text, "the history is full"),
         Refusal::Count(count) => write!(text, "{count} isn't from 1 to 64"),
     }
-    .map_err(|_| AllocError)
-}
-
-/// What was refused, in at most 24 letters, and why. An `Err` says that memory was refused.
-pub fn refused_text(alloc: Global, command: &[u8], refusal: Refusal) -> Result<Vec<u8>, AllocError>
-    ensures { IfOk result (λ text. text.items ≡ refused_text command.now refusal) }
-{
-    let mut text = Vec::new(alloc);
-    push_shortened(command, &mut text)?;
-    text.extend_from_slice(b" refused: ")?;
-    push_reason(&mut text, refusal)?;
+    .map_err(|_| AllocError)?;
     Ok(text)
-}
-
-/// Adds how often a refusal was told in a row, where that is more than once.
-fn push_times(text: &mut Vec<u8>, times: u64) -> Result<(), AllocError>
-    ensures { OnOk result (text.new.items ≡ text.old.items ++ times_text times) }
-{
-    if times == 1 {
-        return Ok(());
-    }
-    write!(text, " x{times}").map_err(|_| AllocError)
 }
 
 /// The label of a remark that was told so often in a row; a note has none.
@@ -65,7 +48,9 @@ fn told_text(alloc: Global, times: u64, remark: &Remark) -> Result<Option<Vec<u8
     match remark {
         Remark::Refused { command, refusal } => {
             let mut text = refused_text(alloc, command, *refusal)?;
-            push_times(&mut text, times)?;
+            if times != 1 {
+                write!(text, " x{times}").map_err(|_| AllocError)?;
+            }
             Ok(Some(text))
         }
         Remark::Heading(_) | Remark::Note(_) => Ok(None),

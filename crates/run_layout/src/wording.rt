@@ -1,8 +1,8 @@
 //! The texts of a picture.
 
-ghost use Rattle.std.specs.Prelude.{◌≡◌, ◌++◌, [], IfOk, OnOk, option_map};
-ghost use Rattle.run_layout.specs.Vocabulary.{find, option_map_or, end_shown, bar_shown, cell_shown, marks_shown};
-ghost use Rattle.run_layout.specs.Wording.{linker_text, is_help, meaning_of, counted_text, counts_text, refusal_words};
+ghost use Rattle.std.specs.Prelude.{◌≡◌, ◌++◌, IfOk, OnOk, option_map};
+ghost use Rattle.run_layout.specs.Vocabulary.{find, end_shown, bar_shown, cell_shown, marks_shown};
+ghost use Rattle.run_layout.specs.Wording.{is_help, meaning_of, counted_text, counts_text, refusal_words};
 ghost use Rattle.run_layout.specs.Wording.{letter_of, label_text, line_text, cell_words, cell_state, title_text};
 ghost use Rattle.run_layout.specs.Wording.{lane_of, cell_name, name_text, shortened, step_title};
 
@@ -88,14 +88,10 @@ const KINDS: [StepKind; 13] = [
 /// The kinds of step that are among some, in the order in which a call takes them. An `Err` says that memory was
 /// refused.
 pub fn kinds_of(alloc: Global, steps: &[StepMark]) -> Result<Vec<StepKind>, AllocError> {
-    let mut found = Vec::new(alloc);
-    for kind in KINDS {
-        let letter = letter_of(kind);
-        if steps.iter().any(|step| letter_of(step.kind) == letter) {
-            found.push(kind)?;
-        }
-    }
-    Ok(found)
+    KINDS
+        .into_iter()
+        .filter(|kind| steps.iter().any(|step| step.kind == *kind))
+        .collect(alloc)
 }
 
 /// Whether one of some steps changed nothing.
@@ -107,9 +103,7 @@ pub fn any_unchanged(steps: &[StepMark]) -> bool {
 pub fn name_of(alloc: Global, process: u64) -> Result<Vec<u8>, AllocError>
     ensures { IfOk result (λ name. name.items ≡ name_text process) }
 {
-    let mut name = Vec::new(alloc);
-    write!(name, "P{process}").map_err(|_| AllocError)?;
-    Ok(name)
+    Ok(format!(in alloc; "P{process}")?.into_bytes())
 }
 
 /// The label of a call's bar: the call and its words, and its reply where it has returned. An `Err` says that memory
@@ -117,11 +111,10 @@ pub fn name_of(alloc: Global, process: u64) -> Result<Vec<u8>, AllocError>
 pub fn label_of(alloc: Global, bar: &Bar) -> Result<Vec<u8>, AllocError>
     ensures { IfOk result (λ text. text.items ≡ label_text (bar_shown bar.now)) }
 {
-    let mut text = Vec::new(alloc);
-    write!(text, "{} ", bar.call).map_err(|_| AllocError)?;
+    let mut text = format!(in alloc; "{} ", bar.call)?.into_bytes();
     text.extend_from_slice(&bar.words)?;
     if let Some(end) = &bar.end {
-        write!(text, " -> ").map_err(|_| AllocError)?;
+        text.extend_from_slice(b" -> ")?;
         text.extend_from_slice(&end.reply)?;
     }
     Ok(text)
@@ -198,9 +191,8 @@ pub fn lane_of(refusal: Refusal) -> Option<u64>
 pub fn cell_words(alloc: Global, cell: &CellBox) -> Result<Vec<u8>, AllocError>
     ensures { IfOk result (λ text. text.items ≡ cell_words (cell_shown cell.now)) }
 {
-    let mut text = Vec::new(alloc);
-    text.extend_from_slice(&cell.words)?;
-    write!(text, " -> ").map_err(|_| AllocError)?;
+    let mut text = cell.words.to_vec(alloc)?;
+    text.extend_from_slice(b" -> ")?;
     match &cell.reply {
         Some(reply) => text.extend_from_slice(reply)?,
         None => text.push(b'?')?,
@@ -215,8 +207,7 @@ pub fn cell_state(alloc: Global, cell: &CellBox) -> Result<Option<Vec<u8>>, Allo
 {
     match &cell.state {
         Some(state) => {
-            let mut text = Vec::new(alloc);
-            text.extend_from_slice(b"state ")?;
+            let mut text = b"state ".to_vec(alloc)?;
             push_shortened(state, &mut text)?;
             Ok(Some(text))
         }
@@ -233,24 +224,11 @@ fn is_help(cell: &CellBox, dot: &Dot) -> bool
         && dot.by != u64::from(cell.call.process)
 }
 
-/// Adds the process that linked a cell by this dot.
-fn push_linker(dot: &Dot, text: &mut Vec<u8>) -> Result<(), AllocError>
-    ensures { OnOk result (text.new.items ≡ text.old.items ++ linker_text dot.now) }
+/// The dot of a cell that another process than the call's linked.
+fn help_of(dots: &[Dot], cell: &CellBox) -> Option<Dot>
+    ensures { result ≡ find (is_help (cell_shown cell.now)) dots.now }
 {
-    write!(text, " by P{}", dot.by).map_err(|_| AllocError)
-}
-
-/// Adds the process that linked a cell, where that is another than the call's.
-fn push_helper(dots: &[Dot], cell: &CellBox, text: &mut Vec<u8>) -> Result<(), AllocError>
-    ensures { OnOk result (text.new.items ≡ text.old.items
-        ++ option_map_or linker_text (find (is_help (cell_shown cell.now)) dots.now) []) }
-{
-    for dot in dots {
-        if is_help(cell, dot) {
-            return push_linker(dot, text);
-        }
-    }
-    Ok(())
+    dots.iter().copied().find(|dot| is_help(cell, dot))
 }
 
 /// The number and the call of a cell, and the process that linked it, by the dots of the run, where that is another
@@ -258,9 +236,10 @@ fn push_helper(dots: &[Dot], cell: &CellBox, text: &mut Vec<u8>) -> Result<(), A
 pub fn cell_name(alloc: Global, dots: &[Dot], cell: &CellBox) -> Result<Vec<u8>, AllocError>
     ensures { IfOk result (λ text. text.items ≡ cell_name dots.now (cell_shown cell.now)) }
 {
-    let mut text = Vec::new(alloc);
-    write!(text, "{}: {}", cell.number, cell.call).map_err(|_| AllocError)?;
-    push_helper(dots, cell, &mut text)?;
+    let mut text = format!(in alloc; "{}: {}", cell.number, cell.call)?.into_bytes();
+    if let Some(dot) = help_of(dots, cell) {
+        write!(text, " by P{}", dot.by).map_err(|_| AllocError)?;
+    }
     Ok(text)
 }
 
@@ -268,13 +247,12 @@ pub fn cell_name(alloc: Global, dots: &[Dot], cell: &CellBox) -> Result<Vec<u8>,
 pub fn title_of(alloc: Global, marks: &Marks) -> Result<Vec<u8>, AllocError>
     ensures { IfOk result (λ text. text.items ≡ title_text (marks_shown marks.now)) }
 {
-    let mut text = Vec::new(alloc);
-    text.extend_from_slice(marks.object.as_slice())?;
-    write!(text, ": ").map_err(|_| AllocError)?;
+    let mut text = marks.object.to_vec(alloc)?;
+    text.extend_from_slice(b": ")?;
     push_counted(&mut text, marks.lanes(), "process", "processes")?;
-    write!(text, ", ").map_err(|_| AllocError)?;
+    text.extend_from_slice(b", ")?;
     push_counted(&mut text, marks.bars.len() as u64, "call", "calls")?;
-    write!(text, ", ").map_err(|_| AllocError)?;
+    text.extend_from_slice(b", ")?;
     push_counted(&mut text, marks.events, "event", "events")?;
     Ok(text)
 }
@@ -284,14 +262,8 @@ pub fn title_of(alloc: Global, marks: &Marks) -> Result<Vec<u8>, AllocError>
 pub fn step_title(alloc: Global, step: StepMark) -> Result<Vec<u8>, AllocError>
     ensures { IfOk result (λ text. text.items ≡ step_title step) }
 {
-    let mut text = Vec::new(alloc);
-    let process = step.process;
-    write!(
-        text,
-        "P{process}, call {process}.{}, step {}: ",
-        step.nth, step.number
-    )
-    .map_err(|_| AllocError)?;
-    text.extend_from_slice(meaning_of(step.kind).as_bytes())?;
-    Ok(text)
+    let (process, nth, number) = (step.process, step.nth, step.number);
+    let meaning = meaning_of(step.kind);
+    let title = format!(in alloc; "P{process}, call {process}.{nth}, step {number}: {meaning}")?;
+    Ok(title.into_bytes())
 }
