@@ -10,14 +10,12 @@ use Rattle.signs.specs.declared.sign.Look.TheVariants as look
 abbrev pub width_of : Ink → ℕ
 width_of (Text text) = length text.items
 width_of (Bar width) = width
-width_of Line = 1
-width_of Arrow = 1
+width_of _ = 1
 
 abbrev pub letter_in : Ink → (place : ℕ) → ℕ
 letter_in (Text text) place = slice_index text.items place
 letter_in (Bar width) place = if place == 0 then 91 else 45
-letter_in Line place = 124
-letter_in Arrow place = 124
+letter_in _ place = 124
 
 -- the letter that is seen where two meet: one behind shows only through a blank and through the `-` of a bar
 abbrev pub letter_seen : Ink → (under letter : ℕ) → ℕ

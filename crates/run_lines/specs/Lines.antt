@@ -1,6 +1,6 @@
 -- The lines of a script: the whole text, for a terminal of so many columns.
 use Rattle.std.specs.Prelude.{◌≡◌, ℕ, ◌+◌, ◌-◌, ◌*◌, ◌/◌, ◌%◌, ◌≤◌, ◌&&◌, ◌==◌, nat_lt, nat_le, if◌then◌else◌, List, [], ◌∷◌, ◌++◌, length, map, take, drop, replicate, Option, None, Some, codes, refl}
-use Rattle.run_lines.specs.Vocabulary.{flat_map, suffix_len, decimal, digits, Places, AreApart, AreShown, Meaning, Remark, Heading, Note, Refused, PlacedRemark, Dot, Cell, EraMarks, RunMarks, cell_name, cell_words, cell_state, name_text, title_text, lines_of, Numbering, Block, Stroke, Kind, scripts_of, Range, chosen, chosen_remarks, marks_of_session, IsSubjectOf}
+use Rattle.run_lines.specs.Vocabulary.{flat_map, suffix_len, decimal, digits, Places, AreApart, AreShown, Meaning, Remark, Heading, Note, PlacedRemark, Dot, Cell, EraMarks, RunMarks, cell_name, cell_words, cell_state, name_text, title_text, lines_of, Numbering, Block, Stroke, Kind, scripts_of, Range, chosen, chosen_remarks, marks_of_session, IsSubjectOf}
 use Rattle.run_lines.specs.Parts.{numbering_after, no_notes, parts_of_run}
 use Rattle.run_lines.specs.Canvas.{outline_of, rows_of}
 
@@ -27,8 +27,7 @@ trimmed text = take (length text - suffix_len (λ letter. letter == 32) text) te
 -- a note before the header
 abbrev pub heading_text : (columns : ℕ) → Remark → List ℕ
 heading_text columns (Heading text) = wrapped columns text.items
-heading_text columns (Note text) = []
-heading_text columns (Refused command refusal) = []
+heading_text columns _ = []
 
 abbrev pub headings_text : (columns : ℕ) → List PlacedRemark → List ℕ
 headings_text columns remarks = flat_map (λ one. heading_text columns one.remark) remarks
@@ -39,17 +38,13 @@ headings_text columns remarks = flat_map (λ one. heading_text columns one.remar
 abbrev pub row_name : (named row : ℕ) → List ℕ
 row_name named row = if nat_le 2 row && (row - 2) % 4 == 1 && nat_lt ((row - 2) / 4) named then name_text ((row - 2) / 4) else []
 
--- a row behind its name
-abbrev pub named_row : (named row : ℕ) → List ℕ → List ℕ
-named_row named row letters = padded 4 (row_name named row) ++ letters
-
 -- a line, which above the lanes is left out where it is empty
 abbrev pub shown_line : (row : ℕ) → List ℕ → List ℕ
 shown_line row line = if nat_lt row 2 && length line == 0 then [] else ended line
 
 -- a row behind its name, without the blanks at its end; above the lanes a blank one is left out
 unfoldable pub row_text : (named row : ℕ) → List ℕ → List ℕ
-row_text named row letters = shown_line row (trimmed (named_row named row letters))
+row_text named row letters = shown_line row (trimmed (padded 4 (row_name named row) ++ letters))
 
 -- ---- blocks
 
@@ -84,8 +79,7 @@ numbered_note columns number text =
 
 abbrev pub note_text : (columns number : ℕ) → Remark → List ℕ
 note_text columns number (Note text) = numbered_note columns number text.items
-note_text columns number (Heading text) = []
-note_text columns number (Refused command refusal) = []
+note_text columns number _ = []
 
 abbrev pub notes_from : (columns : ℕ) → Numbering → List PlacedRemark → List ℕ
 notes_from columns numbering [] = []
@@ -116,17 +110,9 @@ eras_from columns dots place (era ∷ eras) = era_text columns dots place era ++
 
 -- ---- the whole text
 
--- the title and the headings
-abbrev pub above_text : (columns : ℕ) → RunMarks → List PlacedRemark → List ℕ
-above_text columns marks remarks = wrapped columns (title_text marks) ++ headings_text columns remarks
-
 -- the rows, block by block, and a blank line
 abbrev pub rows_text_of : Places → List Stroke → List Block → List ℕ
 rows_text_of places strokes blocks = flat_map (block_text (rows_of strokes places.width places.height)) blocks ++ 10 ∷ []
-
--- the notes and the eras
-abbrev pub below_text : (columns : ℕ) → RunMarks → List PlacedRemark → List ℕ
-below_text columns marks remarks = notes_from columns no_notes remarks ++ eras_from columns marks.dots 0 marks.eras
 
 -- strokes are these, each once and in order, in the columns of their events and the lanes of their processes; blocks show all columns
 pub record ShowsRows (places : Places) (parts : List Meaning) (strokes : List Stroke) (blocks : List Block) : Type 0 where
@@ -134,10 +120,11 @@ pub record ShowsRows (places : Places) (parts : List Meaning) (strokes : List St
   pub shown : AreShown places parts (map outline_of strokes)
   pub side : AreSide 0 places.width blocks
 
--- a text has these rows, and ends with a legend
+-- a text has the title and the headings, then these rows, the notes and the eras, and ends with a legend
 pub record HasText (columns : ℕ) (marks : RunMarks) (remarks : List PlacedRemark) (rows text : List ℕ) : Type 0 where
   pub legend : List ℕ
-  pub parts : text ≡ above_text columns marks remarks ++ rows ++ below_text columns marks remarks ++ legend
+  pub parts : text ≡ wrapped columns (title_text marks) ++ headings_text columns remarks ++ rows
+      ++ notes_from columns no_notes remarks ++ eras_from columns marks.dots 0 marks.eras ++ legend
 
 -- a text of marks, with what is told beside them: its rows show the signs of both
 pub record IsTextOf (columns : ℕ) (marks : RunMarks) (remarks : List PlacedRemark) (text : List ℕ) : Type 0 where

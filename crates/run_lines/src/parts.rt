@@ -1,8 +1,7 @@
 //! The strokes that signs are to have, from the lowest on.
 
-ghost use Rattle.std.specs.Prelude.{◌≡◌, ◌++◌, ◌∷◌, ◌+◌, ◌<◌, ◌≤◌, ◌^◌};
-ghost use Rattle.std.specs.Prelude.{IfOk, OnOk, map};
-ghost use Rattle.run_lines.specs.Vocabulary.{flat_map, meaning, marks_shown, sign_shown};
+ghost use Rattle.std.specs.Prelude.{◌≡◌, ◌∷◌, ◌+◌, ◌<◌, ◌≤◌, ◌^◌, IfOk, OnOk, map};
+ghost use Rattle.run_lines.specs.Vocabulary.{Adds, flat_map, meaning, marks_shown, sign_shown};
 ghost use Rattle.run_lines.specs.Parts.{no_notes, numbering_after, is_arrow, layered, number_parts, numbers_from};
 ghost use Rattle.run_lines.specs.Parts.{parts_of, parts_of_run, step_letter};
 
@@ -10,7 +9,6 @@ use run_layout::{Mark, Sign, after_events, letter_of, push_part, signs_of};
 use run_replay::Marks;
 use signs::{Edge, Look, Part};
 use std::alloc::{AllocError, Global};
-use std::io::Write;
 use uni_core::StepKind;
 use uni_script::{PlacedRemark, Remark};
 
@@ -75,10 +73,7 @@ pub fn refusal_text(alloc: Global, label: &[u8]) -> Result<Vec<u8>, AllocError>
 fn is_arrow(mark: Mark) -> bool
     ensures { result ≡ is_arrow mark }
 {
-    match mark {
-        Mark::Down | Mark::Up => true,
-        _ => false,
-    }
+    matches!(mark, Mark::Down | Mark::Up)
 }
 
 /// Signs as they are painted: arrows are behind all else, and come last.
@@ -100,8 +95,7 @@ pub fn layered(alloc: Global, signs: Vec<Sign>) -> Result<Vec<Sign>, AllocError>
 
 /// Adds the strokes that a sign is to have.
 fn push_parts(alloc: Global, sign: &Sign, parts: &mut Vec<Part>) -> Result<(), AllocError>
-    ensures { OnOk result (map meaning parts.new.items
-        ≡ map meaning parts.old.items ++ parts_of (sign_shown sign.now)) }
+    ensures { OnOk result (Adds meaning parts.old parts.new (parts_of (sign_shown sign.now))) }
 {
     match sign.mark {
         Mark::Name | Mark::Label | Mark::Counts => {
@@ -132,17 +126,14 @@ fn push_number(
     one: &PlacedRemark,
     parts: &mut Vec<Part>,
 ) -> Result<(), AllocError>
-    ensures { OnOk result (map meaning parts.new.items
-        ≡ map meaning parts.old.items ++ number_parts number one.now.before one.now.remark) }
+    ensures { OnOk result (Adds meaning parts.old parts.new (number_parts number one.now.before one.now.remark)) }
 {
     if let Remark::Note(_) = one.remark {
-        let mut text = Vec::new(alloc);
-        write!(text, "{number}").map_err(|_| AllocError)?;
         parts.push(Part {
             look: Look::Text,
             columns: (after_events(one.before), Edge::After(one.before)),
             lanes: None,
-            text,
+            text: format!(in alloc; "{number}")?.into_bytes(),
         })?;
     }
     Ok(())
@@ -154,8 +145,7 @@ fn push_numbers(
     remarks: &[PlacedRemark],
     parts: &mut Vec<Part>,
 ) -> Result<(), AllocError>
-    ensures { OnOk result (map meaning parts.new.items
-        ≡ map meaning parts.old.items ++ numbers_from no_notes remarks.now) }
+    ensures { OnOk result (Adds meaning parts.old parts.new (numbers_from no_notes remarks.now)) }
 {
     let mut numbering = Numbering::none();
     for (_, one) in remarks.iter().enumerate() {

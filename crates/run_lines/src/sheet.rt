@@ -117,13 +117,8 @@ fn block_width(columns: u64, crossed: &[bool], from: usize) -> usize {
     let most = (columns.min(MOST_COLUMNS) as usize)
         .saturating_sub(NAMES)
         .max(1);
-    for left_out in 0..most {
-        let width = most - left_out;
-        if crossed.get(from.saturating_add(width)) != Some(&true) {
-            return width;
-        }
-    }
-    most
+    let whole = |width: &usize| crossed.get(from.saturating_add(*width)) != Some(&true);
+    (1..=most).rev().find(whole).unwrap_or(most)
 }
 
 /// The blocks of the rows.

@@ -5,7 +5,6 @@ use crate::parts::{Numbering, refusal_text, step_letter};
 use run_layout::{Axis, Mark, Sign, letters};
 use signs::Layout;
 use std::alloc::{AllocError, Global};
-use std::io::Write;
 use uni_script::{PlacedRemark, Remark};
 
 /// How many rows are above the lanes: the numbers of notes, and what has no lane.
@@ -42,11 +41,6 @@ fn push_ink(
     push_stroke(strokes, (row, row.saturating_add(1)), column, ink)
 }
 
-/// A letter.
-fn letter(alloc: Global, letter: u8) -> Result<Ink, AllocError> {
-    Ok(Ink::Text([letter].to_vec(alloc)?))
-}
-
 /// Adds a sign, with a refusal no further left than `free`, which is moved on.
 fn push_sign(
     alloc: Global,
@@ -78,10 +72,10 @@ fn push_sign(
             push_stroke(strokes, rows, left, Ink::Arrow)
         }
         Mark::Step(kind, changed) => {
-            let ink = letter(alloc, step_letter(kind, changed))?;
-            push_ink(strokes, row, 1, left, ink)
+            let letter = [step_letter(kind, changed)].to_vec(alloc)?;
+            push_ink(strokes, row, 1, left, Ink::Text(letter))
         }
-        Mark::Dot => push_ink(strokes, row, 2, left, letter(alloc, b'*')?),
+        Mark::Dot => push_ink(strokes, row, 2, left, Ink::Text(b"*".to_vec(alloc)?)),
         Mark::Label => push_ink(strokes, row, 0, left, Ink::Text(text)),
         Mark::Counts => {
             let column = wide.to.saturating_sub(text.len() as u64);
@@ -121,8 +115,7 @@ pub fn push_numbers(
     for (place, one) in remarks.iter().enumerate() {
         numbering = numbering.after(one);
         if let Remark::Note(_) = &one.remark {
-            let mut text = Vec::new(alloc);
-            write!(text, "{}", numbering.number).map_err(|_| AllocError)?;
+            let text = format!(in alloc; "{}", numbering.number)?.into_bytes();
             push_ink(strokes, 0, 0, axis.remark(place), Ink::Text(text))?;
         }
     }

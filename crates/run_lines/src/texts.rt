@@ -93,8 +93,7 @@ fn push_note(
     if note.is_empty() {
         return Ok(());
     }
-    let mut line = Vec::new(alloc);
-    write!(line, "note {number}: ").map_err(|_| AllocError)?;
+    let mut line = format!(in alloc; "note {number}: ")?.into_bytes();
     line.extend_from_slice(note)?;
     push_wrapped(alloc, columns, &line, text)
 }
@@ -191,15 +190,11 @@ pub fn legend_of(
     unchanged: bool,
 ) -> Result<Vec<u8>, AllocError> {
     let mut legend = b"\n".to_vec(alloc)?;
-    let last = match columns as usize / ENTRY {
-        0 | 1 => 0,
-        2 => 1,
-        _ => 2,
-    };
+    let in_line = (columns as usize / ENTRY).max(1).min(3);
     for (place, kind) in kinds.iter().enumerate() {
         let mut entry = [letter_of(*kind), b' '].to_vec(alloc)?;
         entry.extend_from_slice(meaning_of(*kind).as_bytes())?;
-        if place % (last + 1) == last || place + 1 == kinds.len() {
+        if (place + 1) % in_line == 0 || place + 1 == kinds.len() {
             push_line(&entry, &mut legend)?;
         } else {
             push_padded(alloc, &entry, ENTRY, &mut legend)?;

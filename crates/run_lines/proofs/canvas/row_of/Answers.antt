@@ -1,7 +1,14 @@
-use Rattle.run_lines.proofs.Vocabulary.{ap, arith, common_steps, fill_by_all, get_or, get_or-replicate, letter_at, replicate, rules, take_all, ◌∙◌, ◌≡◌}
-use Rattle.run_lines.proofs.Painting.{letter_at_more}
+use Rattle.run_lines.proofs.Vocabulary.{List, Stroke, [], ap, arith, common_steps, fill_by_all, fold, fold-append, get_or, get_or-replicate, length, letter_after, letter_at, replicate, rules, sym, take, take_all, take_more, ℕ, ◌++◌, ◌+◌, ◌<◌, ◌∙◌, ◌∷◌, ◌≡◌}
 use Rattle.run_lines.proofs.canvas.row_of.Goals.{then-is_in_row, else-is_in_row}
 use Rattle.run_lines.proofs.canvas.row_of.Goals as goal
+
+-- a letter after one more stroke
+letter_at_more : (strokes : List Stroke) (row column i : ℕ) (stroke : Stroke) → i < length strokes → stroke ≡ get_or strokes i stroke
+    → letter_at (take (i + 1) strokes) row column ≡ letter_after row column (letter_at (take i strokes) row column) stroke
+unfolding letter_at
+letter_at_more strokes row column i stroke inside is =
+    ap (fold (letter_after row column) 32) (take_more strokes i stroke inside ∙ ap (λ s. take i strokes ++ s ∷ []) (sym is))
+    ∙ fold-append (letter_after row column) 32 (take i strokes) (stroke ∷ [])
 
 pub loop-stroke-init : goal.loop-stroke-init
 unfolding letter_at
