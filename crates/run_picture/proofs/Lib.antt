@@ -1,2 +1,1 @@
 pub mod Vocabulary
-pub mod Looking

@@ -10,9 +10,8 @@ abbrev pub step_look : (changed : Bool) → Look
 step_look true = look.Step
 step_look false = look.Pale
 
--- the tip of an arrow is in the lane of the call that is helped: the lower one, or the upper one
+-- the tip of an arrow is in the lane of the call that is helped: the lower one, or the upper one; names, labels and counts are texts
 abbrev pub parts_for : Sign → Mark → List Meaning
-parts_for sign mark.Name = part look.Text sign sign.text ∷ []
 parts_for sign mark.End = part look.End sign [] ∷ part look.Text sign sign.text ∷ []
 parts_for sign mark.Bar = part look.Bar sign [] ∷ []
 parts_for sign mark.Open = part look.Edge sign [] ∷ part look.Edge sign [] ∷ part look.Edge sign [] ∷ []
@@ -20,9 +19,8 @@ parts_for sign mark.Down = part look.Arrow sign [] ∷ part_in (option_map (λ l
 parts_for sign mark.Up = part look.Arrow sign [] ∷ part_in (option_map (λ l. (l.0, l.0)) sign.lanes) look.Tip sign [] ∷ []
 parts_for sign (mark.Step kind changed) = part (step_look changed) sign sign.text ∷ part look.Text sign (letter_of kind ∷ []) ∷ []
 parts_for sign mark.Dot = part look.Dot sign [] ∷ []
-parts_for sign mark.Label = part look.Text sign sign.text ∷ []
-parts_for sign mark.Counts = part look.Text sign sign.text ∷ []
 parts_for sign mark.Refusal = part look.Cross sign [] ∷ part look.Cross sign [] ∷ part look.Text sign sign.text ∷ []
+parts_for sign _ = part look.Text sign sign.text ∷ []
 
 abbrev pub parts_of : Sign → List Meaning
 parts_of sign = parts_for sign sign.mark

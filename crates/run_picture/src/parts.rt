@@ -1,7 +1,7 @@
 //! The shapes that a drawing is to have, from the lowest on.
 
-ghost use Rattle.std.specs.Prelude.{◌≡◌, ◌++◌, ◌∷◌, [], ◌+◌, ◌<◌, ◌^◌, IfOk, OnOk, map};
-ghost use Rattle.run_picture.specs.Vocabulary.{flat_map, meaning, cell_shown, era_shown, sign_shown};
+ghost use Rattle.std.specs.Prelude.{◌≡◌, ◌∷◌, [], ◌+◌, ◌<◌, ◌^◌, IfOk, OnOk, map};
+ghost use Rattle.run_picture.specs.Vocabulary.{Adds, flat_map, meaning, cell_shown, era_shown, sign_shown};
 ghost use Rattle.run_picture.specs.Parts.{anchor_lines, box_parts, cell_lines, cell_parts, era_parts, eras_from};
 ghost use Rattle.run_picture.specs.Parts.{anywhere, era_name, is_next, parts_of, step_look};
 
@@ -11,7 +11,6 @@ use run_layout::{
 use run_replay::{CellBox, Dot, Era};
 use signs::{Edge, Look, Part};
 use std::alloc::{AllocError, Global};
-use std::io::Write;
 
 /// How the mark of a step looks.
 fn step_look(changed: bool) -> Look
@@ -22,8 +21,7 @@ fn step_look(changed: bool) -> Look
 
 /// Adds the shapes that a sign is to have.
 fn push_parts(alloc: Global, sign: &Sign, parts: &mut Vec<Part>) -> Result<(), AllocError>
-    ensures { OnOk result (map meaning parts.new.items
-        ≡ map meaning parts.old.items ++ parts_of (sign_shown sign.now)) }
+    ensures { OnOk result (Adds meaning parts.old parts.new (parts_of (sign_shown sign.now))) }
 {
     match sign.mark {
         Mark::Name | Mark::Label | Mark::Counts => {
@@ -75,8 +73,7 @@ pub fn parts_of(alloc: Global, signs: &[Sign]) -> Result<Vec<Part>, AllocError>
 
 /// Adds a shape that stands in no column.
 fn push_anywhere(look: Look, text: Vec<u8>, parts: &mut Vec<Part>) -> Result<(), AllocError>
-    ensures { OnOk result (map meaning parts.new.items
-        ≡ map meaning parts.old.items ++ anywhere look text.items ∷ []) }
+    ensures { OnOk result (Adds meaning parts.old parts.new (anywhere look text.items ∷ [])) }
 {
     parts.push(Part {
         look,
@@ -89,8 +86,7 @@ fn push_anywhere(look: Look, text: Vec<u8>, parts: &mut Vec<Part>) -> Result<(),
 
 /// Adds a box with lines of text.
 fn push_box(alloc: Global, lines: Vec<Vec<u8>>, parts: &mut Vec<Part>) -> Result<(), AllocError>
-    ensures { OnOk result (map meaning parts.new.items
-        ≡ map meaning parts.old.items ++ box_parts (map (λ line. line.items) lines.items)) }
+    ensures { OnOk result (Adds meaning parts.old parts.new (box_parts (map (λ line. line.items) lines.items))) }
 {
     push_anywhere(Look::Bar, Vec::new(alloc), parts)?;
     for line in lines {
@@ -118,9 +114,7 @@ pub fn anchor_lines(alloc: Global, anchor: u64) -> Result<Vec<Vec<u8>>, AllocErr
     ensures { IfOk result (λ lines. map (λ line. line.items) lines.items ≡ anchor_lines anchor) }
 {
     let mut lines = Vec::new(alloc);
-    let mut name = Vec::new(alloc);
-    write!(name, "{anchor}:").map_err(|_| AllocError)?;
-    lines.push(name)?;
+    lines.push(format!(in alloc; "{anchor}:")?.into_bytes())?;
     lines.push(b"anchor".to_vec(alloc)?)?;
     Ok(lines)
 }
@@ -130,10 +124,7 @@ pub fn era_name(alloc: Global, place: u64) -> Result<Vec<u8>, AllocError>
     requires { place + 1 < 2 ^ 64 }
     ensures { IfOk result (λ name. name.items ≡ era_name place) }
 {
-    let mut name = Vec::new(alloc);
-    let number = place + 1;
-    write!(name, "era {number}").map_err(|_| AllocError)?;
-    Ok(name)
+    Ok(format!(in alloc; "era {}", place + 1)?.into_bytes())
 }
 
 /// Whether a cell of this number is the next one in the list after that of another.
@@ -151,8 +142,7 @@ fn push_cell(
     cell: &CellBox,
     parts: &mut Vec<Part>,
 ) -> Result<(), AllocError>
-    ensures { OnOk result (map meaning parts.new.items
-        ≡ map meaning parts.old.items ++ cell_parts dots.now before (cell_shown cell.now)) }
+    ensures { OnOk result (Adds meaning parts.old parts.new (cell_parts dots.now before (cell_shown cell.now))) }
 {
     push_anywhere(Look::Arrow, Vec::new(alloc), parts)?;
     push_anywhere(Look::Tip, Vec::new(alloc), parts)?;
@@ -171,8 +161,7 @@ fn push_era(
     parts: &mut Vec<Part>,
 ) -> Result<(), AllocError>
     requires { place + 1 < 2 ^ 64 }
-    ensures { OnOk result (map meaning parts.new.items
-        ≡ map meaning parts.old.items ++ era_parts dots.now place (era_shown era.now)) }
+    ensures { OnOk result (Adds meaning parts.old parts.new (era_parts dots.now place (era_shown era.now))) }
 {
     push_anywhere(Look::Text, era_name(alloc, place)?, parts)?;
     push_box(alloc, anchor_lines(alloc, era.anchor)?, parts)?;

@@ -76,12 +76,6 @@ fn push_arrow(
     strip.push_tip(to, toward)
 }
 
-/// Adds the bar of a call that begins at a place, with its edges inside its columns.
-fn push_bar(strip: &mut Sheet, at: Spot, width: u64) -> Result<(), AllocError> {
-    let width = width.saturating_sub(2);
-    strip.push(Shape::Rect(at.by(1, BAR), width, BAR_HEIGHT, Paint::Frame))
-}
-
 /// Adds the bar of a call that hasn't returned: it stays open at its right.
 fn push_open_bar(strip: &mut Sheet, at: Spot, width: u64) -> Result<(), AllocError> {
     let (from, width) = (at.by(1, BAR), width.saturating_sub(1));
@@ -131,7 +125,10 @@ fn push_sign(
     match sign.mark {
         Mark::Name => Ok(()),
         Mark::End => push_end(strip, stretches, middle.level(TOP), text),
-        Mark::Bar => push_bar(strip, at, width),
+        Mark::Bar => {
+            let inner = width.saturating_sub(2);
+            strip.push(Shape::Rect(at.by(1, BAR), inner, BAR_HEIGHT, Paint::Frame))
+        }
         Mark::Open => push_open_bar(strip, at, width),
         Mark::Down => push_arrow(strip, middle, lower, Toward::Down),
         Mark::Up => push_arrow(strip, middle, lower, Toward::Up),
