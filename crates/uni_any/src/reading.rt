@@ -82,9 +82,9 @@ impl<O: SeqObject> AnySeat<O> {
     /// Asks whether this version has come: it finds the present version, as `refresh` does. The answer is `true`
     /// exactly where that one's number is at least the one that was asked for.
     ///
-    /// A version that an answer had has come: the law `returned_has_come` says so, and no clause of this call.
-    /// So whoever was told of a call's version, by whatever means, and follows it, makes its later calls come
-    /// after that call.
+    /// The version of each call that was answered has come: the law `returned_has_come` says so, and no clause of
+    /// this call. So whoever was told of a call's version, by whatever means, and follows it, makes its later calls
+    /// come after that call.
     ///
     /// The error says that the seat has a call pending; nothing is changed then.
     pub fn follows(&mut self, shared: &AnyShared<O>, version: u64) -> Result<bool, CallPending>

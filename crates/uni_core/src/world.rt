@@ -193,7 +193,9 @@ impl<O: SeqObject> World<O> {
     /// Process `p` takes the next step of its pending call: the world is the model's next one, in which one shared
     /// place is touched (`step`). The process's calls stay within the bound (`bounded`). The places that the model's
     /// step reads beside that one are settled (`beside`, a fact of the world before); which memory the code reads is in
-    /// no clause. `step` and `progress` say all that it does: the others follow, with what every world keeps.
+    /// no clause. Of an `Ok`, `step` and `progress` say all that it does to the world, `allowed` when it can come, and
+    /// `fixed` that the object and the row stay; `pending`, `simulated`, `bounded` and `beside` follow, with what every
+    /// world keeps.
     ///
     /// Errors, in this order: `BadProcess` where there is no process `p`; `Idle(p)` where it has no
     /// call pending; `Memory`, only at the step that decides the state and the response of a cell

@@ -128,8 +128,7 @@ impl<O: SeqObject> Recorded<O> {
 
     /// Process `p` begins a call: `World::begin`, whose event is stored. It sets aside `10 n + 13`
     /// events, its own among them, and makes the room of all that its call's steps and its return will
-    /// store. Without the trims among the events the call has the same number (`untrimmed`). What `promised` says, the
-    /// laws give of every record.
+    /// store. Without the trims among the events the call has the same number (`untrimmed`).
     ///
     /// Errors, in this order: `BadProcess` where there is no process `p`; `Busy(p)` where it has a call
     /// pending; `RowFull(p)` where it has made as many calls in this era as a row has; `HistoryFull`
@@ -202,8 +201,7 @@ impl<O: SeqObject> Recorded<O> {
 
     /// Process `p` takes the next step of its pending call: `World::step`, whose event is stored, and
     /// the call's return where it is the last one. It takes no memory for them, since `begin` has made
-    /// their room. Without the trims among the events it answers the same (`untrimmed`). What `promised` says, the laws
-    /// give of every record.
+    /// their room. Without the trims among the events it answers the same (`untrimmed`).
     ///
     /// Errors, in this order: `BadProcess` where there is no process `p`; `Idle(p)` where it has no
     /// call pending; `Memory` only where the object's apply was refused it. After each nothing is

@@ -61,7 +61,7 @@ pub record IsSeatOf {O : Type 0} (shared : SmallShared O) (seat : SmallSeat O) :
 abbrev pub calls_of : {O : Type 0} → SmallSeat O → ProcessReturned
 calls_of seat = record { process = process_of seat; calls = own_calls seat }
 
--- the words of the state that it has read last
+-- the words in its room for a state: those of the state that it has read last, until it calls, or a read finds none
 abbrev pub state_read : {O : Type 0} → SmallSeat O → List ℕ
 state_read seat = seat.room.state.items
 

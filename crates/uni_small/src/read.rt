@@ -130,9 +130,9 @@ impl<O: SmallObject> SmallSeat<O> {
     /// the seat has made all the calls that it can make; nothing is changed then.
     ///
     /// In no clause: that the version is the present one, and so that the other calls in it were made; that `None`
-    /// comes only where another one came meanwhile; that nothing is stored, and which words are loaded. A body that
-    /// loads one word and always answers `None`, or that tells a seat without calls the start state, would meet the
-    /// clauses.
+    /// comes only where another one came meanwhile; that nothing is stored, and which words are loaded. A body that,
+    /// where it isn't `CallsSpent`, loads one word and answers `None`, or that tells a seat without calls the start
+    /// state, would meet the clauses.
     pub fn refresh(&mut self, shared: &SmallShared<O>) -> Result<Option<u64>, CallsSpent>
         requires seat { IsSeatOf shared.now self.old }
         ensures kept { IsSeatOf shared.now self.new × (process_of self.new ≡ process_of self.old) }
