@@ -207,7 +207,7 @@ fn faults_of_seats(rt: HostRuntime) {
     let rows = [
         (
             CloseFault::MissingSeat(3),
-            "process 3 doesn't have its seat there exactly once",
+            "process 3 has no seat there, or several, or one that isn't of this record",
         ),
         (CloseFault::Stranger, "the record is another one"),
         (CloseFault::PendingSeat(3), "process 3 has a call pending"),

@@ -26,7 +26,7 @@ pub record KnownCalls (I R : Type 0) : Type 0 where
   pub pending : Option I
 
 -- Some history that the atomic object accepts has the known calls, and this state at its end. Any such history will
--- do: it isn't said that it is the one that was made, and nothing is said of the calls of other processes.
+-- do: it isn't said that it is the one that was made, nor which calls the other processes make in it.
 --   accepted, completed: the object takes its acts, from the start on; so what is observed of it is linearizable
 --   state_is, inside: the state is that after its calls, each of which is one of n processes
 --   own_is: each known process makes its known calls, with their replies, and its pending one, and no others

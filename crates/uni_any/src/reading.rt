@@ -80,7 +80,8 @@ impl<O: SeqObject> AnySeat<O> {
     }
 
     /// Asks whether this version has come: it finds the present version, as `refresh` does. The answer is `true`
-    /// exactly where that one's number is at least the one that was asked for.
+    /// exactly where that one's number is at least the one that was asked for. What the version has, `refresh` tells,
+    /// and no clause of this call.
     ///
     /// The version of each call that was answered has come: the law `returned_has_come` says so, and no clause of
     /// this call. So whoever was told of a call's version, by whatever means, and follows it, makes its later calls

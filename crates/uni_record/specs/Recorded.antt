@@ -33,10 +33,11 @@ pub record Recording (O S I R : Type 0) : Type 0 where
 abbrev pub share : ℕ → ℕ
 share n = 10 * n + 13
 
--- what a process's pending call still has, by how many steps it has taken
+-- what a process's pending call adds, by how many steps it has taken: nothing where none is pending
 abbrev pub owed_by : {S I R : Type 0} → (f : ℕ → ℕ) → WorldOf S I R → ℕ → ℕ
 owed_by f w p = option_map_or (λ (c : Pending). f (w.steps p)) (w.call p) 0
 
+-- and all pending calls together
 abbrev pub owed : {S I R : Type 0} → (f : ℕ → ℕ) → WorldOf S I R → ℕ
 owed f w = sum_below w.n (owed_by f w)
 

@@ -21,7 +21,7 @@ use uni_record::Recorded;
 pub enum CloseFault {
     /// This process, the least of such, doesn't have its seat there exactly once; or, where each has,
     /// the least other process that has a seat there.
-    #[error("process {0} doesn't have its seat there exactly once")]
+    #[error("process {0} has no seat there, or several, or one that isn't of this record")]
     MissingSeat(u64),
     /// The record under the lock isn't of as many processes as it was opened for. It never comes; but a
     /// lock tells nothing of what it gives back, so closing looks.

@@ -305,7 +305,8 @@ impl<O: SeqObject> Seat<O> {
     ///
     /// The clauses tell of the seat alone: a body that took no lock and made up the reply would meet them. `close`
     /// compares each receipt with the record's history, and `begin_held` and `step_held` say what one hold does to the
-    /// record. That the gate is asked is in no clause.
+    /// record. That the gate is asked is in no clause. Nor is it that the seat is of this record: with another one the
+    /// call is made there, where the process and the number fit.
     ///
     /// `ends`, read out: once the receipt is given back, the seat is as `HasEnded self.old receipt self.new` says;
     /// after an error, as `IsLeftByApply self.old inv fault self.new` does. In no clause: which number a call has that

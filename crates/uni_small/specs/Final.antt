@@ -11,7 +11,7 @@ use Rattle.uni_small.specs.View.{Returned, ProcessReturned, plain}
 use Rattle.uni_small.specs.Order.{StandsIn}
 
 -- Some history that the atomic object accepts has the known calls, and this state at its end. Any such history will
--- do: it isn't said that it is the one that was made, and nothing is said of the calls of other processes.
+-- do: it isn't said that it is the one that was made, nor which calls the other processes make in it.
 --   accepted, linearized: the object takes its acts, from the start on; so what is observed of it is linearizable
 --   state, inside: the state is that after its calls, each of which is one of n processes
 --   own: each known process makes its known calls, with their replies, and no others

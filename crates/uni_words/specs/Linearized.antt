@@ -14,7 +14,9 @@ use Rattle.uni_words.specs.Run.{opened}
 use Rattle.uni_words.specs.Shown.{IsAmong, acts_in_view}
 use Rattle.uni_words.specs.declared.view.View.{View}
 
--- the states and replies of an object stay below 2^31
+-- The states and replies of an object stay below 2^31, whatever number the invocation is. The contract of a `WordObject`
+-- asks this of invocations below 2^64 alone; so of an object whose replies to greater numbers are wider the laws say
+-- nothing.
 abbrev pub IsNarrow : Sequential ℕ ℕ ℕ → Type 0
 IsNarrow object =
     (object.initial < 2 ^ 31)
@@ -43,6 +45,7 @@ module _ (object : Sequential ℕ ℕ ℕ) (n row : ℕ) where
     pub keeps_order : (e : Execution object n row (opened_table object n row)) (more : Execution object n row (last_state object n row e))
         → (further : List (Invoked ℕ)) × (order (events object n row (goes_on object n row e more)) ≡ order (events object n row e) ++ further)
 
-  -- no call of an execution from the opening takes more word steps than this, whatever the other seats do
+  -- At the end of this execution no process has taken more word steps than this in its latest call. Said of every
+  -- execution it bounds every call, which is its process's latest at the end of some shorter one.
   abbrev pub KeepsBound : Execution object n row (opened_table object n row) → Type 0
   KeepsBound e = (p : ℕ) → steps_of_call object n row p 0 e ≤ 12 * n + 15

@@ -34,7 +34,8 @@ pub fn join_keeps<O: WordObject>()
         JoinKeeps (O.sequential object) row w s id v other x }
 {}
 
-/// A call that has returned has a number. That to ask about it is answered yes is in no clause of a call.
+/// A call that has returned has a number. That to ask about it is answered yes is in a
+/// clause, `known` of `follows`, of calls alone that the seat made or took in.
 pub fn returned_is_there<O: WordObject>()
     ensures { (object : O) (row : ℕ) (w : WorldOf ℕ ℕ ℕ) (s : State ℕ View) (call : CallId) (word : ℕ) →
         ReturnedIsThere (O.sequential object) row w s call word }
@@ -99,8 +100,8 @@ pub fn every_execution_is_linearizable<O: WordObject>()
         → AreLinearizedStrongly (O.sequential object) n row }
 {}
 
-/// The construction on words is bounded in every execution: no call takes more than `12 * n + 15` word steps of its
-/// own process, whatever the others do. To ask about a call is no step of one.
+/// Of a narrow object (`IsNarrow`), the construction on words is bounded in every execution: no call takes more than
+/// `12 * n + 15` word steps of its own process, whatever the others do. To ask about a call is no step of one.
 pub fn every_call_is_bounded<O: WordObject>()
     ensures { (object : O) (n row : ℕ) → IsNarrow (O.sequential object)
         → (e : Execution (O.sequential object) n row (opened_table (O.sequential object) n row))

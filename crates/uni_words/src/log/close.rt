@@ -66,7 +66,7 @@ impl<O: WordObject> WordLog<O> {
     }
 
     /// Closes the log with these seats, of which there is one at least: what `close_with` tells of one
-    /// seat's process is told of each one's. It costs one load for each seat but one.
+    /// seat's process is told of each one's. It costs one load for each seat but one (in no clause).
     ///
     /// What these seats saw was so in the run, and orders their calls in the log. The run is chosen by the clause: a
     /// call that returned before another seat's call began stands before it only where that seat had asked about it, or

@@ -11,9 +11,10 @@ use crate::seat::WordSeat;
 use seq_object::CallId;
 
 impl WordSeat {
-    /// Asks whether a call stands in the log: one load of its number. A call that has returned has one: the
-    /// law `returned_is_there` says so, and no clause of this call. So whoever was told that it returned, by
-    /// whatever means, is answered `true`.
+    /// Asks whether a call stands in the log: one load of its number. A call that has returned has one. Of the calls
+    /// that the seat made or took in, `known` says that the answer is `true`. Of others the law `returned_is_there`
+    /// says that they have a number, and no clause of this call that it is found: that whoever was told by other means
+    /// that a call returned is answered `true` is argued by hand.
     ///
     /// `true` says that it stands there, with all that its process made before it, and that all later
     /// calls of this seat come after it, in the log that is closed and in its run. `false` says nothing,
@@ -43,7 +44,7 @@ impl WordSeat {
 
     /// Takes in another seat of this log: this seat knows its calls then, and has seen what it saw. All
     /// later calls of this seat come after the other's own, and after all that the other comes after. It
-    /// costs one load, which the seat doesn't count among its word steps.
+    /// costs one load (in no clause), which the seat doesn't count among its word steps (`rest`).
     pub fn take_in<O: WordObject>(&mut self, log: &WordLog<O>, other: WordSeat)
         requires seats { IsSeatOf log.now self.old × IsSeatOf log.now other }
         ensures kept { IsSeatOf log.now self.new × (calls_of self.new ≡ calls_of self.old) }
