@@ -145,7 +145,7 @@ module _ (object : Sequential ℕ ℕ ℕ) (n row : ℕ) (narrow : IsNarrow obje
 
   -- the seat of one process stays that
   first_stays : (v : Known) (next : Next object n row v) (found : ℕ) → ((access_of object n row v next).leaves found).first ≡ v.first
-  first_stays v (Begin inv idle room) found = refl
+  first_stays v (Begin inv narrow idle room) found = refl
   first_stays v (Ask call idle) found = refl
   first_stays v (Move c becomes pending plain leaves) found = refl
   first_stays v (LookInv mine c d c_seq pending fresh) found = refl
@@ -156,7 +156,7 @@ module _ (object : Sequential ℕ ℕ ℕ) (n row : ℕ) (narrow : IsNarrow obje
   first_stays v (LoadEnd mine c_seq mine_seq pending less fresh) found = refl
 
   count_stays : (v : Known) (next : Next object n row v) (found : ℕ) → ((access_of object n row v next).leaves found).count ≡ v.count
-  count_stays v (Begin inv idle room) found = refl
+  count_stays v (Begin inv narrow idle room) found = refl
   count_stays v (Ask call idle) found = refl
   count_stays v (Move c becomes pending plain leaves) found = refl
   count_stays v (LookInv mine c d c_seq pending fresh) found = refl
@@ -170,7 +170,7 @@ module _ (object : Sequential ℕ ℕ ℕ) (n row : ℕ) (narrow : IsNarrow obje
   taken_next : (es : List (Event ℕ)) (s : State ℕ View) (h : Holds object n row narrow es s) (id : ℕ) (v : Known) (seat : HasSeat s id v) (next : Next object n row v) (found taken : ℕ)
       → AreTaken v.its v.its.call taken
       → AreTaken ((access_of object n row v next).leaves found).its ((access_of object n row v next).leaves found).its.call (counted object n row next taken)
-  taken_next es s h id v seat (Begin inv idle room) found taken a = omega arith
+  taken_next es s h id v seat (Begin inv narrow idle room) found taken a = omega arith
   taken_next es s h id v seat (Ask call idle) found taken a = a
   taken_next es s h id v seat (Move c becomes pending plain leaves) found taken a =
       let t = subst (λ o. AreTaken v.its o taken) pending a in
@@ -218,7 +218,7 @@ module _ (object : Sequential ℕ ℕ ℕ) (n row : ℕ) (narrow : IsNarrow obje
 
       by_step : (next : Next object n row v) → word_of n row (access_of object n row v next).place ≡ Some i
           → AreTaken ((access_of object n row v next).leaves (slice_index s.words i)).its ((access_of object n row v next).leaves (slice_index s.words i)).its.call (counted object n row next taken) → counted object n row next taken ≤ 12 * n + 15
-      by_step (Begin inv idle room) at later = omega arith
+      by_step (Begin inv narrow idle room) at later = omega arith
       by_step (Ask call idle) at later = few
       by_step (Move c becomes pending plain leaves) at later =
           let goes = goes_further v.n v.first c.mine c.stage (slice_index s.words i) plain in

@@ -12,9 +12,9 @@ use Rattle.uni_words.proofs.Allowed.{link_decided}
 two_calls : Execution tally 2 1 (opened_table tally 2 1)
 two_calls =
     Splits 0 _ refl (omega arith) (
-    Takes 1 _ (refl, refl) (Begin 5 refl (omega arith)) _ refl (
+    Takes 1 _ (refl, refl) (Begin 5 (omega arith) refl (omega arith)) _ refl (
     Takes 1 _ (refl, refl) (Move _ (λ found. 1) refl tt (λ found others. refl)) _ refl (
-    Takes 0 _ (refl, refl) (Begin 3 refl (omega arith)) _ refl (
+    Takes 0 _ (refl, refl) (Begin 3 (omega arith) refl (omega arith)) _ refl (
     Takes 0 _ (refl, refl) (Move _ (λ found. 2) refl tt (λ found others. refl)) _ refl (
     Takes 0 _ (refl, refl) (Move _ (λ found. found) refl tt (λ found others. refl)) _ refl (
     Takes 0 _ (refl, refl) (Move _ (λ found. found) refl tt (λ found others. refl)) _ refl (

@@ -34,8 +34,8 @@ pub fn join_keeps<O: WordObject>()
         JoinKeeps (O.sequential object) row w s id v other x }
 {}
 
-/// A call that has returned has a number. That to ask about it is answered yes is in a
-/// clause, `known` of `follows`, of calls alone that the seat made or took in.
+/// A call that has returned has a number. That to ask about it is answered yes is in a clause, `known` of `follows`, of
+/// calls alone that the seat made or took in.
 pub fn returned_is_there<O: WordObject>()
     ensures { (object : O) (row : ℕ) (w : WorldOf ℕ ℕ ℕ) (s : State ℕ View) (call : CallId) (word : ℕ) →
         ReturnedIsThere (O.sequential object) row w s call word }
@@ -91,10 +91,11 @@ pub fn own_calls_rise<O: WordObject>()
         OwnCallsRise (O.sequential object) row w s id v j k a b }
 {}
 
-/// Of an object whose states and replies stay below 2^31 (`IsNarrow`): every execution from the opening, in which the
-/// seats take their word steps in any order, are cut and are taken in, is linearizable in real time; its events are
-/// those of a run of the construction. And strongly: one function gives each its order, and where an execution goes
-/// on, only further calls come behind. The acts of a process in this history are what its seat has been told by then.
+/// Of an object whose states and replies stay below 2^31 (`IsNarrow`, which each `WordObject`'s contract asks): every
+/// execution from the opening, in which the seats take their word steps in any order, are cut and are taken in, is
+/// linearizable in real time; its events are those of a run of the construction. And strongly: one function gives each
+/// its order, and where an execution goes on, only further calls come behind. The acts of a process in this history are
+/// what its seat has been told by then.
 pub fn every_execution_is_linearizable<O: WordObject>()
     ensures { (object : O) (n row : ℕ) → IsNarrow (O.sequential object)
         → AreLinearizedStrongly (O.sequential object) n row }
