@@ -11,7 +11,8 @@ use Rattle.uni_record.specs.declared.event.Event.TheVariants.{Call, Step, Trim, 
 use Rattle.uni_record.specs.Event.{Completed, completed_in, events_shown}
 use Rattle.uni_record.specs.Recorded.{Recording, meaning, opening}
 use Rattle.uni_shared.specs.declared.closed.CloseFault.{CloseFault}
-use Rattle.uni_shared.specs.declared.closed.CloseFault.TheVariants.{MissingSeat, Stranger, PendingSeat, Mismatch, Memory}
+use Rattle.uni_shared.specs.declared.closed.CloseFault.TheVariants.{Memory, Mismatch, MissingSeat, PendingSeat}
+use Rattle.uni_shared.specs.declared.closed.CloseFault.TheVariants.{Stranger}
 use Rattle.uni_shared.specs.declared.receipt.Receipt.{Receipt}
 use Rattle.uni_shared.specs.Seat.{SeatOf, first_seat}
 
@@ -28,10 +29,13 @@ completed_of_process p calls = filter (λ c. c.returned.call.process == p) calls
 
 -- the return of which a receipt tells, with its counts
 abbrev pub completed_of : {I R : Type 0} → Receipt I R → Completed R
-completed_of r = record { returned = record { call = r.call; reply = r.reply }; counts = record { steps = r.steps; turns = r.turns } }
+completed_of r = record {
+  returned = record { call = r.call; reply = r.reply };
+  counts = record { steps = r.steps; turns = r.turns };
+}
 
--- The receipts are the calls of a process in a run, in order, none missing and none more: each with what it asked for, with the
--- reply of its return, and with its own steps and turns.
+-- The receipts are the calls of a process in a run, in order, none missing and none more: each with what it asked for,
+-- with the reply of its return, and with its own steps and turns.
 pub record Agrees {S I R : Type 0} (object : Sequential S I R) (first : WorldOf S I R) (events : List (Stored I)) (p : ℕ)
     (receipts : List (Receipt I R)) : Type 0 where
   pub invocations : map (λ r. r.inv) receipts ≡ filter_map (invocation_by p) events
@@ -46,8 +50,8 @@ SeatAgrees sequential recorded seat =
 abbrev pub seats_of : {I R : Type 0} → ℕ → List (SeatOf I R) → ℕ
 seats_of p seats = count_by (λ s. s.process == p) seats
 
--- Each process has one seat there and there is no other; no call is pending, in a seat or in the world; and the receipts of each
--- seat agree with the stored events.
+-- Each process has one seat there and there is no other; no call is pending, in a seat or in the world; and the
+-- receipts of each seat agree with the stored events.
 pub record IsClosed {O S I R : Type 0} (sequential : O → Sequential S I R) (recorded : Recording O S I R)
     (seats : List (SeatOf I R)) : Type 0 where
   pub each : (p : ℕ) → p < recorded.processes → seats_of p seats ≡ 1
@@ -68,7 +72,8 @@ IsMissing n seats p = ((p < n) × (seats_of p seats ≢ 1)) ⊎ ((n ≤ p) × (s
 -- a process has a call pending, in the world or in a seat
 abbrev pub IsBusy : {S I R : Type 0} → WorldOf S I R → List (SeatOf I R) → ℕ → Type 0
 IsBusy {I = I} {R = R} w seats p =
-    ((p < w.n) × IsSome (w.call p)) ⊎ ((seat : SeatOf I R) × Contains seats seat × (seat.process ≡ p) × IsSome seat.pending)
+    ((p < w.n) × IsSome (w.call p))
+    ⊎ ((seat : SeatOf I R) × Contains seats seat × (seat.process ≡ p) × IsSome seat.pending)
 
 -- two lists are the same at a place
 abbrev pub IsSameAt : {A : Type 0} → List A → List A → ℕ → Type 0
@@ -129,7 +134,8 @@ pub record ClosedOf (O S I R : Type 0) : Type 0 where
   pub recorded : Recording O S I R
   pub seats : List (SeatOf I R)
 
--- one process and an object that keeps the last number and answers the one before, from 9; the receipt of a call that asked for 7
+-- one process and an object that keeps the last number and answers the one before, from 9; the receipt of a call that
+-- asked for 7
 abbrev sample : Sequential ℕ ℕ ℕ
 sample = record { initial = 9; next = λ s i. i; answer = λ s i. s }
 
@@ -149,7 +155,8 @@ sample_agrees_at : AgreesAt sample (opened_world 1 9 1) sample_stored 0 (sample_
 sample_agrees_at = (refl, refl)
 
 -- what the history has beside a receipt that tells another reply, and nothing beside a second receipt
-sample_returned : slice_get (completed_of_process 0 (completed_in sample (opened_world 1 9 1) (events_shown sample_stored))) 0
+sample_returned :
+    slice_get (completed_of_process 0 (completed_in sample (opened_world 1 9 1) (events_shown sample_stored))) 0
     ≡ Some (completed_of (sample_receipt 9))
 sample_returned = refl
 

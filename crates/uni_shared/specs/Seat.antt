@@ -76,7 +76,8 @@ abbrev pub IsCause : ApplyFault → Type 0
 IsCause fault = (fault ≡ GaveUp) ⊎ (fault ≡ Stranger) ⊎ (fault ≡ Memory)
 
 -- the invariant: the process is one of at most 64, and where a call is pending there is room for its receipt
-pub record IsSeat {I : Type 0} (pending : Option (PendingCall I)) (process processes stored for_receipts : ℕ) : Type 0 where
+pub record IsSeat {I : Type 0} (pending : Option (PendingCall I)) (process processes stored for_receipts : ℕ)
+    : Type 0 where
   pub below : process < processes
   pub few : processes ≤ 64
   pub room : IsSome pending → stored < for_receipts

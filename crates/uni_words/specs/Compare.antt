@@ -9,7 +9,8 @@ use Rattle.uni_words.specs.Log.{calls_by, replied}
 abbrev pub invocations_of : List (Entry ℕ ℕ) → List ℕ
 invocations_of log = map (λ e. e.call.inv) log
 
--- the entry at this place has the object's reply at it, from the start state on, and is a call of one of so many processes
+-- the entry at this place has the object's reply at it, from the start state on, and is a call of one of so many
+-- processes
 abbrev pub IsRight : Sequential ℕ ℕ ℕ → List (Entry ℕ ℕ) → (processes place : ℕ) → Type 0
 IsRight object log processes place =
     (e : Entry ℕ ℕ) → slice_get log place ≡ Some e
@@ -21,7 +22,8 @@ pub record Agrees (object : Sequential ℕ ℕ ℕ) (log : List (Entry ℕ ℕ))
   pub calls : (p : ℕ) (own : List (ℕ × ℕ)) → slice_get lists p ≡ Some own → calls_by p log ≡ map replied own
 
 -- this is the first entry that isn't right, and that is its call
-pub record IsFirstWrong (object : Sequential ℕ ℕ ℕ) (log : List (Entry ℕ ℕ)) (processes : ℕ) (call : CallId) : Type 0 where
+pub record IsFirstWrong (object : Sequential ℕ ℕ ℕ) (log : List (Entry ℕ ℕ)) (processes : ℕ) (call : CallId)
+    : Type 0 where
   pub place : ℕ
   pub entry : Entry ℕ ℕ
   pub here : slice_get log place ≡ Some entry

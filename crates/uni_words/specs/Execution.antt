@@ -23,9 +23,9 @@ use Rattle.uni_words.specs.Words.{content_of, first_words, reply_in, settled_wor
 use Rattle.uni_words.specs.declared.view.View.{View}
 
 -- What a step does to the word of one place. By what is found there: what the word becomes, and what the seat knows
--- then. And which events of the construction the step is: one; or none where it is a question about a call (`Ask`), or a
--- load of a settled word before the step that goes by it (`LookInv`, `LookNew`, `LookReply`). `LoadEnd`, the load that
--- ends a call, is one.
+-- then. And which events of the construction the step is: one; or none where it is a question about a call (`Ask`), or
+-- a load of a settled word before the step that goes by it (`LookInv`, `LookNew`, `LookReply`). `LoadEnd`, the load
+-- that ends a call, is one.
 pub record Access : Type 0 where
   pub place : Place
   pub becomes : (found : ℕ) → ℕ
@@ -65,7 +65,8 @@ module _ (object : Sequential ℕ ℕ ℕ) (n row : ℕ) where
     -- leaves there; so an execution may do more than the code does
     Move : (c : Pending) (becomes : ℕ → ℕ) → v.its.call ≡ Some c → IsPlain c.stage → Leaves v.first c becomes → Next v
     -- a state is settled: the invocation is loaded, then the state before it, and the state and the reply are proposed
-    LookInv : (mine c d : Name) (c_seq : ℕ) → v.its.call ≡ Some (deciding mine c d c_seq) → v.its.read ≡ Nothing → Next v
+    LookInv : (mine c d : Name) (c_seq : ℕ) → v.its.call ≡ Some (deciding mine c d c_seq)
+        → v.its.read ≡ Nothing → Next v
     LookNew : (mine c d : Name) (c_seq inv : ℕ) → v.its.call ≡ Some (deciding mine c d c_seq)
         → v.its.read ≡ Invocation inv → Next v
     Decide : (mine c d : Name) (c_seq inv state : ℕ) → v.its.call ≡ Some (deciding mine c d c_seq)

@@ -106,8 +106,8 @@ module _ (object : Sequential ℕ ℕ ℕ) (row : ℕ) (w : WorldOf ℕ ℕ ℕ)
         → word_of w.n row (InvOf (Of v.first v.its.begun)) ≡ Some word
         → LeadsBy (Call v.first inv) (after_word s word inv id (begun_by v inv))
 
-    -- A word step at the place of the stage where a call stands is the event Step, as long as the call goes on after it:
-    -- it leaves in the word a number that reads as what the event leaves, and no state past 31 bits.
+    -- A word step at the place of the stage where a call stands is the event Step, as long as the call goes on after
+    -- it: it leaves in the word a number that reads as what the event leaves, and no state past 31 bits.
     abbrev pub WordStepMoves : Pending → (next : Stage) → (word x : ℕ) → Type 0
     WordStepMoves c next word x =
         IsShown object row w s → HasSeat s id v → v.its.call ≡ Some c

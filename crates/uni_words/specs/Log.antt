@@ -16,7 +16,8 @@ use Rattle.uni_words.specs.declared.read.WordEntry.{WordEntry}
 abbrev pub told_memory : (n row : ℕ) → List ℕ → Memory ℕ ℕ ℕ
 told_memory n row words = memory_of n row words (λ p. row)
 
--- The entries of the chain after the anchor. At most n * row cells are followed; none is left out, by `few` and `linked` of `IsChained`.
+-- The entries of the chain after the anchor. At most n * row cells are followed; none is left out, by `few` and
+-- `linked` of `IsChained`.
 abbrev pub log_of : (n row : ℕ) → List ℕ → List (Entry ℕ ℕ)
 log_of n row words =
     entries_from (told_memory n row words) (seq_of (told_memory n row words) Anchor + 1)
@@ -50,7 +51,8 @@ calls_by p (e ∷ es) = if e.call.process == p then (e.call.inv, e.response) ∷
 
 -- each entry has its reply, but perhaps the last
 abbrev pub AreAnswered : List (Entry ℕ ℕ) → Type 0
-AreAnswered log = (place : ℕ) (e : Entry ℕ ℕ) → slice_get log place ≡ Some e → place + 1 < length log → IsSome e.response
+AreAnswered log =
+    (place : ℕ) (e : Entry ℕ ℕ) → slice_get log place ≡ Some e → place + 1 < length log → IsSome e.response
 
 -- each entry is a call of one of so many processes
 abbrev pub AreCallsOf : ℕ → List (Entry ℕ ℕ) → Type 0
@@ -60,13 +62,15 @@ AreCallsOf n log = (place : ℕ) (e : Entry ℕ ℕ) → slice_get log place ≡
 abbrev pub replied : ℕ × ℕ → ℕ × Option ℕ
 replied c = (c.0, Some c.1)
 
--- In the log a process has exactly these calls, in this order, each with its reply; the j-th of its entries is its call j.
+-- In the log a process has exactly these calls, in this order, each with its reply; the j-th of its entries is its call
+-- j.
 pub record IsLogged (log : List (Entry ℕ ℕ)) (its : ProcessCalls ℕ ℕ) : Type 0 where
   pub calls : calls_by its.process log ≡ map replied its.calls
   pub numbered : (place : ℕ) (e : Entry ℕ ℕ) → slice_get log place ≡ Some e → e.call.process ≡ its.process
       → e.call.nth ≡ calls_among its.process (take place log)
 
--- before each call that the process of `made` made afterwards, wherever it stands in the log, stands each call of `earlier`
+-- before each call that the process of `made` made afterwards, wherever it stands in the log, stands each call of
+-- `earlier`
 abbrev pub IsInOrder : List (Entry ℕ ℕ) → Seen → Type 0
 IsInOrder log s =
     (i j place : ℕ) → i < s.earlier.count → length s.made.calls ≤ j → StandsAt log s.made.process j place
@@ -75,18 +79,24 @@ IsInOrder log s =
 -- The entry of the last of these calls, where the log has one, has this number. That it has one says `IsLogged`.
 abbrev pub LastHasNumber : List (Entry ℕ ℕ) → ProcessCalls ℕ ℕ → (number : ℕ) → Type 0
 LastHasNumber log its number =
-    (place : ℕ) (e : Entry ℕ ℕ) → slice_get log place ≡ Some e → e.call.process ≡ its.process → e.call.nth + 1 ≡ length its.calls
+    (place : ℕ) (e : Entry ℕ ℕ) → slice_get log place ≡ Some e → e.call.process ≡ its.process
+    → e.call.nth + 1 ≡ length its.calls
     → e.number ≡ number
 
 -- an entry of the code, as one of the definitions
 abbrev pub entry_shown : WordEntry → Entry ℕ ℕ
-entry_shown e = record { number = e.seq; call = record { process = e.call.process; nth = e.call.nth; inv = e.inv }; response = e.reply }
+entry_shown e = record {
+  number = e.seq;
+  call = record { process = e.call.process; nth = e.call.nth; inv = e.inv };
+  response = e.reply;
+}
 
 -- one process with rows of one call, whose call 0.0 has the invocation 5 and is answered 0
 sample_words : List ℕ
 sample_words = 1 ∷ 1 ∷ 0 ∷ 5 ∷ 1 ∷ 2 ∷ 0 ∷ 1 ∷ 2 ∷ 0 ∷ 1 ∷ 21474836481 ∷ []
 
-sample_log : log_of 1 1 sample_words ≡ record { number = 2; call = record { process = 0; nth = 0; inv = 5 }; response = Some 0 } ∷ []
+sample_log : log_of 1 1 sample_words
+    ≡ record { number = 2; call = record { process = 0; nth = 0; inv = 5 }; response = Some 0 } ∷ []
 unfolding sample_words
 sample_log = refl
 

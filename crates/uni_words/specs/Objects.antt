@@ -2,8 +2,8 @@
 use Rattle.std.specs.Prelude.{◌≡◌, ℕ, zero, suc, ◌+◌, ◌%◌, ◌^◌, refl, if◌then◌else◌, nat_lt}
 use Rattle.seq_object.specs.Sequential.{Sequential}
 
--- the state of a sticky register after an invocation: 0 is unset, and v + 1 the value v; an invocation from 1 to 1000000000
--- sticks the value that is one less, which changes only the unset state, and each other one only reads
+-- the state of a sticky register after an invocation: 0 is unset, and v + 1 the value v; an invocation from 1 to
+-- 1000000000 sticks the value that is one less, which changes only the unset state, and each other one only reads
 abbrev pub stuck : (state inv : ℕ) → ℕ
 stuck zero inv = if nat_lt 1000000000 inv then 0 else inv
 stuck (suc v) inv = suc v

@@ -27,10 +27,11 @@ module _ (object : Sequential ℕ ℕ ℕ) (n : ℕ) where
 
   -- these calls stand in the log of a run, each with a reply or without
   abbrev pub StandInLog : List (Event ℕ) → FirstCalls → Type 0
-  StandInLog events its = (i : ℕ) → i < its.count → (place : ℕ) × StandsAt (log_of_run object opened events) its.process i place
+  StandInLog events its =
+      (i : ℕ) → i < its.count → (place : ℕ) × StandsAt (log_of_run object opened events) its.process i place
 
-  -- After some of these events the calls of `earlier` stood in the log, and the process of `made` had made those calls, all of which had
-  -- returned, and no others: each further call of it begins later.
+  -- After some of these events the calls of `earlier` stood in the log, and the process of `made` had made those calls,
+  -- all of which had returned, and no others: each further call of it begins later.
   pub record HasSeen (events : List (Event ℕ)) (s : Seen) : Type 0 where
     pub before : List (Event ℕ)
     pub after : List (Event ℕ)

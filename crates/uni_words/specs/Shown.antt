@@ -23,8 +23,8 @@ use Rattle.uni_words.specs.View.{Seen, Known, Process, Reading}
 use Rattle.uni_words.specs.View.Reading.{Nothing, Invocation, Applied, Reply}
 use Rattle.uni_words.specs.declared.view.View.{View}
 
--- the cell of a call has its number, this invocation and this reply: so it is of each call that has returned, and may be of one whose
--- last step is to come
+-- the cell of a call has its number, this invocation and this reply: so it is of each call that has returned, and may
+-- be of one whose last step is to come
 pub record HasOutcome (m : Memory ℕ ℕ ℕ) (x : Name) (inv reply : ℕ) : Type 0 where
   pub inv_is : inv_of m x ≡ Some inv
   pub threaded : 1 ≤ seq_of m x
@@ -77,17 +77,18 @@ pub record IsTaken (w : WorldOf ℕ ℕ ℕ) (its : ProcessCalls ℕ ℕ) : Type
 abbrev pub IsAmong : ℕ → Known → Type 0
 IsAmong p v = (v.first ≤ p) × (p < v.first + v.count)
 
--- What the seat id knows: each of its processes is so, and has this seat alone, as each that it has taken in. Where it has several,
--- none of them has called.
+-- What the seat id knows: each of its processes is so, and has this seat alone, as each that it has taken in. Where it
+-- has several, none of them has called.
 pub record Tells (w : WorldOf ℕ ℕ ℕ) (owner : ℕ → ℕ) (row id : ℕ) (v : Known) : Type 0 where
   pub processes : 1 ≤ v.count → v.n ≡ w.n
   pub calls : 1 ≤ v.count → v.row ≡ row
   pub each : (p : ℕ) → v.first ≤ p → p < v.first + v.count → (owner p ≡ id) × IsLocal w p v.its
   pub several : 2 ≤ v.count → v.its.begun ≡ 0
-  pub taken : (its : ProcessCalls ℕ ℕ) → Contains v.taken its → (owner its.process ≡ id) × IsTaken w its × ¬ (IsAmong its.process v)
+  pub taken : (its : ProcessCalls ℕ ℕ) → Contains v.taken its
+      → (owner its.process ≡ id) × IsTaken w its × ¬ (IsAmong its.process v)
 
--- The words are the memory of the world w, whose processes have rows of so many calls. The anchor has number 1 and the start state,
--- and no state passes 31 bits.
+-- The words are the memory of the world w, whose processes have rows of so many calls. The anchor has number 1 and the
+-- start state, and no state passes 31 bits.
 pub record ShowsWords (object : Sequential ℕ ℕ ℕ) (row : ℕ) (w : WorldOf ℕ ℕ ℕ) (words : List ℕ) : Type 0 where
   pub wide : length words ≡ words_of w.n row
   pub memory : w.memory ≡ memory_of w.n row words w.begun
@@ -101,8 +102,8 @@ pub record ShowsSeats (row : ℕ) (w : WorldOf ℕ ℕ ℕ) (views : List View) 
   pub owner : ℕ → ℕ
   pub each : (id : ℕ) (v : View) → get_elem? views id ≡ some v → Tells w owner row id v.known
 
--- The words and the views show the world w. It has the invariant, each pending call is helped in time, and its counts of own steps are
--- right.
+-- The words and the views show the world w. It has the invariant, each pending call is helped in time, and its counts
+-- of own steps are right.
 pub record IsShown (object : Sequential ℕ ℕ ℕ) (row : ℕ) (w : WorldOf ℕ ℕ ℕ) (s : State ℕ View) : Type 0 where
   pub words : ShowsWords object row w s.words
   pub seats : ShowsSeats row w s.views
@@ -118,8 +119,8 @@ pending_acts p k inv (Some c) = Invoke p k inv ∷ []
 abbrev pub acts_in_view : ℕ → Known → List (Act ℕ ℕ)
 acts_in_view p v = sequential_acts p 0 v.its.own ++ pending_acts p (length v.its.own) v.its.inv v.its.call
 
--- These events are accepted one after another from the opening of n processes on, end no era, and lead to the world w. In their
--- history each process takes the acts that the view of its seat tells, and what a seat has seen was so.
+-- These events are accepted one after another from the opening of n processes on, end no era, and lead to the world w.
+-- In their history each process takes the acts that the view of its seat tells, and what a seat has seen was so.
 pub record LeadsTo (object : Sequential ℕ ℕ ℕ) (n : ℕ) (events : List (Event ℕ)) (w : WorldOf ℕ ℕ ℕ)
     (views : List View) : Type 0 where
   pub accepted : AreAccepted object (opened object n) events
@@ -129,9 +130,11 @@ pub record LeadsTo (object : Sequential ℕ ℕ ℕ) (n : ℕ) (events : List (E
       → acts_by p (run_history object n events) ≡ acts_in_view p v.known
   pub taken : (id : ℕ) (v : View) → get_elem? views id ≡ some v → (its : ProcessCalls ℕ ℕ) → Contains v.known.taken its
       → acts_by its.process (run_history object n events) ≡ sequential_acts its.process 0 its.calls
-  pub seen : (id : ℕ) (v : View) → get_elem? views id ≡ some v → (s : Seen) → Contains v.known.seen s → HasSeen object n events s
+  pub seen : (id : ℕ) (v : View) → get_elem? views id ≡ some v
+      → (s : Seen) → Contains v.known.seen s → HasSeen object n events s
 
 -- the rule: some world of n processes is shown, to which a run from the opening leads
 abbrev pub ShowsRun : (object : Sequential ℕ ℕ ℕ) → (n row : ℕ) → State ℕ View → Type 0
 ShowsRun object n row s =
-    (w : WorldOf ℕ ℕ ℕ) × (w.n ≡ n) × IsShown object row w s × ((events : List (Event ℕ)) × LeadsTo object n events w s.views)
+    (w : WorldOf ℕ ℕ ℕ) × (w.n ≡ n) × IsShown object row w s
+    × ((events : List (Event ℕ)) × LeadsTo object n events w s.views)

@@ -30,8 +30,8 @@ up_to call = record { process = call.process; count = call.nth + 1 }
 abbrev pub all_of : ProcessCalls ℕ ℕ → FirstCalls
 all_of its = record { process = its.process; count = length its.calls }
 
--- of some time of the run: by then the calls of `earlier` stood in the log, and the process of `made` had made these calls, all of
--- which had returned, and no others
+-- of some time of the run: by then the calls of `earlier` stood in the log, and the process of `made` had made these
+-- calls, all of which had returned, and no others
 pub record Seen : Type 0 where
   pub earlier : FirstCalls
   pub made : ProcessCalls ℕ ℕ
@@ -40,9 +40,9 @@ pub record Seen : Type 0 where
 abbrev pub seen_of : (made : ProcessCalls ℕ ℕ) → (earlier : List FirstCalls) → List Seen
 seen_of made earlier = map (λ its. record { earlier = its; made = made }) earlier
 
--- What a process is: the pending call with its invocation and what it has read; how many calls it has begun; the latest one's own
--- steps, which are events of the model and not word steps, and turns; its calls that have returned, each with its invocation and its
--- reply; and the number of the last of these, 0 where there is none.
+-- What a process is: the pending call with its invocation and what it has read; how many calls it has begun; the latest
+-- one's own steps, which are events of the model and not word steps, and turns; its calls that have returned, each with
+-- its invocation and its reply; and the number of the last of these, 0 where there is none.
 pub record Process : Type 0 where
   pub call : Option Pending
   pub inv : ℕ
@@ -53,9 +53,9 @@ pub record Process : Type 0 where
   pub own : List (ℕ × ℕ)
   pub number : ℕ
 
--- What a seat knows. It has `count` processes from `first` on, of n with rows of `row` calls, and each is as `its` says. How many word
--- steps the seat has taken, and how many of its calls ended with a store of the head. The calls of each process whose seat it has taken
--- in. And what it has seen of calls that it asked about.
+-- What a seat knows. It has `count` processes from `first` on, of n with rows of `row` calls, and each is as `its`
+-- says. How many word steps the seat has taken, and how many of its calls ended with a store of the head. The calls of
+-- each process whose seat it has taken in. And what it has seen of calls that it asked about.
 pub record Known : Type 0 where
   pub n : ℕ
   pub row : ℕ
@@ -131,7 +131,8 @@ abbrev pub number_of : Option Pending → ℕ
 number_of None = 0
 number_of (Some c) = number_in c.stage
 
--- a seat of one process after the last step of its call, which is so many stores of the head: one, or none where it is a load
+-- a seat of one process after the last step of its call, which is so many stores of the head: one, or none where it is
+-- a load
 abbrev pub finished_by : Known → (stores reply : ℕ) → Known
 finished_by v stores reply = record v {
   its = record v.its {
@@ -156,13 +157,20 @@ told_by call (suc number) = up_to call ∷ []
 
 -- a seat after it has asked about a call, by a load of the number of the call's cell
 abbrev pub asked_of : Known → CallId → (number : ℕ) → Known
-asked_of v call number = record v { word_steps = v.word_steps + 1; seen = v.seen ++ seen_of (own_of v) (told_by call number) }
+asked_of v call number =
+    record v { word_steps = v.word_steps + 1; seen = v.seen ++ seen_of (own_of v) (told_by call number) }
 
 -- process 1, which has made one call, asks about the third call of process 0, which has the number 7, or none
 abbrev sample_asked : (number : ℕ) → List Seen
-sample_asked number = (asked_of (record (nobody_called 2 3 1 1) { its = record no_calls { own = (8, 4) ∷ [] } }) (record { process = 0; nth = 2 }) number).seen
+sample_asked number =
+    (asked_of (record (nobody_called 2 3 1 1) { its = record no_calls { own = (8, 4) ∷ [] } })
+    (record { process = 0; nth = 2 }) number).seen
 
-sample_there : sample_asked 7 ≡ record { earlier = record { process = 0; count = 3 }; made = record { process = 1; calls = (8, 4) ∷ [] } } ∷ []
+sample_there : sample_asked 7
+    ≡ record {
+        earlier = record { process = 0; count = 3 };
+        made = record { process = 1; calls = (8, 4) ∷ [] };
+      } ∷ []
 sample_there = refl
 
 sample_not_there : sample_asked 0 ≡ []

@@ -1,6 +1,7 @@
 -- The shared places as words of one table: announce, the heads, and five columns over the cells.
 use Rattle.std.specs.Prelude.{◌≡◌, ℕ, zero, suc, ◌+◌, ◌-◌, ◌*◌, ◌/◌, ◌%◌, ◌^◌, List, [], ◌∷◌}
-use Rattle.std.specs.Prelude.{◌&&◌, Option, None, Some, option_map, if◌then◌else◌, nat_lt, slice_index, slice_set, replicate}
+use Rattle.std.specs.Prelude.{◌&&◌, Option, None, Some, option_map, if◌then◌else◌, nat_lt, slice_index}
+use Rattle.std.specs.Prelude.{slice_set, replicate}
 use Rattle.std.specs.Prelude.{refl}
 use Rattle.std.specs.Option.{option_map_or}
 use Rattle.uni_model.specs.Places.{Name, Place, Content, Memory}
@@ -138,7 +139,8 @@ sample_settled_state : memory_of 1 1 sample_words (λ p. 1) (NewOf (Of 0 0)) ≡
 unfolding sample_words
 sample_settled_state = refl
 
--- the last cell of a table of two processes with rows of three calls, and the first process and the first call that it has no room for
+-- the last cell of a table of two processes with rows of three calls, and the first process and the first call that it
+-- has no room for
 last_cell_is_there : index_in 2 3 (Of 1 2) ≡ Some 6
 last_cell_is_there = refl
 
