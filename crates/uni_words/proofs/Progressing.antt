@@ -1,14 +1,15 @@
 -- No call takes more word steps than 12n + 15, whatever the other seats do.
-use Rattle.uni_words.proofs.Vocabulary.{Announce, Applied, DecideAfter, DecideNew, Event, Finish, HasRead, Invocation, IsAmong, IsCounted-pending, IsShown, Known, List, Memory, Name, None, Nothing, Option, Pending, Process, ReadAnnounce, ReadHelpSeq, Reading, Reply, ScanHead, ScanSeq, Sequential, Some, Stage, State, Test, View, WorldOf, WriteBefore, WriteHead, WriteScan, WriteSeq, [], after_join, after_split, ap, arith, at_its_cell, at_set, call_after, content_of, false, first_alone, get_elem?, if◌then◌else◌, inl, nat_lt, inr, nobody, number_cases, others, place_of, refl, slice_index, slice_set, some, stage_found, subst, sym, took_in, true, turn_of, turns_bounded, word_of, Bool, ◌*◌, ◌++◌, ◌+◌, ◌-◌, ◌<◌, ◌==◌, ◌∙◌, ◌≡◌, ◌≤◌, ℕ}
+use Rattle.uni_words.proofs.Vocabulary.{Announce, Applied, IsSome, DecideAfter, DecideNew, Event, Finish, HasRead, Invocation, IsAmong, IsCounted-pending, IsShown, Known, List, Memory, Name, None, Nothing, Option, Pending, Process, ReadAnnounce, ReadHelpSeq, Reading, Reply, ScanHead, ScanSeq, Sequential, Some, Stage, State, Test, View, WorldOf, WriteBefore, WriteHead, WriteScan, WriteSeq, [], after_join, after_split, ap, arith, at_its_cell, at_set, call_after, content_of, false, first_alone, get_elem?, if◌then◌else◌, inl, nat_lt, inr, nobody, number_cases, others, place_of, refl, slice_index, slice_set, some, stage_found, subst, sym, took_in, true, turn_of, turns_bounded, word_of, Bool, ◌*◌, ◌++◌, ◌+◌, ◌-◌, ◌<◌, ◌==◌, ◌∙◌, ◌≡◌, ◌≤◌, ℕ}
 use Rattle.uni_model.proofs.Bounded.{IsBounded-held}
 use Rattle.uni_model.specs.Bound.{IsWithinBound}
 use Rattle.uni_model.specs.Counting.{HasTurns, steps_at}
-use Rattle.uni_words.specs.Execution.{Execution, IsPlain, Next, access_of, after_access, counted, opened_table, steps_of_call}
+use Rattle.uni_words.specs.Execution.{Execution, IsPlain, Next, access_of, after_access, counted, last_state, opened_table, steps_of_call}
 use Rattle.uni_words.specs.Execution.Next.{Begin, Ask, Move, LookInv, LookNew, Decide, LookReply, StoreEnd, LoadEnd}
 use Rattle.uni_words.specs.Execution.Execution.{Ends, Takes, Splits, Joins}
 use Rattle.uni_words.specs.Laws.{HasSeat}
-use Rattle.uni_words.specs.Linearized.{IsNarrow, KeepsBound}
-use Rattle.uni_words.proofs.Executing.{Holds, join_holds, opening_holds, split_holds, step_holds}
+use Rattle.uni_words.specs.Linearized.{CanStep, IsNarrow, KeepsBound, NeverBlocks}
+use Rattle.uni_words.proofs.Going.{IsToStore, can_step}
+use Rattle.uni_words.proofs.Executing.{Holds, end_holds, join_holds, opening_holds, split_holds, step_holds}
 use Rattle.uni_words.proofs.Happens.{own_local, set_there}
 use Rattle.uni_words.proofs.Looks.{underway}
 use Rattle.uni_words.proofs.Moving.{goes_further}
@@ -90,7 +91,7 @@ done_moves n p mine stage found next turns plain goes =
 -- the word steps of a pending call: the first store, its events, two loads for each state that was settled, and what was read since
 abbrev AreTaken : Process → Option Pending → (taken : ℕ) → Type 0
 AreTaken its None taken = Unit {0}
-AreTaken its (Some c) taken = taken ≡ 1 + its.steps + 2 * done c.stage its.turns + reads its.read
+AreTaken its (Some c) taken = (taken ≡ 1 + its.steps + 2 * done c.stage its.turns + reads its.read) × IsToStore its.read c.stage
 
 few_at : (stage : Stage) (n turns steps r taken : ℕ) → HasTurns stage turns → steps ≡ steps_at n stage turns → turns ≤ n + 1 → r ≤ most_reads stage → steps < 10 * n + 12
     → taken ≡ 1 + steps + 2 * done stage turns + r → taken ≤ 12 * n + 15
@@ -131,7 +132,7 @@ module _ (object : Sequential ℕ ℕ ℕ) (n row : ℕ) (narrow : IsNarrow obje
     read_few = reads_most w.memory c.mine c.stage v.its.read (underway object row w s is id v at single c.mine c.stage pending).1
 
     taken_few : (taken : ℕ) → AreTaken v.its (Some c) taken → taken ≤ 12 * n + 15
-    taken_few taken a = few_at c.stage n v.its.turns v.its.steps (reads v.its.read) taken here.1 here.2 here.3 read_few here.4 a
+    taken_few taken a = few_at c.stage n v.its.turns v.its.steps (reads v.its.read) taken here.1 here.2 here.3 read_few here.4 a.0
 
     -- a call whose last step stores the head has had at most n turns
     turns_fewer : (s t : ℕ) → c.stage ≡ Finish s t → s < t → v.its.turns ≤ n
@@ -170,7 +171,7 @@ module _ (object : Sequential ℕ ℕ ℕ) (n row : ℕ) (narrow : IsNarrow obje
   taken_next : (es : List (Event ℕ)) (s : State ℕ View) (h : Holds object n row narrow es s) (id : ℕ) (v : Known) (seat : HasSeat s id v) (next : Next object n row v) (found taken : ℕ)
       → AreTaken v.its v.its.call taken
       → AreTaken ((access_of object n row v next).leaves found).its ((access_of object n row v next).leaves found).its.call (counted object n row next taken)
-  taken_next es s h id v seat (Begin inv narrow idle room) found taken a = omega arith
+  taken_next es s h id v seat (Begin inv narrow idle room) found taken a = (omega arith, tt)
   taken_next es s h id v seat (Ask call idle) found taken a = a
   taken_next es s h id v seat (Move c becomes pending plain leaves) found taken a =
       let t = subst (λ o. AreTaken v.its o taken) pending a in
@@ -178,24 +179,24 @@ module _ (object : Sequential ℕ ℕ ℕ) (n row : ℕ) (narrow : IsNarrow obje
       let z = plain_most c.stage plain in
       let on = goes_further v.n v.first c.mine c.stage found plain in
       let d = done_moves v.n v.first c.mine c.stage found on.0 v.its.turns plain on.1 in
-      subst (λ o. AreTaken ((access_of object n row v (Move c becomes pending plain leaves)).leaves found).its (call_after c.mine o) (taken + 1)) (sym on.1) (omega (arith, t, r, z, d))
+      subst (λ o. AreTaken ((access_of object n row v (Move c becomes pending plain leaves)).leaves found).its (call_after c.mine o) (taken + 1)) (sym on.1) (let t = t.0 in omega (arith, t, r, z, d), tt)
   taken_next es s h id v seat (LookInv mine c d c_seq pending fresh) found taken a =
       let t = subst (λ o. AreTaken v.its o taken) pending a in
       let f : reads v.its.read ≡ 0 = ap reads fresh in
-      subst (λ o. AreTaken ((access_of object n row v (LookInv mine c d c_seq pending fresh)).leaves found).its o (taken + 1)) (sym pending) (omega (arith, t, f))
+      subst (λ o. AreTaken ((access_of object n row v (LookInv mine c d c_seq pending fresh)).leaves found).its o (taken + 1)) (sym pending) (let t = t.0 in omega (arith, t, f), tt)
   taken_next es s h id v seat (LookNew mine c d c_seq inv pending read) found taken a =
       let t = subst (λ o. AreTaken v.its o taken) pending a in
       let f : reads v.its.read ≡ 1 = ap reads read in
-      subst (λ o. AreTaken ((access_of object n row v (LookNew mine c d c_seq inv pending read)).leaves found).its o (taken + 1)) (sym pending) (omega (arith, t, f))
+      subst (λ o. AreTaken ((access_of object n row v (LookNew mine c d c_seq inv pending read)).leaves found).its o (taken + 1)) (sym pending) (let t = t.0 in omega (arith, t, f), tt)
   taken_next es s h id v seat (Decide mine c d c_seq inv state pending read) found taken a =
       let t = subst (λ o. AreTaken v.its o taken) pending a in
       let f : reads v.its.read ≡ 2 = ap reads read in
       let some_turn : 1 ≤ v.its.turns = (here h.0 s h.1 h.2 id v seat.0 seat.1 (record { mine = mine; stage = DecideNew c c_seq d }) pending).1 in
-      omega (arith, t, f, some_turn)
+      (let t = t.0 in omega (arith, t, f, some_turn), tt)
   taken_next es s h id v seat (LookReply mine c_seq mine_seq pending later fresh) found taken a =
       let t = subst (λ o. AreTaken v.its o taken) pending a in
       let f : reads v.its.read ≡ 0 = ap reads fresh in
-      subst (λ o. AreTaken ((access_of object n row v (LookReply mine c_seq mine_seq pending later fresh)).leaves found).its o (taken + 1)) (sym pending) (omega (arith, t, f))
+      subst (λ o. AreTaken ((access_of object n row v (LookReply mine c_seq mine_seq pending later fresh)).leaves found).its o (taken + 1)) (sym pending) (let t = t.0 in omega (arith, t, f), later)
   taken_next es s h id v seat (StoreEnd mine c_seq mine_seq reply x pending later read named) found taken a = tt
   taken_next es s h id v seat (LoadEnd mine c_seq mine_seq pending less fresh) found taken a = tt
 
@@ -228,14 +229,14 @@ module _ (object : Sequential ℕ ℕ ℕ) (n row : ℕ) (narrow : IsNarrow obje
       by_step (Decide mine c d c_seq inv state pending read) at later = on (Decide mine c d c_seq inv state pending read) at (record { mine = mine; stage = WriteBefore c c_seq d }) refl later
       by_step (LookReply mine c_seq mine_seq pending less fresh) at later = on (LookReply mine c_seq mine_seq pending less fresh) at _ pending later
       by_step (StoreEnd mine c_seq mine_seq reply x pending less read named) at later =
-          let t = subst (λ o. AreTaken v.its o taken) pending a in
+          let t = (subst (λ o. AreTaken v.its o taken) pending a).0 in
           let f : reads v.its.read ≡ 1 = ap reads read in
           let call : Pending = record { mine = mine; stage = Finish c_seq mine_seq } in
           let steps = (here h.0 s h.1 h.2 id v seat.0 seat.1 call pending).2 in
           let turns = turns_fewer h.0 s h.1 h.2 id v seat.0 seat.1 call pending c_seq mine_seq refl less in
           omega (arith, t, f, steps, turns)
       by_step (LoadEnd mine c_seq mine_seq pending less fresh) at later =
-          let t = subst (λ o. AreTaken v.its o taken) pending a in
+          let t = (subst (λ o. AreTaken v.its o taken) pending a).0 in
           let f : reads v.its.read ≡ 0 = ap reads fresh in
           let its = here h.0 s h.1 h.2 id v seat.0 seat.1 (record { mine = mine; stage = Finish c_seq mine_seq }) pending in
           let steps = its.2 in
@@ -312,16 +313,29 @@ module _ (object : Sequential ℕ ℕ ℕ) (n row : ℕ) (narrow : IsNarrow obje
   )
 
   within_end : (es : List (Event ℕ)) {s : State ℕ View} → Holds object n row narrow es s → (p taken : ℕ) → IsWithin p s taken → (e : Execution object n row s)
-      → steps_of_call object n row p taken e ≤ 12 * n + 15
-  within_end es h p taken w Ends = w.0
+      → IsWithin p (last_state object n row e) (steps_of_call object n row p taken e)
+  within_end es h p taken w Ends = w
   within_end es {s = s} h p taken w (Takes id v seat next i at rest) =
       within_end (es ++ (access_of object n row v next).events) (step_holds object n row narrow es s h id v seat next i at) p (if p == v.first then counted object n row next taken else taken) (within_next es s h id v seat next i at p taken w) rest
   within_end es {s = s} h p taken w (Splits id v at some_left rest) = within_end es (split_holds object n row narrow es s h id v at some_left) p taken (within_split s id v at some_left p taken w) rest
   within_end es {s = s} h p taken w (Joins id v other x at at_other apart some_left idle single its_idle rest) =
       within_end es (join_holds object n row narrow es s h id v other x at at_other apart some_left idle single its_idle) p taken (within_join s id v other x at p taken w) rest
 
-  pub keeps_bound : (e : Execution object n row (opened_table object n row)) → KeepsBound object n row e
-  keeps_bound e p = within_end [] (opening_holds object n row narrow) p 0 (
+  taken_by : (e : Execution object n row (opened_table object n row)) (p : ℕ) → IsWithin p (last_state object n row e) (steps_of_call object n row p 0 e)
+  taken_by e p = within_end [] (opening_holds object n row narrow) p 0 (
     omega arith,
     λ id v at among. let h = only_seat object n row narrow.0 id v at in subst (λ (z : View). AreTaken z.known.its z.known.its.call 0) h.1 tt,
   ) e
+
+  pub keeps_bound : (e : Execution object n row (opened_table object n row)) → KeepsBound object n row e
+  keeps_bound e p = (taken_by e p).0
+
+  pub never_blocks : (e : Execution object n row (opened_table object n row)) → NeverBlocks object n row e
+  never_blocks e id v seat busy = by_call v.its.call refl busy where
+    by_call : (o : Option Pending) → v.its.call ≡ o → IsSome o → CanStep object n row v
+    by_call None pending busy = cc
+    by_call (Some c) pending busy =
+        let h = end_holds object n row narrow e in
+        let among : IsAmong v.first v = (let z = seat.1 in (omega arith, omega (arith, z))) in
+        let taken = subst (λ o. AreTaken v.its o (steps_of_call object n row v.first 0 e)) pending ((taken_by e v.first).1 id (record { known = v }) seat.0 among) in
+        subst (λ k. CanStep object k row v) h.1 (can_step object row h.0 (last_state object n row e) h.2 id v seat.0 seat.1 c pending taken.1)

@@ -1,5 +1,5 @@
 -- What is said of every execution.
-use Rattle.std.specs.Prelude.{◌≡◌, ℕ, ◌+◌, ◌*◌, ◌<◌, ◌≤◌, ◌^◌, List, ◌++◌, Contains}
+use Rattle.std.specs.Prelude.{◌≡◌, ℕ, ◌+◌, ◌*◌, ◌<◌, ◌≤◌, ◌^◌, List, ◌++◌, Contains, Some, IsSome}
 use mathlib.Core.Option.{some}
 use lib.ListN.{get_elem?}
 use Rattle.seq_object.specs.Sequential.{Sequential}
@@ -9,9 +9,12 @@ use Rattle.uni_model.specs.HerlihyWing.{IsLinearizedByCompletion, IsWellFormed, 
 use Rattle.uni_model.specs.Linearizable.{observed_in}
 use Rattle.uni_model.specs.ProcessCalls.{ProcessCalls, sequential_acts}
 use Rattle.uni_model.specs.Worlds.{AreAccepted, Event}
-use Rattle.uni_words.specs.Execution.{Execution, events, goes_on, last_state, opened_table, steps_of_call}
+use Rattle.uni_words.specs.Execution.{Execution, Next, access_of, events, goes_on, last_state, opened_table, steps_of_call}
+use Rattle.uni_words.specs.Laws.{HasSeat}
 use Rattle.uni_words.specs.Run.{opened}
 use Rattle.uni_words.specs.Shown.{IsAmong, acts_in_view}
+use Rattle.uni_words.specs.View.{Known}
+use Rattle.uni_words.specs.Words.{word_of}
 use Rattle.uni_words.specs.declared.view.View.{View}
 
 -- the states and replies of an object stay below 2^31, as the contract of a `WordObject` asks
@@ -50,6 +53,15 @@ module _ (object : Sequential ℕ ℕ ℕ) (n row : ℕ) where
     pub keeps_order : (e : FromOpening) (more : Execution object n row (last_state object n row e))
         → (further : List (Invoked ℕ))
         × (order (events object n row (goes_on object n row e more)) ≡ order (events object n row e) ++ further)
+
+  -- a step that the seat can take next, at a word that the table has; with a call pending it is one of the call
+  abbrev pub CanStep : Known → Type 0
+  CanStep v =
+      (next : Next object n row v) × ((word : ℕ) × (word_of n row (access_of object n row v next).place ≡ Some word))
+
+  -- wherever an execution has come to, a seat with a call pending can take a step
+  abbrev pub NeverBlocks : FromOpening → Type 0
+  NeverBlocks e = (id : ℕ) (v : Known) → HasSeat (last_state object n row e) id v → IsSome v.its.call → CanStep v
 
   -- At the end of this execution no process has taken more word steps than this in its latest call. Said of every
   -- execution it bounds every call, which is its process's latest at the end of some shorter one.

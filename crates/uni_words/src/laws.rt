@@ -9,8 +9,7 @@ ghost use Rattle.uni_model.specs.Worlds.{WorldOf};
 ghost use Rattle.uni_words.specs.Laws.{StoreBegins, WordStepMoves, StoreEnds, LoadEnds, LoadKeeps, OwnCallsRise};
 ghost use Rattle.uni_words.specs.Laws.{AskKeeps, JoinKeeps, OpeningShows, ReturnedIsThere, SplitKeeps};
 ghost use Rattle.seq_object.specs.declared.call_id.CallId.{CallId};
-ghost use Rattle.uni_words.specs.Execution.{Execution, opened_table};
-ghost use Rattle.uni_words.specs.Linearized.{AreLinearizedStrongly, IsNarrow, KeepsBound};
+ghost use Rattle.uni_words.specs.Linearized.{AreLinearizedStrongly, FromOpening, IsNarrow, KeepsBound, NeverBlocks};
 ghost use Rattle.uni_words.specs.View.{Known, Reading};
 ghost use Rattle.uni_words.specs.declared.view.View.{View};
 
@@ -101,10 +100,12 @@ pub fn every_execution_is_linearizable<O: WordObject>()
         → AreLinearizedStrongly (O.sequential object) n row }
 {}
 
-/// Of a narrow object (`IsNarrow`), the construction on words is bounded in every execution: no call takes more than
-/// `12 * n + 15` word steps of its own process, whatever the others do. To ask about a call is no step of one.
-pub fn every_call_is_bounded<O: WordObject>()
-    ensures { (object : O) (n row : ℕ) → IsNarrow (O.sequential object)
-        → (e : Execution (O.sequential object) n row (opened_table (O.sequential object) n row))
-        → KeepsBound (O.sequential object) n row e }
+/// Of a narrow object (`IsNarrow`), the construction on words is wait-free in every execution: a seat with a call
+/// pending can always take a step of it, and no call takes more than `12 * n + 15` word steps of its own process,
+/// whatever the others do. To ask about a call is no step of one.
+pub fn every_call_is_wait_free<O: WordObject>()
+    ensures never_blocks { (object : O) (n row : ℕ) → IsNarrow (O.sequential object)
+        → (e : FromOpening (O.sequential object) n row) → NeverBlocks (O.sequential object) n row e }
+    ensures bound { (object : O) (n row : ℕ) → IsNarrow (O.sequential object)
+        → (e : FromOpening (O.sequential object) n row) → KeepsBound (O.sequential object) n row e }
 {}

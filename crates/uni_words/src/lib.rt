@@ -17,7 +17,7 @@ mod words;
 pub use apply::{Answer, RowFull};
 pub use compare::differs;
 pub use laws::{
-    ask_keeps, every_call_is_bounded, every_execution_is_linearizable, join_keeps, load_ends,
+    ask_keeps, every_call_is_wait_free, every_execution_is_linearizable, join_keeps, load_ends,
     load_keeps, opening_shows, own_calls_rise, returned_is_there, split_keeps, store_begins,
     store_ends, word_step_moves,
 };
