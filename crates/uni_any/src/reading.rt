@@ -80,8 +80,8 @@ impl<O: SeqObject> AnySeat<O> {
     }
 
     /// Asks whether this version has come: it finds the present version, as `refresh` does. The answer is `true`
-    /// exactly where that one's number is at least the one that was asked for. What the version has, `refresh` tells,
-    /// and no clause of this call.
+    /// exactly where that one's number is at least the one that was asked for. `version` shows it then, and `told` says
+    /// of it what `refresh` does.
     ///
     /// The version of each call that was answered has come: the law `returned_has_come` says so, and no clause of
     /// this call. So whoever was told of a call's version, by whatever means, and follows it, makes its later calls
@@ -96,6 +96,10 @@ impl<O: SeqObject> AnySeat<O> {
         ensures calls { (own_calls self.new ≡ own_calls self.old)
             × (pending_call self.new ≡ pending_call self.old) }
         ensures asked { IfOk result (λ come. IsTrue come ↔ (version ≤ version_of self.new)) }
+        ensures told { OnOk result (
+            IsVersionOf (O.sequential (object_of shared.now)) (processes_of shared.now) (known_calls self.new ∷ [])
+            (version_of self.new) (version_seen O.sequential shared.now self.new).image) }
+        ensures number { OnOk result ((version_seen O.sequential shared.now self.new).number ≡ version_of self.new) }
         ensures later { version_of self.old ≤ version_of self.new }
         ensures few_steps { OnOk result (word_steps_of self.new ≤ word_steps_of self.old + read_steps) }
     {
