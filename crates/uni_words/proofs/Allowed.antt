@@ -1,5 +1,5 @@
 -- What the functions of the word steps ask, in parts.
-use Rattle.uni_words.proofs.Vocabulary.{Allows, Announce, Content, Finish, GoesBy, HasLooked, HasMoved, InvOf, IsAtStage, IsIdle, IsWithin, Link, Me, Memory, Moved, Name, None, Of, Option, Pending, Place, ReadAnnounce, Reading, Rule, Sequential, Setup, Some, Stage, Test, View, WordLog, ap, arith, begun_by, call_after, cells_of, content_after, content_of, either, eqb, exchanged, if◌then◌else◌, index_in, index_of, inl, inr, link_of, looked_at, lt_cases, moved_at, name_of, name_of-index_of, nat_lt, none, number_cases, option_map, option_or, place_of, refl, stage_found, start_of, step, subst, suc, sym, turn_of, word_of, zero, ℕ, ◌*◌, ◌+◌, ◌<◌, ◌==◌, ◌∙◌, ◌≡◌, ◌≤◌}
+use Rattle.uni_words.proofs.Vocabulary.{Allows, Announce, Nothing, Content, Finish, GoesBy, HasLooked, HasMoved, InvOf, IsAtStage, IsIdle, IsWithin, Link, Me, Memory, Moved, Name, None, Of, Option, Pending, Place, ReadAnnounce, Reading, Rule, Sequential, Setup, Some, Stage, Test, View, WordLog, ap, arith, begun_by, call_after, cells_of, content_after, content_of, either, eqb, exchanged, if◌then◌else◌, index_in, index_of, inl, inr, link_of, looked_at, lt_cases, moved_at, name_of, name_of-index_of, nat_lt, none, number_cases, option_map, option_or, place_of, refl, stage_found, start_of, step, subst, suc, sym, turn_of, word_of, zero, ℕ, ◌*◌, ◌+◌, ◌<◌, ◌==◌, ◌∙◌, ◌≡◌, ◌≤◌}
 use Rattle.atomic_table.specs.Table.{Step}
 use Rattle.uni_words.proofs.Columns.{index_in-name_of, word_below}
 use Rattle.uni_words.specs.Execution.{IsPlain}
@@ -115,6 +115,10 @@ goes_one me c found t me' moved turn = subst (λ to. GoesBy me to 1 t) (sym move
   number = refl;
   carried = refl;
 })
+
+-- what was read is read for the step before
+pub fresh_then : (c : Pending) (found : ℕ) (me me' : Me ℕ View) → HasMoved me c found me' → me'.0.known.its.read ≡ Nothing
+fresh_then c found me me' moved = ap (λ (x : Me ℕ View). x.0.known.its.read) moved.view
 
 pub within_here : (n row p : ℕ) (mine : Name) (stage : Stage) (found : ℕ) (me me' : Me ℕ View) → HasMoved me (record { mine = mine; stage = stage }) found me' → IsAtStage n row p mine stage me → IsWithin n row (place_of n p mine stage) found
 within_here n row p mine stage found me me' moved stands =

@@ -1,5 +1,7 @@
 -- A seat asks about a call.
 use Rattle.uni_words.proofs.Vocabulary.{All, All-append, All-contains, All-map, Allows, Anchor, CallId, Contains, Contains-append_cases, Event, FirstCalls, Has, HasAsked, HasCall, HasReturned, HasSeen, InvOf, IsShown, Known, Leads, LeadsTo, List, Me, Name, None, Of, ProcessCalls, Seen, SeqOf, Sequential, ShowsRun, Some, StandInLog, StandsAt, State, View, WorldOf, [], after_word, all_of, ap, append-nil, arith, asked_of, calls_in_view, chain, get_elem?, inl, inr, inv_of, keeps, length, log, log_of_run, logged_in_view, lt_cases, map, opened, option_and_then, own_of, refl, response_in, seen_of, seq_of, slice_get, slice_index, slice_set, some, subst, suc, sym, told_by, up_to, word_at, word_of, zero, ℕ, ◌+◌, ◌<◌, ◌∙◌, ◌∷◌, ◌≡◌, ◌≤◌}
+use Rattle.uni_words.specs.Execution.Next.{Ask}
+use Rattle.uni_words.proofs.Ran.{one_step}
 use Rattle.atomic_table.specs.Table.{Step}
 use Rattle.uni_model.proofs.Growing.{entry_of, slice_get-log}
 use Rattle.uni_model.proofs.OneLists.{HasOneList-held}
@@ -161,7 +163,7 @@ asks object row n slots id i st me n_is row_is single idle at_word call word_n s
       record { known = asked_of me.0.known call (slice_index s.words i) },
       keeps,
       tt,
-      led n shown.1 shown.3 (asked_leads object row w s shown.2 id me.0.known at single idle call i word),
+      led n shown.1 shown.3 (one_step object n row s id me.0.known (at, single) (Ask call idle) i word_n) (asked_leads object row w s shown.2 id me.0.known at single idle call i word),
       λ other e.
           let other_word : word_of n row (SeqOf (Of other.process other.nth)) ≡ Some i = subst (λ k. word_of k row (SeqOf (Of other.process other.nth)) ≡ Some i) n_is (subst (λ r. word_of me.0.known.n r (SeqOf (Of other.process other.nth)) ≡ Some i) row_is (e ∙ ap Some at_word)) in (
             ap (λ c. (record { known = asked_of me.0.known c (slice_index s.words i) }, me.1)) (same_call n row i call other word_n other_word),

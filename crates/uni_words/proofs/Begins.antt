@@ -1,5 +1,7 @@
 -- The word step that begins a call.
-use Rattle.uni_words.proofs.Vocabulary.{Allows, Anchor, Announce, Bool, Call, CountsSteps-world_after, Grows, HasBegun, HelpingInvariant-begun, InvOf, Invariant-begun, IsLocal, IsShown, Known, Leads, List, Me, Memory, Name, None, Of, Place, Sequential, ShowsRun, Some, State, View, WorldOf, [], after_word, ap, arith, begun_by, cond, content_of, false, get_elem?, inl, inr, inv_of, invocation_in, keeps, length, length-set, lt_cases, memory_of, memory_with, nat_lt, number_cases, pending_count, place_eq, place_eq_false, place_eq_true, refl, set_at_elsewhere, set_at_same, slice_set, some, subst, sym, true, word_at, word_of, world_after_call, ℕ, ◌+◌, ◌<◌, ◌∙◌, ◌∷◌, ◌≡◌, ◌≢◌, ◌≤◌}
+use Rattle.uni_words.proofs.Vocabulary.{◌^◌, Allows, Anchor, Announce, Bool, Call, CountsSteps-world_after, Grows, HasBegun, HelpingInvariant-begun, InvOf, Invariant-begun, IsLocal, IsShown, Known, Leads, List, Me, Memory, Name, None, Of, Place, Sequential, ShowsRun, Some, State, View, WorldOf, [], after_word, ap, arith, begun_by, cond, content_of, false, get_elem?, inl, inr, inv_of, invocation_in, keeps, length, length-set, lt_cases, memory_of, memory_with, nat_lt, number_cases, pending_count, place_eq, place_eq_false, place_eq_true, refl, set_at_elsewhere, set_at_same, slice_set, some, subst, sym, true, word_at, word_of, world_after_call, ℕ, ◌+◌, ◌<◌, ◌∙◌, ◌∷◌, ◌≡◌, ◌≢◌, ◌≤◌}
+use Rattle.uni_words.specs.Execution.Next.{Begin}
+use Rattle.uni_words.proofs.Ran.{one_step}
 use Rattle.atomic_table.specs.Table.{Step}
 use Rattle.uni_model.specs.Places.Content.{Invocation}
 use Rattle.uni_words.proofs.Locality.{set_here, set_elsewhere}
@@ -118,14 +120,14 @@ module _ (object : Sequential ℕ ℕ ℕ) (row : ℕ) where
           run_begins object n row w s is events run id v at single idle inv (record { mine = Of p v.its.begun; stage = Announce }) (begun_by v inv) refl single refl refl refl refl refl;
     }
 
-  pub begins : (n slots id i : ℕ) (st : Step ℕ) (me : Me ℕ View) (inv : ℕ) → me.0.known.count ≡ 1 → me.0.known.its.call ≡ None → me.0.known.its.begun < row
+  pub begins : (n slots id i : ℕ) (st : Step ℕ) (me : Me ℕ View) (inv : ℕ) → inv < 2 ^ 64 → me.0.known.count ≡ 1 → me.0.known.its.call ≡ None → me.0.known.its.begun < row
       → word_of n row (InvOf (Of me.0.known.first me.0.known.its.begun)) ≡ Some i
       → Allows (ShowsRun object n row) slots id me i (λ x. inv) (λ found me'. HasBegun st me inv me')
-  begins n slots id i st me inv single idle room word s shown deep at small =
+  begins n slots id i st me inv narrow single idle room word s shown deep at small =
       let word_w : word_of shown.0.n row (InvOf (Of me.0.known.first me.0.known.its.begun)) ≡ Some i = subst (λ k. word_of k row (InvOf (Of me.0.known.first me.0.known.its.begun)) ≡ Some i) (sym shown.1) word in (
         record { known = begun_by me.0.known inv },
         keeps,
         tt,
-        led n shown.1 shown.3 (begun_leads shown.0 s shown.2 id me.0.known at single idle room i word_w inv),
+        led n shown.1 shown.3 (one_step object n row s id me.0.known (at, single) (Begin inv narrow idle room) i word) (begun_leads shown.0 s shown.2 id me.0.known at single idle room i word_w inv),
         refl,
       )

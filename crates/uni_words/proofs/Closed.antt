@@ -1,5 +1,6 @@
 -- What closing tells, in the words of the log.
-use Rattle.uni_words.proofs.Vocabulary.{All, Anchor, AreAnswered, AreCallCells, AreCallsOf, Contains, Event, Final, HasOutcome, HasSeen, IsChained, IsInOrder, IsLegal, IsLogOfRun, IsLogOfSeenRun, IsLogged, IsShown, LastHasNumber, LeadsTo, List, None, Of, ProcessCalls, Rule, Sequential, Setup, Some, State, View, WorldOf, acts_by, ap, arith, calls_by, calls_in_view, inl, inr, length, log, log_of, log_of_run, logged_call, map, opened, replied, run_history, seq_of, sequential_acts, slice_get, subst, sym, take, told_memory, ℕ, ◌∙◌, ◌≡◌, ◌≤◌}
+use Rattle.uni_words.proofs.Vocabulary.{All, Anchor, AreAnswered, AreCallCells, AreCallsOf, Contains, Event, Final, HasOutcome, HasSeen, IsChained, IsInOrder, IsLegal, IsLogged, IsShown, LastHasNumber, LeadsTo, List, None, Of, ProcessCalls, Rule, Sequential, Setup, Some, State, View, WorldOf, acts_by, ap, arith, calls_by, calls_in_view, inl, inr, length, log, log_of, log_of_run, logged_call, map, opened, replied, run_history, seq_of, sequential_acts, slice_get, subst, sym, take, told_memory, ℕ, ◌∙◌, ◌≡◌, ◌≤◌}
+use Rattle.uni_words.specs.Ran.{IsLogOfExecution}
 use Rattle.atomic_table.specs.Table.{Seen}
 use Rattle.uni_model.specs.Responses.{HoldsResponses, calls_among}
 use Rattle.uni_model.proofs.Ordered.{KeepsRealTime-holds}
@@ -94,10 +95,10 @@ module _ {O : Type 0} (meaning : O → Sequential ℕ ℕ ℕ) (told setup : Set
   was_seen : (t : SeenCalls) → Contains view.known.seen t → HasSeen object setup.n events t
   was_seen t has = run.seen id view last.1.1 t has
 
-  -- the run that the rule carries
-  pub closed_seen : view.known.count ≡ 1 → view.known.its.call ≡ None → IsLogOfSeenRun object setup.n (log_of setup.n setup.k words) (calls_in_view view) view.known.seen
-  closed_seen single idle = (
-    record {
+  -- the run that the rule carries, and the execution
+  pub closed_execution : view.known.count ≡ 1 → view.known.its.call ≡ None → IsLogOfExecution object setup.n setup.k (log_of setup.n setup.k words) (calls_in_view view) view.known.seen
+  closed_execution single idle = (
+    (record {
       events = events;
       accepted = run.accepted;
       one_era = run.one_era;
@@ -111,11 +112,9 @@ module _ {O : Type 0} (meaning : O → Sequential ℕ ℕ ℕ) (told setup : Set
         | inr taken ↦ run.taken id view last.1.1 c taken
       ];
     },
-    All-each (HasSeen object setup.n events) view.known.seen was_seen,
+    All-each (HasSeen object setup.n events) view.known.seen was_seen),
+    (last.1.0.3.2.0, last.1.0.3.2.2),
   )
-
-  pub closed_run : view.known.count ≡ 1 → view.known.its.call ≡ None → IsLogOfRun object setup.n (log_of setup.n setup.k words) (calls_in_view view)
-  closed_run single idle = (closed_seen single idle).0
 
   pub closed_order : All (IsInOrder (log_of setup.n setup.k words)) view.known.seen
   closed_order = All-each (IsInOrder (log_of setup.n setup.k words)) view.known.seen (λ t has. subst (λ l. IsInOrder l t) joined (in_order object setup.n events run.accepted t (was_seen t has)))

@@ -1,5 +1,8 @@
 -- The exchange of `new`, which is always tried.
-use Rattle.uni_words.proofs.Vocabulary.{Allows, State, get_elem?, some, Anchor, Applied, Content, DecideNew, HasMoved, HasRead, IsShown, Known, Me, Moved, Name, NewOf, Of, Option, Pending, Sequential, Settled, ShowsRun, Some, Stage, View, WorldOf, WriteBefore, ap, arith, content_of, either, eqb, exchanged, inl, inr, inv_of, keeps, moved_at, new_of, new_of-memory_with, option_or, refl, settled_at, settled_in, settled_word, slice_index, stage_found, subst, suc, sym, value_after, word_of, zero, ℕ, ◌*◌, ◌+◌, ◌<◌, ◌^◌, ◌∙◌, ◌≡◌, ◌≢◌}
+use Rattle.uni_words.proofs.Vocabulary.{◌==◌, after_word, Bool, if◌then◌else◌, true, false, [], ◌∷◌, Allows, State, get_elem?, some, Anchor, Applied, Content, DecideNew, HasMoved, HasRead, IsShown, Known, Me, Moved, Name, NewOf, Of, Option, Pending, Sequential, Settled, ShowsRun, Some, Stage, View, WorldOf, WriteBefore, ap, arith, content_of, either, eqb, exchanged, inl, inr, inv_of, keeps, moved_at, new_of, new_of-memory_with, option_or, refl, settled_at, settled_in, settled_word, slice_index, stage_found, subst, suc, sym, value_after, word_of, zero, ℕ, ◌*◌, ◌+◌, ◌<◌, ◌^◌, ◌∙◌, ◌≡◌, ◌≢◌}
+use Rattle.uni_model.specs.Worlds.Event.{Step as StepEvent}
+use Rattle.uni_words.specs.Execution.Next.{Decide}
+use Rattle.uni_words.proofs.Ran.{GoesTo, one_step}
 use Rattle.atomic_table.specs.Table.{Step}
 use Rattle.uni_model.proofs.Values.{not_anchor}
 use Rattle.uni_words.proofs.Codes.{settled_at-word}
@@ -16,6 +19,10 @@ exchanged_is Anchor apart state reply small found = absurd (apart refl)
 exchanged_is (Of q k) apart state reply small zero = settled_at-word q k state reply small
 exchanged_is (Of q k) apart state reply small (suc found) = exchanged (suc found) 0 (settled_word state reply)
     (λ x. settled_at (Of q k) x ≡ option_or (settled_at (Of q k) (suc found)) (Some (state, Some reply))) (λ e. absurd (omega arith)) (λ apart'. refl)
+
+pub either_is : (b : Bool) (x y : ℕ) → either b x y ≡ (if b then x else y)
+either_is true x y = refl
+either_is false x y = refl
 
 decision_fits : (found : ℕ) (d : Name) (state reply : ℕ) → state < 2 ^ 31 → {m' : Option (ℕ × Option ℕ)} → ((u : ℕ × Option ℕ) → m' ≡ Some u → u.0 < 2 ^ 31) → settled_at d found ≡ m'
     → (u : ℕ × Option ℕ) → option_or (settled_at d found) (Some (state, Some reply)) ≡ Some u → u.0 < 2 ^ 31
@@ -82,7 +89,8 @@ module _ (object : Sequential ℕ ℕ ℕ) (row : ℕ) where
         record { known = moved_at v call found },
         keeps,
         tt,
-        led n shown.1 shown.3 leads,
+        led n shown.1 shown.3 (subst (λ y. GoesTo object n row s (StepEvent v.first ∷ []) (after_word s i y id (moved_at v call found))) (sym (either_is (found == 0) (settled_word (object.next state inv) (object.answer state inv)) found))
+            (one_step object n row s id v (at, single) (Decide mine c d c_seq inv state pending read) i word_n)) leads,
         λ o other. (let e : call ≡ o = (let g = sym pending ∙ other in cc) in subst (λ (k : Pending). HasMoved me k found (record { known = moved_at v call found }, me.1)) e moved),
       )
 

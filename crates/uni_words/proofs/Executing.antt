@@ -1,5 +1,5 @@
 -- Every execution from the opening shows a world of the construction, to which its events lead.
-use Rattle.uni_words.proofs.Vocabulary.{AreAccepted, WriteBefore, stage_found, looked_at, moved_at, DecideNew, Event, Finish, HeadOf, InvOf, Invocation, Applied, IsShown, Known, None, after_join, after_split, Leads, LeadsTo, List, NewOf, Of, Pending, Place, Reading, Reply, SeqOf, Sequential, Some, Stage, State, Step, View, WorldOf, [], after_word, ap, append-nil, append_assoc, arith, content_after, content_of, either, get_elem?, if◌then◌else◌, name_of, opened, place_of, refl, reply_in, settled_word, slice_index, some, state_in, subst, sym, word_of, ℕ, true, false, Bool, ◌++◌, ◌==◌, ◌∙◌, ◌∷◌, ◌≡◌, ◌≢◌, ◌≤◌}
+use Rattle.uni_words.proofs.Vocabulary.{AreAccepted, WriteBefore, stage_found, looked_at, moved_at, DecideNew, Event, Finish, HeadOf, InvOf, Invocation, Applied, IsShown, Known, None, after_join, after_split, Leads, LeadsTo, List, NewOf, Of, Pending, Place, Reading, Reply, SeqOf, Sequential, Some, Stage, State, Step, View, WorldOf, [], after_word, ap, append-nil, append_assoc, arith, content_after, content_of, either, get_elem?, name_of, opened, place_of, refl, reply_in, settled_word, slice_index, some, state_in, subst, sym, word_of, ℕ, ◌++◌, ◌==◌, ◌∙◌, ◌∷◌, ◌≡◌, ◌≢◌, ◌≤◌}
 use Rattle.uni_words.specs.Execution.{Execution, Next, access_of, after_access, events, goes_on, last_state, opened_table}
 use Rattle.uni_words.specs.Execution.Next.{Begin, Ask, Move, LookInv, LookNew, Decide, LookReply, StoreEnd, LoadEnd}
 use Rattle.uni_words.specs.Execution.Execution.{Ends, Takes, Splits, Joins}
@@ -7,7 +7,8 @@ use Rattle.uni_words.specs.Laws.{HasSeat}
 use Rattle.uni_words.specs.Linearized.{AreLinearizedStrongly, IsNarrow}
 use Rattle.uni_words.proofs.Asking.{asked_leads}
 use Rattle.uni_words.proofs.Begins.{begun_leads}
-use Rattle.uni_words.proofs.Decides.{decided_fits, decided_writes}
+use Rattle.uni_words.proofs.Decides.{decided_fits, decided_writes, either_is}
+use Rattle.uni_words.proofs.Ran.{events_more}
 use Rattle.uni_words.proofs.Finishes.{loaded_leads, stored_leads}
 use Rattle.uni_words.proofs.Happens.{there}
 use Rattle.uni_words.proofs.Joining.{join_leads}
@@ -53,10 +54,6 @@ module _ (object : Sequential ℕ ℕ ℕ) (n row : ℕ) (narrow : IsNarrow obje
     | inl here ↦ let same : inv ≡ i = (let f = sym here.1 ∙ e in cc) in subst (λ k. k < 2 ^ 64) same fits
     | inr other ↦ asked d i (sym other.1 ∙ e)
   ]
-
-  either_is : (b : Bool) (x y : ℕ) → either b x y ≡ (if b then x else y)
-  either_is true x y = refl
-  either_is false x y = refl
 
   -- a word that the table has is one of the world's
   word_in : (w : WorldOf ℕ ℕ ℕ) → w.n ≡ n → (place : ℕ → Place) (i : ℕ) → word_of n row (place n) ≡ Some i → word_of w.n row (place w.n) ≡ Some i
@@ -139,16 +136,6 @@ module _ (object : Sequential ℕ ℕ ℕ) (n row : ℕ) (narrow : IsNarrow obje
   pub end_holds : (e : Execution object n row (opened_table object n row)) → Holds (events object n row e) (last_state object n row e)
   end_holds e = all_hold [] opening_holds e
 
-  -- the events of an execution that goes on
-  events_more : {s : State ℕ View} (e : Execution object n row s) (more : Execution object n row (last_state object n row e))
-      → events object n row (goes_on object n row e more) ≡ events object n row e ++ events object n row more
-  events_more Ends more = refl
-  events_more (Takes id v seat next word at rest) more =
-      let a = (access_of object n row v next).events in
-      ap (λ l. a ++ l) (events_more rest more) ∙ sym (append_assoc a (events object n row rest) (events object n row more))
-  events_more (Splits id v at some_left rest) more = events_more rest more
-  events_more (Joins id v other x at at_other apart some_left idle single its_idle rest) more = events_more rest more
-
   pub are_strongly : IsStronglyLinearizable object n object.initial 1 → ((es : List (Event ℕ)) → AreAccepted object (opened object n) es → IsWellFormed (observed_in object (opened object n) es))
       → AreLinearizedStrongly object n row
   are_strongly strongly formed =
@@ -163,7 +150,7 @@ module _ (object : Sequential ℕ ℕ ℕ) (n row : ℕ) (narrow : IsNarrow obje
           told_taken = λ id v at its in_it. ap (of_process its.process) (sym (observed-history_of object (opened object n) (events object n row e))) ∙ h.3.taken id v at its in_it;
         };
         keeps_order = λ e more.
-            let both : events object n row (goes_on object n row e more) ≡ events object n row e ++ events object n row more = events_more e more in
+            let both : events object n row (goes_on object n row e more) ≡ events object n row e ++ events object n row more = events_more object n row e more in
             let kept = function.1.keeps_order (events object n row e) (events object n row more) (subst (λ es. AreAccepted object (opened object n) es) both (end_holds (goes_on object n row e more)).3.accepted) in
             (kept.0, ap function.0 both ∙ kept.1);
       }

@@ -1,5 +1,7 @@
 -- The last step of a call.
-use Rattle.uni_words.proofs.Vocabulary.{Allows, CellName, Content, Finish, Grows, HasFinished, HasOutcome, HasRead, HeadOf, IsLocal, IsShown, Known, Leads, List, Me, Name, NewOf, None, Of, Option, Pending, Reply, Sequential, ShowsRun, Some, State, Step, TellsReply, View, WorldOf, [], after_word, ap, arith, content_of, finished_by, get_elem?, inl, inr, keeps, last_number, length, length-append, length-set, lt_cases, memory_of, memory_with, name_of, number_of, pending_count, refl, reply_in, response_in, seq_of, set-get_or, set_at_same, slice_get, slice_index, slice_set, some, subst, suc, sym, word_of, written_same, zero, ℕ, ◌++◌, ◌+◌, ◌<◌, ◌∙◌, ◌∷◌, ◌≡◌, ◌≤◌, ◌⊎◌}
+use Rattle.uni_words.proofs.Vocabulary.{Nothing, Allows, CellName, Content, Finish, Grows, HasFinished, HasOutcome, HasRead, HeadOf, IsLocal, IsShown, Known, Leads, List, Me, Name, NewOf, None, Of, Option, Pending, Reply, Sequential, ShowsRun, Some, State, Step, TellsReply, View, WorldOf, [], after_word, ap, arith, content_of, finished_by, get_elem?, inl, inr, keeps, last_number, length, length-append, length-set, lt_cases, memory_of, memory_with, name_of, number_of, pending_count, refl, reply_in, response_in, seq_of, set-get_or, set_at_same, slice_get, slice_index, slice_set, some, subst, suc, sym, word_of, written_same, zero, ℕ, ◌++◌, ◌+◌, ◌<◌, ◌∙◌, ◌∷◌, ◌≡◌, ◌≤◌, ◌⊎◌}
+use Rattle.uni_words.specs.Execution.Next.{LoadEnd, StoreEnd}
+use Rattle.uni_words.proofs.Ran.{one_step}
 use Rattle.atomic_table.specs.Table as table
 use Rattle.uni_words.proofs.Underway.{HasOutcome-grows, there_below}
 use Rattle.uni_words.proofs.Happens.{own_local, effect, later, memory_grows, memory_set, kept}
@@ -147,18 +149,19 @@ module _ (object : Sequential ℕ ℕ ℕ) (row : ℕ) where
         record { known = finished_by v 1 reply },
         keeps,
         tt,
-        led n shown.1 shown.3 (stored_leads w s shown.2 id v at single (name_of n mine) c_seq mine_seq pending less i mine word (ap (λ k. name_of k mine) shown.1) reply read),
+        led n shown.1 shown.3 (one_step object n row s id v (at, single) (StoreEnd (name_of n mine) c_seq mine_seq reply mine pending less read refl) i word_n)
+        (stored_leads w s shown.2 id v at single (name_of n mine) c_seq mine_seq pending less i mine word (ap (λ k. name_of k mine) shown.1) reply read),
         λ other is. (let one : reply ≡ other = (let f = sym read ∙ is in cc) in
             subst (λ r. HasFinished me 1 r (record { known = finished_by v 1 reply }, me.1)) one (refl, rises w s shown.2 id v at single (name_of n mine) c_seq mine_seq pending)),
       )
 
   pub told_reply : (n slots id i : ℕ) (st : table.Step ℕ) (me : Me ℕ View) → me.0.known.count ≡ 1 → (mine : Name) (c_seq mine_seq : ℕ)
-      → me.0.known.its.call ≡ Some (record { mine = mine; stage = Finish c_seq mine_seq }) → word_of n row (NewOf mine) ≡ Some i
+      → me.0.known.its.call ≡ Some (record { mine = mine; stage = Finish c_seq mine_seq }) → me.0.known.its.read ≡ Nothing → word_of n row (NewOf mine) ≡ Some i
       → Allows (ShowsRun object n row) slots id me i (λ x. x) (λ found me'. TellsReply st me found me')
   unfolding looks_reply
-  told_reply n slots id i st me single mine c_seq mine_seq pending word_n s shown deep at small = elim (lt_cases c_seq mine_seq) [
+  told_reply n slots id i st me single mine c_seq mine_seq pending fresh word_n s shown deep at small = elim (lt_cases c_seq mine_seq) [
     | inl less ↦
-        let h = looks_reply object row n slots id i me single mine c_seq mine_seq pending word_n s shown deep at small in
+        let h = looks_reply object row n slots id i me single mine c_seq mine_seq pending less.0 fresh word_n s shown deep at small in
         (h.0, h.1, h.2, h.3, λ other c m e. (let same = one_finish mine other c_seq mine_seq c m (sym pending ∙ e) in (λ yes. h.4, λ no. absurd (let a = same.0 in let b = same.1 in let d = less.0 in omega arith))))
     | inr more ↦
         let v : Known = me.0.known in
@@ -166,7 +169,7 @@ module _ (object : Sequential ℕ ℕ ℕ) (row : ℕ) where
           record { known = finished_by v 0 (reply_in (slice_index s.words i)) },
           keeps,
           tt,
-          led n shown.1 shown.3 (loaded_leads shown.0 s shown.2 id v at single mine c_seq mine_seq pending more.0 i word),
+          led n shown.1 shown.3 (one_step object n row s id v (at, single) (LoadEnd mine c_seq mine_seq pending more.0 fresh) i word_n) (loaded_leads shown.0 s shown.2 id v at single mine c_seq mine_seq pending more.0 i word),
           λ other c m e. (let same = one_finish mine other c_seq mine_seq c m (sym pending ∙ e) in (λ yes. absurd (let a = same.0 in let b = same.1 in let d = more.0 in omega arith), λ no. (refl, rises shown.0 s shown.2 id v at single mine c_seq mine_seq pending))),
         )
   ]

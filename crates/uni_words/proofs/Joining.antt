@@ -1,5 +1,6 @@
 -- A seat takes in another one.
 use Rattle.uni_words.proofs.Vocabulary.{Contains, Contains-append_cases, Event, HasSeen, IsAmong, IsLocal, IsShown, IsTaken, Joins, Leads, LeadsTo, List, None, Process, ProcessCalls, Seen, Sequential, ShowsRun, State, Tells, View, WorldOf, [], acts_by, acts_in_view, after_join, arith, at_set, calls_in_view, get_elem?, if◌then◌else◌, inl, inr, length, logged_in_view, nobody, number_cases, pending_count, refl, run_history, sequential_acts, set, set_else, some, subst, sym, took_in, ℕ, ◌+◌, ◌==◌, ◌∙◌, ◌≡◌, ◌≢◌, ◌≤◌}
+use Rattle.uni_words.specs.Execution.Execution.{Ends, Joins as JoinsNext}
 use Rattle.uni_words.proofs.Asking.{sees_now, view_logged}
 use Rattle.uni_words.proofs.Running.{idle_acts, led, no_more}
 use Rattle.uni_words.proofs.Views.{Holds-set, first_or}
@@ -137,4 +138,6 @@ module _ (object : Sequential ℕ ℕ ℕ) (row id : ℕ) (v : View) (some_left 
     join_leads = record { shown = join_kept; run = λ n events run. no_more object n events w views' (join_run n events run) }
 
   pub joins : (n : ℕ) → Joins (ShowsRun object n row) id v other x (took_in v x) nobody
-  joins n s shown at apart there = led n shown.1 shown.3 (join_leads shown.0 s shown.2 at apart (sym (set_else s.views id other (took_in v x) apart) ∙ there))
+  joins n s shown at apart there =
+      let it : get_elem? s.views other ≡ some x = sym (set_else s.views id other (took_in v x) apart) ∙ there in
+      led n shown.1 shown.3 (JoinsNext id v other x at it apart some_left own_idle single idle Ends, refl, refl) (join_leads shown.0 s shown.2 at apart it)

@@ -1,5 +1,7 @@
 -- The word steps that are no events: reads of settled words.
-use Rattle.uni_words.proofs.Vocabulary.{Allows, Anchor, Applied, Bool, DecideNew, Finish, Has, HasLooked, HasRead, InvOf, Invocation, IsLocal, IsShown, IsUnderway, Known, Leads, Me, Name, NewOf, None, Of, Option, Reading, Reply, Sequential, ShowsRun, Some, Stage, Stands, State, TellsState, View, WorldOf, [], after_word, ap, arith, cond, false, get_elem?, head_number, inv_of, keeps, linked_call, looked_at, nat_lt, new_of, option_and_then, refl, reply_at, reply_in, response_in, seq_of, settled_at, slice_index, slice_set, some, state_in, subst, suc, sym, true, word_at, word_of, zero, ℕ, ◌<◌, ◌^◌, ◌∙◌, ◌≡◌, ◌≤◌}
+use Rattle.uni_words.proofs.Vocabulary.{Nothing, Allows, Anchor, Applied, Bool, DecideNew, Finish, Has, HasLooked, HasRead, InvOf, Invocation, IsLocal, IsShown, IsUnderway, Known, Leads, Me, Name, NewOf, None, Of, Option, Reading, Reply, Sequential, ShowsRun, Some, Stage, Stands, State, TellsState, View, WorldOf, [], after_word, ap, arith, cond, false, get_elem?, head_number, inv_of, keeps, linked_call, looked_at, nat_lt, new_of, option_and_then, refl, reply_at, reply_in, response_in, seq_of, settled_at, slice_index, slice_set, some, state_in, subst, suc, sym, true, word_at, word_of, zero, ℕ, ◌<◌, ◌^◌, ◌∙◌, ◌≡◌, ◌≤◌}
+use Rattle.uni_words.specs.Execution.Next.{LookInv, LookNew, LookReply}
+use Rattle.uni_words.proofs.Ran.{one_step}
 use Rattle.atomic_table.specs.Table.{Step}
 use Rattle.uni_words.proofs.Locality.{word_here}
 use Rattle.uni_words.proofs.Happens.{own_local, knows_more}
@@ -60,9 +62,9 @@ module _ (object : Sequential ℕ ℕ ℕ) (row : ℕ) where
       }
 
   pub looks_inv : (n slots id i : ℕ) (me : Me ℕ View) → me.0.known.count ≡ 1 → (mine c d : Name) (c_seq : ℕ) → me.0.known.its.call ≡ Some (record { mine = mine; stage = DecideNew c c_seq d })
-      → word_of n row (InvOf d) ≡ Some i
+      → me.0.known.its.read ≡ Nothing → word_of n row (InvOf d) ≡ Some i
       → Allows (ShowsRun object n row) slots id me i (λ x. x) (λ found me'. HasLooked me (Invocation found) me')
-  looks_inv n slots id i me single mine c d c_seq pending word_n s shown deep at small =
+  looks_inv n slots id i me single mine c d c_seq pending fresh word_n s shown deep at small =
       let w : WorldOf ℕ ℕ ℕ = shown.0 in
       let is : IsShown object row w s = shown.2 in
       let word : word_of w.n row (InvOf d) ≡ Some i = subst (λ k. word_of k row (InvOf d) ≡ Some i) (sym shown.1) word_n in
@@ -72,7 +74,8 @@ module _ (object : Sequential ℕ ℕ ℕ) (row : ℕ) where
         record { known = looked_at me.0.known (Invocation (slice_index s.words i)) },
         keeps,
         tt,
-        led n shown.1 shown.3 (looked_leads w s is id me.0.known at single mine (DecideNew c c_seq d) pending i (Invocation (slice_index s.words i)) (inv_told w s is d i word has)),
+        led n shown.1 shown.3 (one_step object n row s id me.0.known (at, single) (LookInv mine c d c_seq pending fresh) i word_n)
+        (looked_leads w s is id me.0.known at single mine (DecideNew c c_seq d) pending i (Invocation (slice_index s.words i)) (inv_told w s is d i word has)),
         refl,
       )
 
@@ -92,7 +95,8 @@ module _ (object : Sequential ℕ ℕ ℕ) (row : ℕ) where
         record { known = looked_at me.0.known (Applied inv (state_in (slice_index s.words i))) },
         keeps,
         tt,
-        led n shown.1 shown.3 (looked_leads w s is id me.0.known at single mine (DecideNew c c_seq d) pending i (Applied inv (state_in (slice_index s.words i))) (had, (reply_at c (reply_in (slice_index s.words i)), told.1))),
+        led n shown.1 shown.3 (one_step object n row s id me.0.known (at, single) (LookNew mine c d c_seq inv pending read) i word_n)
+        (looked_leads w s is id me.0.known at single mine (DecideNew c c_seq d) pending i (Applied inv (state_in (slice_index s.words i))) (had, (reply_at c (reply_in (slice_index s.words i)), told.1))),
         (refl, is.words.fits c (state_in (slice_index s.words i), reply_at c (reply_in (slice_index s.words i))) told.1),
       )
 
@@ -110,14 +114,15 @@ module _ (object : Sequential ℕ ℕ ℕ) (row : ℕ) where
       ap (λ o. option_and_then (λ (new : ℕ × Option ℕ). new.1) o) told.1 ∙ ap (λ x. reply_at x (reply_in (slice_index s.words i))) its.1
 
   unfoldable pub looks_reply : (n slots id i : ℕ) (me : Me ℕ View) → me.0.known.count ≡ 1 → (mine : Name) (c_seq mine_seq : ℕ) → me.0.known.its.call ≡ Some (record { mine = mine; stage = Finish c_seq mine_seq })
-      → word_of n row (NewOf mine) ≡ Some i
+      → c_seq < mine_seq → me.0.known.its.read ≡ Nothing → word_of n row (NewOf mine) ≡ Some i
       → Allows (ShowsRun object n row) slots id me i (λ x. x) (λ found me'. HasLooked me (Reply (reply_in found)) me')
-  looks_reply n slots id i me single mine c_seq mine_seq pending word_n s shown deep at small =
+  looks_reply n slots id i me single mine c_seq mine_seq pending later fresh word_n s shown deep at small =
       let word : word_of shown.0.n row (NewOf mine) ≡ Some i = subst (λ k. word_of k row (NewOf mine) ≡ Some i) (sym shown.1) word_n in (
         record { known = looked_at me.0.known (Reply (reply_in (slice_index s.words i))) },
         keeps,
         tt,
-        led n shown.1 shown.3 (looked_leads shown.0 s shown.2 id me.0.known at single mine (Finish c_seq mine_seq) pending i (Reply (reply_in (slice_index s.words i)))
+        led n shown.1 shown.3 (one_step object n row s id me.0.known (at, single) (LookReply mine c_seq mine_seq pending later fresh) i word_n)
+            (looked_leads shown.0 s shown.2 id me.0.known at single mine (Finish c_seq mine_seq) pending i (Reply (reply_in (slice_index s.words i)))
             (reply_told shown.0 s shown.2 id me.0.known at single mine c_seq mine_seq pending i word)),
         refl,
       )

@@ -1,5 +1,7 @@
 -- The word steps that are events, all but those of `new` and of the last step of a call.
 use Rattle.uni_words.proofs.Vocabulary.{Allows, Content, DecideNew, Effect, Finish, Grows, HasMoved, IsCounted-pending, IsLocal, IsShown, IsUnderway, IsWithin, Known, Leads, List, Me, Memory, Moved, Name, NewOf, None, Nothing, Of, Option, Pending, Place, Sequential, ShowsRun, Some, Stage, State, Step, View, WorldOf, [], after_word, ap, arith, at_its_cell, call_after, content_after, content_of, get_elem?, get_or-set_same, keeps, length, length-set, memory_with, moved_at, new_of, pending_count, place_of, refl, response_after, set_at_same, slice_index, slice_set, some, stage_after, stage_found, subst, sym, turn_of, turns_bounded, word_of, ℕ, ◌+◌, ◌<◌, ◌^◌, ◌∙◌, ◌∷◌, ◌≡◌, ◌≤◌}
+use Rattle.uni_words.specs.Execution.Next.{Move}
+use Rattle.uni_words.proofs.Ran.{one_step}
 use Rattle.atomic_table.specs.Table as table
 use Rattle.uni_words.specs.Execution.{IsPlain}
 use Rattle.uni_words.proofs.Columns.{word_below}
@@ -151,6 +153,6 @@ module _ (object : Sequential ℕ ℕ ℕ) (row : ℕ) where
         record { known = moved_at v c found },
         keeps,
         tt,
-        led n shown.1 shown.3 leads,
+        led n shown.1 shown.3 (one_step object n row s id v (at, single) (Move c f pending goes writes_n) i word_n) leads,
         λ d other. (let e : c ≡ d = (let g = sym pending ∙ other in cc) in subst (λ (k : Pending). HasMoved me k (said found) (record { known = moved_at v c found }, me.1)) e moved),
       )

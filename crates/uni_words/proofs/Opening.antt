@@ -1,5 +1,6 @@
 -- The table at the start meets the rule.
 use Rattle.uni_words.proofs.Vocabulary.{AfterOf, Anchor, Announced, BeforeOf, CellName, Contains, CountsSteps-opened_world, HeadOf, HelpingInvariant-opened_world, InvOf, IsLocal, IsShown, LeadsTo, Link, List, Name, NewOf, None, Number, Of, Option, Place, SeqOf, Sequential, Settled, ShowsRun, Some, Tells, View, [], acts_in_view, anchor_memory, ap, arith, content_of, div-mul-add, first_view, first_words, get_elem?, inl, inr, length, length-replicate, length-set, link_of, lt_cases, memory_of, memory_with, name_of, new_of, no_calls, opened, opening, option_map_or, refl, replicate, settled_at, settled_word, slice_get, slice_index, slice_set, some, some-injective, some-ne-none, start_of, state_in, subst, suc, sym, word_at, word_of, words_of, zero, ℕ, ◌*◌, ◌+◌, ◌<◌, ◌^◌, ◌∙◌, ◌∷◌, ◌≡◌}
+use Rattle.uni_words.specs.Execution.Execution.{Ends}
 use Rattle.uni_words.proofs.Locality.{words_written}
 
 anchor_code : (s : ℕ) → settled_at Anchor (settled_word s 0) ≡ Some (s, None)
@@ -104,7 +105,7 @@ module _ (object : Sequential ℕ ℕ ℕ) (n row : ℕ) (below : object.initial
   }
 
 pub opening_shows : (object : Sequential ℕ ℕ ℕ) (n row : ℕ) → object.initial < 2 ^ 31 → ShowsRun object n row (opening {S = ℕ} (first_words n row object.initial) [] (first_view n row))
-opening_shows object n row below = (opened object n, refl, opening_shown object n row below, ([], opening_leads object n row below))
+opening_shows object n row below = (opened object n, refl, opening_shown object n row below, ([], opening_leads object n row below, (Ends, refl, refl)))
 
 -- the words as the code writes them
 pub words_made : (xs : List ℕ) (n row s start : ℕ) → xs ≡ replicate (words_of n row) 0 → s ≡ start

@@ -1,5 +1,7 @@
 -- A run with one more event, and what it tells of each process.
 use Rattle.uni_words.proofs.Vocabulary.{Act, AreAccepted-snoc, Call, Contains, EndNoEra, EndsNoEra, Event, HasSeen, Invoke, Invoked, IsAccepted, IsAmong, IsLocal, IsShown, IsSome, Known, Leads, LeadsTo, Linearize, List, Memory, Name, None, Of, Option, Pending, ProcessCalls, Reshape, Respond, Seen, Sequential, ShowsRun, Some, State, Step, Trim, View, WorldOf, [], acts_by, acts_in_view, acts_of, ap, append-nil, append_assoc, arith, at_set, drop, get_elem?, history_of-snoc, inl, inr, inv_of, invoked_at, length, log, log_of_run, map, number_cases, opened, option_map_or, pending_acts, pending_count, refl, response_after, responses_of, run_history, sequential_acts, set, some, subst, suc, sym, world_after, world_after_all, world_after_all-snoc, world_after_call, world_after_step, ℕ, ⊎_elim, ◌++◌, ◌+◌, ◌∙◌, ◌∷◌, ◌≡◌, ◌≢◌, ◌≤◌}
+use Rattle.uni_words.proofs.Ran.{GoesTo, runs_on}
+use Rattle.uni_words.specs.Ran.{HasRun}
 use Rattle.uni_model.specs.History.{calls_of}
 use Rattle.uni_words.proofs.Happens.{taken_apart}
 use Rattle.uni_words.proofs.Views.{Holds-kept, Holds-later, Holds-set}
@@ -76,8 +78,9 @@ no_more object n events w views run = subst (λ es. LeadsTo object n es w views)
 
 -- where a step leads on, the rule holds after it
 pub led : {object : Sequential ℕ ℕ ℕ} {row : ℕ} {w : WorldOf ℕ ℕ ℕ} {s : State ℕ View} {more : List (Event ℕ)} {w' : WorldOf ℕ ℕ ℕ} {s' : State ℕ View} → (n : ℕ) → w'.n ≡ n
-    → ((events : List (Event ℕ)) × LeadsTo object n events w s.views) → Leads object row w s more w' s' → ShowsRun object n row s'
-led {more = more} {w' = w'} n count run leads = (w', count, leads.shown, (run.0 ++ more, leads.run n run.0 run.1))
+    → ((made : List (Event ℕ)) × LeadsTo object n made w s.views × HasRun object n row s made) → GoesTo object n row s more s' → Leads object row w s more w' s' → ShowsRun object n row s'
+led {object = object} {row = row} {s = s} {more = more} {w' = w'} {s' = s'} n count run on leads =
+    (w', count, leads.shown, (run.0 ++ more, leads.run n run.0 run.1, runs_on object n row s s' run.0 more run.2 on))
 
 -- a process that has no call pending has made its calls, and no others
 pub idle_acts : (object : Sequential ℕ ℕ ℕ) (n : ℕ) (events : List (Event ℕ)) (w : WorldOf ℕ ℕ ℕ) (views : List View) → LeadsTo object n events w views → (id : ℕ) (v : View) → get_elem? views id ≡ some v → 1 ≤ v.known.count → v.known.its.call ≡ None

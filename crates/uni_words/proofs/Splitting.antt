@@ -1,5 +1,6 @@
 -- A seat of several processes is cut in two.
 use Rattle.uni_words.proofs.Vocabulary.{Contains, Event, HasSeen, IsAmong, IsLocal, IsShown, Leads, LeadsTo, List, ProcessCalls, Sequential, ShowsRun, Splits, State, Tells, View, WorldOf, [], acts_by, acts_in_view, after_split, ap, arith, at_set, first_alone, get_elem?, inl, inr, length, length-set, others, refl, run_history, sequential_acts, set, set_at, set_at_elsewhere, set_at_same, some, some-ne-none, subst, suc, sym, zero, ℕ, ◌++◌, ◌<◌, ◌∙◌, ◌∷◌, ◌≡◌, ◌≢◌, ◌≤◌}
+use Rattle.uni_words.specs.Execution.Execution.{Ends, Splits as SplitsNext}
 use Rattle.uni_model.proofs.Each.{at_end}
 use Rattle.uni_words.proofs.Happens.{taken_apart}
 use Rattle.uni_words.proofs.Running.{led, no_more}
@@ -104,4 +105,4 @@ module _ (object : Sequential ℕ ℕ ℕ) (row id : ℕ) (v : View) (some_left 
     split_leads = record { shown = split_kept; run = λ n events run. no_more object n events w views' (split_run n events run) }
 
   pub splits : (n : ℕ) → Splits (ShowsRun object n row) id v (others v) (first_alone v)
-  splits n s shown at = led n shown.1 shown.3 (split_leads shown.0 s shown.2 at)
+  splits n s shown at = led n shown.1 shown.3 (SplitsNext id v at some_left Ends, refl, refl) (split_leads shown.0 s shown.2 at)

@@ -51,7 +51,8 @@ pub use Rattle.uni_words.specs.Log.{AreAnswered, AreCallCells, AreCallsOf, IsCha
 pub use Rattle.uni_words.specs.Rule.{Rule}
 pub use Rattle.uni_words.specs.Run.{HasSeen, IsLogOfRun, IsLogOfSeenRun, StandInLog, opened, run_history}
 pub use Rattle.uni_words.specs.Seats.{EndsCall, HasAsked, HasBegun, HasCall, HasFinished, HasLooked, HasMoved, IsWithin, Moved, TellsReply, TellsState, calls_in_view, first_alone, first_view, logged_in_view, nobody, others, took_in}
-pub use Rattle.uni_words.specs.Shown.{HasOutcome, HasRead, IsAmong, IsLocal, IsShown, IsTaken, IsUnderway, LeadsTo, ShowsRun, Tells, acts_in_view, last_number, pending_acts, pending_count}
+pub use Rattle.uni_words.specs.Ran.{HasRun, ShowsRun}
+pub use Rattle.uni_words.specs.Shown.{HasOutcome, HasRead, IsAmong, IsLocal, IsShown, IsTaken, IsUnderway, LeadsTo, Tells, acts_in_view, last_number, pending_acts, pending_count}
 pub use Rattle.uni_words.specs.Standing.{GetsOn, GoesBy, IsAtStage, IsIdle, cell_at, head_at, scan_stage}
 pub use Rattle.uni_words.specs.View.{FirstCalls, Known, Process, Reading, Seen, all_of, asked_of, begun_by, finished_by, looked_at, moved_at, no_calls, nobody_called, number_of, own_of, seen_of, stage_found, told_by, up_to}
 pub use Rattle.uni_words.specs.View.Reading.{Applied, Invocation, Nothing, Reply}

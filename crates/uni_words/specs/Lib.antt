@@ -12,3 +12,4 @@ pub mod Belongs
 pub mod Laws
 pub mod Execution
 pub mod Linearized
+pub mod Ran

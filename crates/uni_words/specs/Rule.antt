@@ -2,7 +2,7 @@
 use Rattle.std.specs.Prelude.{ℕ}
 use Rattle.atomic_table.specs.Table.{State}
 use Rattle.seq_object.specs.Sequential.{Sequential}
-use Rattle.uni_words.specs.Shown.{ShowsRun}
+use Rattle.uni_words.specs.Ran.{ShowsRun}
 use Rattle.uni_words.specs.declared.view.View.{View}
 use Rattle.uni_words.specs.declared.rule.Setup.{Setup}
 

@@ -1,4 +1,4 @@
--- The rule of the table: its words and the views of its seats show a world of the definitions.
+-- What the table shows: its words and the views of its seats show a world of the definitions.
 use Rattle.std.specs.Prelude.{◌≡◌, ℕ, zero, suc, ◌+◌, ◌<◌, ◌≤◌, ◌^◌, List, [], ◌∷◌, ◌++◌, Contains}
 use Rattle.std.specs.Prelude.{Option, None, Some, length, slice_get}
 use mathlib.Core.Option.{some}
@@ -132,9 +132,3 @@ pub record LeadsTo (object : Sequential ℕ ℕ ℕ) (n : ℕ) (events : List (E
       → acts_by its.process (run_history object n events) ≡ sequential_acts its.process 0 its.calls
   pub seen : (id : ℕ) (v : View) → get_elem? views id ≡ some v
       → (s : Seen) → Contains v.known.seen s → HasSeen object n events s
-
--- the rule: some world of n processes is shown, to which a run from the opening leads
-abbrev pub ShowsRun : (object : Sequential ℕ ℕ ℕ) → (n row : ℕ) → State ℕ View → Type 0
-ShowsRun object n row s =
-    (w : WorldOf ℕ ℕ ℕ) × (w.n ≡ n) × IsShown object row w s
-    × ((events : List (Event ℕ)) × LeadsTo object n events w s.views)

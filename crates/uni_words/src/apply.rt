@@ -8,6 +8,7 @@ ghost use Rattle.uni_words.specs.Belongs.{IsSeatOf, processes_of, row_of, proces
 ghost use Rattle.uni_words.specs.Belongs.{taken_calls, seen_by, latest_number, latest_turns, view_of, word_steps_of};
 ghost use Rattle.uni_model.specs.Places.Name.{Anchor};
 ghost use Rattle.uni_model.specs.Stages.Stage.{ScanHead, WriteScan, Test, ReadAnnounce, Finish};
+ghost use Rattle.uni_words.specs.View.Reading.{Nothing};
 
 use crate::cursor::Cursor;
 use crate::log::WordLog;
@@ -98,6 +99,7 @@ impl<O: WordObject> WordLog<O> {
         ensures same { (seat.new.table_id ≡ seat.old.table_id) × (seat.new.id ≡ seat.old.id) }
         ensures stands { IsAtStage self.now.setup.n self.now.setup.k at.process (cell_at self.now at.cell)
             (Finish result.1 result.2) seat.new.me }
+        ensures fresh { seat.new.me.0.known.its.read ≡ Nothing }
         ensures number { result.1 ≤ cells_of self.now.setup.n self.now.setup.k }
         ensures goes { GoesBy seat.old.me seat.new.me (10 * result.0 + 1) result.0 }
         ensures bound { result.0 ≤ self.now.setup.n + 1 }
@@ -169,8 +171,8 @@ impl WordSeat {
     /// after n turns at most. The numbers of a seat's calls rise.
     ///
     /// That the reply is the object's is in no clause here: `close_with` says it of all calls of the seat at once. The
-    /// law `every_execution_is_linearizable` says it of executions; that the steps of this code are those of one is for
-    /// the reader to compare.
+    /// law `every_execution_is_linearizable` says it of executions, and the rule of the table keeps, step by step, that
+    /// one has led to its words.
     ///
     /// The error says that the seat has made all the calls that it can make; nothing is changed then.
     pub fn apply<O: WordObject>(&mut self, log: &WordLog<O>, inv: u64) -> Result<Answer, RowFull>

@@ -1,5 +1,5 @@
 //! The rule of the table, and what its steps tell.
-ghost use Rattle.uni_words.specs.Shown.{ShowsRun};
+ghost use Rattle.uni_words.specs.Ran.{ShowsRun};
 ghost use Rattle.uni_words.specs.Seats.{EndsCall, HasAsked, HasBegun, Moved, TellsInv, TellsReply, TellsState};
 ghost use Rattle.uni_words.specs.Seats.{first_alone, first_view, nobody, others, took_in};
 
@@ -18,7 +18,7 @@ pub struct Setup<O: WordObject> {
 }
 
 /// The rule of the table: its words and the views of its seats show a world of the construction, to
-/// which a run leads from the opening.
+/// which an execution of these steps leads from the opening.
 pub struct Universal<O> {
     object: PhantomData<O>,
 }

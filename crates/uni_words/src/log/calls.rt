@@ -5,7 +5,7 @@ ghost use Rattle.uni_words.specs.Seats.{HasLooked, HasFinished};
 ghost use Rattle.uni_model.specs.Indices.{index_of};
 ghost use Rattle.uni_words.specs.Words.{state_in, reply_in};
 ghost use Rattle.uni_words.specs.View.{begun_by};
-ghost use Rattle.uni_words.specs.View.Reading.{Invocation, Applied, Reply};
+ghost use Rattle.uni_words.specs.View.Reading.{Applied, Invocation, Nothing, Reply};
 ghost use Rattle.uni_model.specs.Stages.Stage.{Announce, DecideNew, WriteBefore, Finish};
 
 use crate::cursor::Cursor;
@@ -47,6 +47,7 @@ impl<O: WordObject> WordLog<O> {
         requires inside { HasCell self.now d }
         requires stands { Stands self.now at (DecideNew (head_at self.now at) at.number (cell_at self.now d))
             seat.old.me }
+        requires fresh { seat.old.me.0.known.its.read ≡ Nothing }
         ensures same { (seat.new.table_id ≡ seat.old.table_id) × (seat.new.id ≡ seat.old.id) }
         ensures stands { Stands self.now at (DecideNew (head_at self.now at) at.number (cell_at self.now d))
             seat.new.me }
@@ -108,6 +109,7 @@ impl<O: WordObject> WordLog<O> {
         requires table { seat.old.table_id ≡ self.now.table.shared.table_id }
         requires cursor { IsCursor self.now at }
         requires stands { Stands self.now at (Finish at.number mine_seq) seat.old.me }
+        requires fresh { seat.old.me.0.known.its.read ≡ Nothing }
         ensures same { (seat.new.table_id ≡ seat.old.table_id) × (seat.new.id ≡ seat.old.id) }
         ensures looked { at.number < mine_seq → HasLooked seat.old.me (Reply (reply_in result)) seat.new.me }
         ensures finished { mine_seq ≤ at.number → HasFinished seat.old.me 0 (reply_in result) seat.new.me }

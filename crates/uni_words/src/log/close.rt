@@ -6,6 +6,7 @@ ghost use Rattle.uni_words.specs.Belongs.{AreAllSeats, IsSeatOf, object_of, proc
 ghost use Rattle.uni_words.specs.Belongs.{calls_of, known_calls, latest_number, seen_by};
 ghost use Rattle.uni_words.specs.Belongs.{count_in, row_in, words_in, log_in};
 ghost use Rattle.uni_words.specs.Compare.{Agrees};
+ghost use Rattle.uni_words.specs.Ran.{IsLogOfExecution};
 ghost use Rattle.uni_words.specs.Run.{IsLogOfRun, IsLogOfSeenRun};
 ghost use Rattle.uni_words.specs.Log.{AreAnswered, AreCallsOf, LastHasNumber, IsChained, IsInOrder, IsLogged};
 
@@ -35,8 +36,12 @@ impl<O: WordObject> WordLog<O> {
     ///
     /// The entry of the seat's latest call has the number that the call was answered.
     ///
-    /// `known` has all that `own` says, and `seen` all that `run` does. The run is chosen by the clause: that it is the
-    /// one that was made isn't said.
+    /// Its events are those of an execution: of steps on words that the seats took one after another, from the opening
+    /// on (`execution`). So what the laws say of every execution holds of it.
+    ///
+    /// `known` has all that `own` says, and `execution` all that `seen` does, which has all that `run` says. The
+    /// execution is chosen by the clause: that it is the one that was made isn't said, but the rule of the table keeps
+    /// one that has led to these words, step by step.
     pub fn close_with(self, seat: WordSeat) -> Words
         requires seat { IsSeatOf self seat }
         ensures counts { (count_in result ≡ processes_of self) × (row_in result ≡ row_of self) }
@@ -51,6 +56,9 @@ impl<O: WordObject> WordLog<O> {
             IsLogOfRun object (processes_of self) (log_in result) (known_calls seat) }
         ensures seen { let object = O.sequential (object_of self) in
             IsLogOfSeenRun object (processes_of self) (log_in result) (known_calls seat) (seen_by seat) }
+        ensures execution { let object = O.sequential (object_of self) in
+            IsLogOfExecution object (processes_of self) (row_of self) (log_in result) (known_calls seat)
+            (seen_by seat) }
         ensures order { All (IsInOrder (log_in result)) (seen_by seat) }
         ensures number { LastHasNumber (log_in result) (calls_of seat) (latest_number seat) }
     {
@@ -88,6 +96,9 @@ impl<O: WordObject> WordLog<O> {
             IsLogOfRun object (processes_of self) (log_in result) (map calls_of seats.items) }
         ensures seen { let object = O.sequential (object_of self) in
             IsLogOfSeenRun object (processes_of self) (log_in result) (map calls_of seats.items)
+            (flat_map seen_by seats.items) }
+        ensures execution { let object = O.sequential (object_of self) in
+            IsLogOfExecution object (processes_of self) (row_of self) (log_in result) (map calls_of seats.items)
             (flat_map seen_by seats.items) }
         ensures order { All (IsInOrder (log_in result)) (flat_map seen_by seats.items) }
         ensures agrees { let object = O.sequential (object_of self) in

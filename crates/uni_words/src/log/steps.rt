@@ -9,6 +9,7 @@ ghost use Rattle.uni_words.specs.Words.{cells_of, link_of};
 ghost use Rattle.uni_model.specs.Stages.Stage.{Announce, ScanHead, ScanSeq, WriteScan, Test, ReadAnnounce};
 ghost use Rattle.uni_model.specs.Stages.Stage.{ReadHelpSeq};
 ghost use Rattle.uni_model.specs.Stages.Stage.{DecideAfter, DecideNew, WriteBefore, WriteSeq, WriteHead, Finish};
+ghost use Rattle.uni_words.specs.View.Reading.{Nothing};
 
 use crate::cursor::Cursor;
 use crate::log::WordLog;
@@ -85,6 +86,7 @@ impl<O: WordObject> WordLog<O> {
         ensures same { (seat.new.table_id ≡ seat.old.table_id) × (seat.new.id ≡ seat.old.id) }
         ensures stands { Stands self.now at (if result == 0 then ReadAnnounce (head_at self.now at) at.number
             else Finish at.number result) seat.new.me }
+        ensures fresh { seat.new.me.0.known.its.read ≡ Nothing }
         ensures goes { GoesBy seat.old.me seat.new.me 1 (if result == 0 then 1 else 0) }
         ensures within { result ≤ cells_of self.now.setup.n self.now.setup.k }
         ensures bound { seat.new.me.0.known.its.turns ≤ self.now.setup.n + 1 }
@@ -137,6 +139,7 @@ impl<O: WordObject> WordLog<O> {
         ensures same { (seat.new.table_id ≡ seat.old.table_id) × (seat.new.id ≡ seat.old.id) }
         ensures stands { Stands self.now at (DecideNew (head_at self.now at) at.number
             (unwrap_or (link_of self.now.setup.n result) (cell_at self.now prefer))) seat.new.me }
+        ensures fresh { seat.new.me.0.known.its.read ≡ Nothing }
         ensures goes { GoesBy seat.old.me seat.new.me 1 0 }
         ensures within { result ≤ cells_of self.now.setup.n self.now.setup.k }
     {

@@ -39,12 +39,12 @@ returns-clause-known g c =
     All-each (λ x. P (calls_of x)) c.args.seats.items
     (λ x has. All-contains P (known_calls c.loop-seat.first) (calls_of x) c.close_with.ensures.known (known x has).0)
 
-pub returns-clause-seen : goal.returns-clause-seen
-returns-clause-seen g c =
-    let run = c.close_with.ensures.seen.0 in
+pub returns-clause-execution : goal.returns-clause-execution
+returns-clause-execution g c =
+    let run = c.close_with.ensures.execution.0.0 in
     let object = g.O.WordObject.sequential c.args.self.setup.object in
     let known = accounted_all c.args.seats.items _ c.loop-seat.first (nil_from_length _ (sym c.loop-seat.seat-iterator.rest.ok.0 ∙ c.in-None.ensures.steps.0)) c.loop-seat.invariant.2 in (
-      record {
+      (record {
         events = run.events;
         accepted = run.accepted;
         one_era = run.one_era;
@@ -54,8 +54,12 @@ returns-clause-seen g c =
         joined = run.joined;
         acts = known_calls_of (λ its. acts_by its.process (run_history object c.args.self.setup.n run.events) ≡ sequential_acts its.process 0 its.calls) c.args.seats.items c.loop-seat.first known run.acts;
       },
-      known_seen (HasSeen object c.args.self.setup.n run.events) c.args.seats.items c.loop-seat.first known c.close_with.ensures.seen.1,
+      known_seen (HasSeen object c.args.self.setup.n run.events) c.args.seats.items c.loop-seat.first known c.close_with.ensures.execution.0.1),
+      c.close_with.ensures.execution.1,
     )
+
+pub returns-clause-seen : goal.returns-clause-seen
+returns-clause-seen g c = (returns-clause-execution g c).0
 
 pub returns-clause-run : goal.returns-clause-run
 returns-clause-run g c = (returns-clause-seen g c).0

@@ -1,5 +1,5 @@
 use Rattle.std.proofs.Common.{◌+◌, refl}
-use Rattle.uni_words.proofs.Allowed.{cell_word, goes_one, link_decided, may_propose, stands_next, within_here}
+use Rattle.uni_words.proofs.Allowed.{cell_word, fresh_then, goes_one, link_decided, may_propose, stands_next, within_here}
 use Rattle.uni_words.proofs.log.WordLog.decide_after.Goals as goal
 
 pub compare_exchange-requires : goal.compare_exchange-requires
@@ -11,4 +11,4 @@ compare_exchange-requires g c =
 pub returns : goal.returns
 returns g c =
     let moved = c.compare_exchange.ensures.2 _ c.requires.stands.call in
-    record { same = (c.compare_exchange.ensures.0, c.compare_exchange.ensures.1); stands = stands_next _ _ _ _ _ _ _ _ _ c.requires.stands moved refl; goes = goes_one _ _ _ _ _ moved refl; within = within_here _ _ _ _ _ _ _ _ moved c.requires.stands }
+    record { same = (c.compare_exchange.ensures.0, c.compare_exchange.ensures.1); stands = stands_next _ _ _ _ _ _ _ _ _ c.requires.stands moved refl; fresh = fresh_then _ _ _ _ moved; goes = goes_one _ _ _ _ _ moved refl; within = within_here _ _ _ _ _ _ _ _ moved c.requires.stands }
