@@ -77,7 +77,7 @@ impl fmt::Display for Paint {
 
     ghost output = { λ paint. Some (paint_text paint) };
 
-    #[tactic(auto, using(crate::proofs::Escapes::colour_text), unfolding(crate::specs::Svg::paint_text))]
+    #[tactic(auto, unfolding(crate::specs::Svg::paint_text))]
     fn fmt<W: fmt::Write>(&self, f: &mut fmt::Formatter<W>) -> fmt::Result {
         match self {
             Paint::Paper => write!(f, " fill=\"#ffffff\""),

@@ -44,7 +44,6 @@ fn push_words(svg: &mut Vec<u8>, words: &str) -> Result<(), AllocError>
 }
 
 /// Adds the text of a shape, and the end of its line.
-#[tactic(auto, using(crate::proofs::Trees::plain_parts), unfolding(crate::specs::Svg::shape_text))]
 fn push_shape(svg: &mut Vec<u8>, shape: &Shape) -> io::Result<()>
     ensures { OnOk result (svg.new.items ≡ svg.old.items ++ shape_text shape.now) }
 {
