@@ -40,6 +40,9 @@ impl fmt::Display for Colour {
     }
 }
 
+/// How the letter upon a mark is written; it lets the pointer through.
+const LETTER: &str = " font-size=\"16\" font-weight=\"bold\" pointer-events=\"none\"";
+
 /// How a shape is painted.
 #[derive(Clone, Copy)]
 pub enum Paint {
@@ -84,18 +87,8 @@ impl fmt::Display for Paint {
             Paint::Frame => write!(f, " fill=\"#ffffff\" stroke=\"#333333\""),
             Paint::Ink => write!(f, " fill=\"#000000\""),
             Paint::Title => write!(f, " fill=\"#000000\" font-size=\"16\" font-weight=\"bold\""),
-            Paint::DarkLetter => {
-                write!(
-                    f,
-                    " fill=\"#000000\" font-size=\"16\" font-weight=\"bold\" pointer-events=\"none\""
-                )
-            }
-            Paint::LightLetter => {
-                write!(
-                    f,
-                    " fill=\"#ffffff\" font-size=\"16\" font-weight=\"bold\" pointer-events=\"none\""
-                )
-            }
+            Paint::DarkLetter => write!(f, " fill=\"#000000\"{LETTER}"),
+            Paint::LightLetter => write!(f, " fill=\"#ffffff\"{LETTER}"),
             Paint::Faint => write!(f, " stroke=\"#bbbbbb\""),
             Paint::Edge => write!(f, " stroke=\"#333333\""),
             Paint::Broken => write!(f, " stroke=\"#333333\" stroke-dasharray=\"6 4\""),
