@@ -98,21 +98,23 @@ module _ {O : Type 0} (meaning : O → Sequential ℕ ℕ ℕ) (told setup : Set
   -- the run that the rule carries, and the execution
   pub closed_execution : view.known.count ≡ 1 → view.known.its.call ≡ None → IsLogOfExecution object setup.n setup.k (log_of setup.n setup.k words) (calls_in_view view) view.known.seen
   closed_execution single idle = (
-    (record {
-      events = events;
-      accepted = run.accepted;
-      one_era = run.one_era;
-      universal = RunIsUniversal-holds object setup.n object.initial 1 events (omega arith) run.accepted;
-      real_time = KeepsRealTime-holds object setup.n object.initial 1 events;
-      responses = responses;
-      joined = joined;
-      acts = λ c has. elim (first_or _ _ c has) [
-        | inl here ↦ subst (λ (k : ProcessCalls ℕ ℕ). acts_by k.process (run_history object setup.n events) ≡ sequential_acts k.process 0 k.calls) here
-            (idle_acts object setup.n events w last.0.views run id view last.1.1 (let one = single in omega arith) idle)
-        | inr taken ↦ run.taken id view last.1.1 c taken
-      ];
-    },
-    All-each (HasSeen object setup.n events) view.known.seen was_seen),
+    (
+      record {
+        events = events;
+        accepted = run.accepted;
+        one_era = run.one_era;
+        universal = RunIsUniversal-holds object setup.n object.initial 1 events (omega arith) run.accepted;
+        real_time = KeepsRealTime-holds object setup.n object.initial 1 events;
+        responses = responses;
+        joined = joined;
+        acts = λ c has. elim (first_or _ _ c has) [
+          | inl here ↦ subst (λ (k : ProcessCalls ℕ ℕ). acts_by k.process (run_history object setup.n events) ≡ sequential_acts k.process 0 k.calls) here
+              (idle_acts object setup.n events w last.0.views run id view last.1.1 (let one = single in omega arith) idle)
+          | inr taken ↦ run.taken id view last.1.1 c taken
+        ];
+      },
+      All-each (HasSeen object setup.n events) view.known.seen was_seen,
+    ),
     (last.1.0.3.2.0, last.1.0.3.2.2),
   )
 

@@ -150,7 +150,7 @@ module _ (object : Sequential ℕ ℕ ℕ) (row : ℕ) where
         keeps,
         tt,
         led n shown.1 shown.3 (one_step object n row s id v (at, single) (StoreEnd (name_of n mine) c_seq mine_seq reply mine pending less read refl) i word_n)
-        (stored_leads w s shown.2 id v at single (name_of n mine) c_seq mine_seq pending less i mine word (ap (λ k. name_of k mine) shown.1) reply read),
+            (stored_leads w s shown.2 id v at single (name_of n mine) c_seq mine_seq pending less i mine word (ap (λ k. name_of k mine) shown.1) reply read),
         λ other is. (let one : reply ≡ other = (let f = sym read ∙ is in cc) in
             subst (λ r. HasFinished me 1 r (record { known = finished_by v 1 reply }, me.1)) one (refl, rises w s shown.2 id v at single (name_of n mine) c_seq mine_seq pending)),
       )

@@ -34,14 +34,17 @@ module _ (object : Sequential ℕ ℕ ℕ) (row : ℕ) (w : WorldOf ℕ ℕ ℕ)
     | inl e ↦ absurd (let f : Of p k ≡ Anchor = e in cc)
     | inr has ↦
         let begun = sound.calls.begun p k has in
-        let room = is.words.room p in
-        (index_of w.n p k, name_of-index_of w.n p k begun.0, elim (lt_cases p w.n) [
-          | inl a ↦ elim (lt_cases k row) [
-            | inl b ↦ rw (a.1, b.1) refl
-            | inr b ↦ absurd (let x = b.0 in let y = begun.2 in omega (arith, x, y, room))
-          ]
-          | inr a ↦ absurd (let x = a.0 in let y = begun.0 in omega (arith, x, y))
-        ])
+        let room = is.words.room p in (
+          index_of w.n p k,
+          name_of-index_of w.n p k begun.0,
+          elim (lt_cases p w.n) [
+            | inl a ↦ elim (lt_cases k row) [
+              | inl b ↦ rw (a.1, b.1) refl
+              | inr b ↦ absurd (let x = b.0 in let y = begun.2 in omega (arith, x, y, room))
+            ]
+            | inr a ↦ absurd (let x = a.0 in let y = begun.0 in omega (arith, x, y))
+          ],
+        )
   ]
 
   at_head : (c : Name) (c_seq : ℕ) → AtHead w.memory v.first c c_seq → IsThere c

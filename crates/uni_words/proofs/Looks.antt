@@ -75,7 +75,7 @@ module _ (object : Sequential ℕ ℕ ℕ) (row : ℕ) where
         keeps,
         tt,
         led n shown.1 shown.3 (one_step object n row s id me.0.known (at, single) (LookInv mine c d c_seq pending fresh) i word_n)
-        (looked_leads w s is id me.0.known at single mine (DecideNew c c_seq d) pending i (Invocation (slice_index s.words i)) (inv_told w s is d i word has)),
+            (looked_leads w s is id me.0.known at single mine (DecideNew c c_seq d) pending i (Invocation (slice_index s.words i)) (inv_told w s is d i word has)),
         refl,
       )
 
@@ -96,7 +96,7 @@ module _ (object : Sequential ℕ ℕ ℕ) (row : ℕ) where
         keeps,
         tt,
         led n shown.1 shown.3 (one_step object n row s id me.0.known (at, single) (LookNew mine c d c_seq inv pending read) i word_n)
-        (looked_leads w s is id me.0.known at single mine (DecideNew c c_seq d) pending i (Applied inv (state_in (slice_index s.words i))) (had, (reply_at c (reply_in (slice_index s.words i)), told.1))),
+            (looked_leads w s is id me.0.known at single mine (DecideNew c c_seq d) pending i (Applied inv (state_in (slice_index s.words i))) (had, (reply_at c (reply_in (slice_index s.words i)), told.1))),
         (refl, is.words.fits c (state_in (slice_index s.words i), reply_at c (reply_in (slice_index s.words i))) told.1),
       )
 

@@ -115,7 +115,7 @@ module _ (object : Sequential ℕ ℕ ℕ) (row : ℕ) (w : WorldOf ℕ ℕ ℕ)
         → stage_found v.n v.first c.mine c.stage (slice_index s.words word) ≡ Some next
         → content_of w.n (place_of w.n v.first c.mine c.stage) x ≡ (effect_in object w v.first c).content
         → ((y : Name) (u : ℕ × Option ℕ)
-            → new_of (world_after object w (Step v.first)).memory y ≡ Some u → u.0 < 2 ^ 31)
+        → new_of (world_after object w (Step v.first)).memory y ≡ Some u → u.0 < 2 ^ 31)
         → LeadsBy (Step v.first) (after_word s word x id (moved_at v c (slice_index s.words word)))
 
     -- where the process's head moves at the end of its call, the store of the head is the last Step

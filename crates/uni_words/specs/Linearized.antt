@@ -22,7 +22,7 @@ abbrev pub IsNarrow : Sequential ℕ ℕ ℕ → Type 0
 IsNarrow object =
     (object.initial < 2 ^ 31)
     × ((state inv : ℕ) → state < 2 ^ 31 → inv < 2 ^ 64
-        → (object.next state inv < 2 ^ 31) × (object.answer state inv < 2 ^ 31))
+    → (object.next state inv < 2 ^ 31) × (object.answer state inv < 2 ^ 31))
 
 module _ (object : Sequential ℕ ℕ ℕ) (n row : ℕ) where
   -- an execution from the opening, and what is observed of it: the invocations and the replies alone

@@ -168,9 +168,9 @@ sample_asked number =
 
 sample_there : sample_asked 7
     ≡ record {
-        earlier = record { process = 0; count = 3 };
-        made = record { process = 1; calls = (8, 4) ∷ [] };
-      } ∷ []
+      earlier = record { process = 0; count = 3 };
+      made = record { process = 1; calls = (8, 4) ∷ [] };
+    } ∷ []
 sample_there = refl
 
 sample_not_there : sample_asked 0 ≡ []

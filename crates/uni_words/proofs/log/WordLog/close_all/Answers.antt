@@ -44,17 +44,19 @@ returns-clause-execution g c =
     let run = c.close_with.ensures.execution.0.0 in
     let object = g.O.WordObject.sequential c.args.self.setup.object in
     let known = accounted_all c.args.seats.items _ c.loop-seat.first (nil_from_length _ (sym c.loop-seat.seat-iterator.rest.ok.0 ∙ c.in-None.ensures.steps.0)) c.loop-seat.invariant.2 in (
-      (record {
-        events = run.events;
-        accepted = run.accepted;
-        one_era = run.one_era;
-        universal = run.universal;
-        real_time = run.real_time;
-        responses = run.responses;
-        joined = run.joined;
-        acts = known_calls_of (λ its. acts_by its.process (run_history object c.args.self.setup.n run.events) ≡ sequential_acts its.process 0 its.calls) c.args.seats.items c.loop-seat.first known run.acts;
-      },
-      known_seen (HasSeen object c.args.self.setup.n run.events) c.args.seats.items c.loop-seat.first known c.close_with.ensures.execution.0.1),
+      (
+        record {
+          events = run.events;
+          accepted = run.accepted;
+          one_era = run.one_era;
+          universal = run.universal;
+          real_time = run.real_time;
+          responses = run.responses;
+          joined = run.joined;
+          acts = known_calls_of (λ its. acts_by its.process (run_history object c.args.self.setup.n run.events) ≡ sequential_acts its.process 0 its.calls) c.args.seats.items c.loop-seat.first known run.acts;
+        },
+        known_seen (HasSeen object c.args.self.setup.n run.events) c.args.seats.items c.loop-seat.first known c.close_with.ensures.execution.0.1,
+      ),
       c.close_with.ensures.execution.1,
     )
 
