@@ -19,25 +19,11 @@ pub err_from : {A E : Type 0} (r : Result A E) (P : E → Type 0) → ((e : E) �
 err_from (Ok a) P each = tt
 err_from (Err e) P each = each e
 
-some_same : (a b : ℕ) → Some a ≡ Some b → a ≡ b
-some_same a b e = cc
-
-none_some : (a b : ℕ) → None ≡ Some b → a ≡ b
-none_some a b e = cc
-
 -- more is told, and then the rest
-told_next : {T : Type 0} (before more : List T) (rest : Option (List T)) → option_map (λ ts. before ++ ts) (option_map (λ ts. more ++ ts) rest) ≡ option_map (λ ts. (before ++ more) ++ ts) rest
+told_next : {T : Type 0} (before more : List T) (rest : Option (List T))
+    → option_map (λ ts. before ++ ts) (option_map (λ ts. more ++ ts) rest) ≡ option_map (λ ts. (before ++ more) ++ ts) rest
 told_next before more None = refl
 told_next before more (Some ts) = ap Some (sym (append_assoc before more ts))
-
--- what was told, and what is left to be told, one line later
-pub line_added : {I R : Type 0} (wording : Wording I R) (lines : List (Bor (List ℕ))) (i : ℕ) (d : Bor (List ℕ)) (old new : List (Told I R)) → i < length lines → AddsLine wording (get_or lines i d).now old new → option_map (λ ts. new ++ ts) (tolds_of wording (bytes_of (drop (i + 1) lines))) ≡ option_map (λ ts. old ++ ts) (tolds_of wording (bytes_of (drop i lines)))
-line_added wording lines i d old new within adds =
-    let rest = tolds_of wording (bytes_of (drop (i + 1) lines)) in
-    ap (λ news. option_map (λ ts. news ++ ts) rest) adds.added
-    ∙ sym (told_next old adds.more rest)
-    ∙ sym (ap (λ told. option_map (λ ts. old ++ ts) (option_and_then (λ told. option_map (λ tolds. told ++ tolds) rest) told)) adds.tells)
-    ∙ sym (at_drop_more (λ ls. option_map (λ ts. old ++ ts) (tolds_of wording (bytes_of ls))) lines i d within)
 
 -- the events of what is told first come first
 pub events-append : {I R : Type 0} (xs ys : List (Told I R)) → events_of (xs ++ ys) ≡ events_of xs ++ events_of ys
@@ -46,42 +32,60 @@ events-append (Begins p i ∷ xs) ys = ap (λ es. Call p i ∷ es) (events-appen
 events-append (Ends p r ∷ xs) ys = ap (λ es. Return p r ∷ es) (events-append xs ys)
 events-append (Ceases p ∷ xs) ys = events-append xs ys
 
--- a line that tells something is passed
-pub line_passed : {I R : Type 0} (wording : Wording I R) (lines : List (Bor (List ℕ))) (i n : ℕ) (d : Bor (List ℕ)) (old new : List (Told I R)) → i < length lines → AddsLine wording (get_or lines i d).now old new → first_bad wording (n + 1) (bytes_of (drop (i + 1) lines)) ≡ first_bad wording n (bytes_of (drop i lines))
-line_passed wording lines i n d old new within adds =
-    sym (ap (λ told. if is_some told then first_bad wording (n + 1) (bytes_of (drop (i + 1) lines)) else Some n) adds.tells)
-    ∙ sym (at_drop_more (λ ls. first_bad wording n (bytes_of ls)) lines i d within)
+-- what line i tells, and what is left to be told from a line on
+module _ {I R : Type 0} (wording : Wording I R) (lines : List (Bor (List ℕ))) (i : ℕ) (d : Bor (List ℕ)) (within : i < length lines) where
+  abbrev line : List ℕ
+  line = (get_or lines i d).now
 
--- a line that tells nothing is the first bad one
-pub line_stops : {I R : Type 0} (wording : Wording I R) (lines : List (Bor (List ℕ))) (i n : ℕ) (d : Bor (List ℕ)) → i < length lines → line_tells wording (get_or lines i d).now ≡ None → first_bad wording n (bytes_of (drop i lines)) ≡ Some n
-line_stops wording lines i n d within nothing =
-    at_drop_more (λ ls. first_bad wording n (bytes_of ls)) lines i d within
-    ∙ ap (λ told. if is_some told then first_bad wording (n + 1) (bytes_of (drop (i + 1) lines)) else Some n) nothing
+  abbrev left : ℕ → List (List ℕ)
+  left place = bytes_of (drop place lines)
 
--- one line more, of which none is bad
-none_step : {T : Type 0} (n : ℕ) (tolds : List T) (told rest : Option (List T)) (first : Option ℕ) → ((ts : List T) → rest ≡ Some ts → first ≡ None) → option_and_then (λ told. option_map (λ tolds. told ++ tolds) rest) told ≡ Some tolds → (if is_some told then first else Some n) ≡ None
-none_step n tolds None rest first ih e = cc
-none_step n tolds (Some told) None first ih e = cc
-none_step n tolds (Some told) (Some ts) first ih e = ih ts refl
+  -- what was told, and what is left to be told, one line later
+  pub line_added : (old new : List (Told I R)) → AddsLine wording line old new
+      → option_map (λ ts. new ++ ts) (tolds_of wording (left (i + 1))) ≡ option_map (λ ts. old ++ ts) (tolds_of wording (left i))
+  line_added old new adds =
+      let rest = tolds_of wording (left (i + 1)) in
+      ap (λ news. option_map (λ ts. news ++ ts) rest) adds.added
+      ∙ sym (told_next old adds.more rest)
+      ∙ sym (ap (λ told. option_map (λ ts. old ++ ts) (option_and_then (λ told. option_map (λ tolds. told ++ tolds) rest) told)) adds.tells)
+      ∙ sym (at_drop_more (λ ls. option_map (λ ts. old ++ ts) (tolds_of wording (bytes_of ls))) lines i d within)
 
--- where lines are read, none is bad
-pub none_bad : {I R : Type 0} (wording : Wording I R) (n : ℕ) (lines : List (List ℕ)) (tolds : List (Told I R)) → tolds_of wording lines ≡ Some tolds → first_bad wording n lines ≡ None
-none_bad wording n [] tolds e = refl
-none_bad wording n (line ∷ lines) tolds e =
-    none_step n tolds (line_tells wording line) (tolds_of wording lines) (first_bad wording (n + 1) lines) (λ ts r. none_bad wording (n + 1) lines ts r) e
+  -- the first bad line, where line i tells something, or nothing
+  first_after : (n : ℕ) (told : Option (List (Told I R))) → line_tells wording line ≡ told
+      → first_bad wording n (left i) ≡ (if is_some told then first_bad wording (n + 1) (left (i + 1)) else Some n)
+  first_after n told is =
+      at_drop_more (λ ls. first_bad wording n (bytes_of ls)) lines i d within
+      ∙ ap (λ told. if is_some told then first_bad wording (n + 1) (left (i + 1)) else Some n) is
 
--- a line that is refused is the first bad one
-pub refuses_first : {I R : Type 0} (wording : Wording I R) (lines : List (Bor (List ℕ))) (i n : ℕ) (d : Bor (List ℕ)) (error : ReadError) → i < length lines → RefusesLine wording (get_or lines i d).now n error → first_bad wording n (bytes_of (drop i lines)) ≡ first_bad wording 1 (bytes_of lines) → RefusesFirst wording (bytes_of lines) error
-refuses_first wording lines i n d (Refused fault) within refused first =
-    sym first ∙ line_stops wording lines i n d within (refused.bad tt) ∙ ap Some (sym refused.on)
-refuses_first wording lines i n d Memory within refused first = tt
+  -- a line that tells something is passed
+  pub line_passed : (n : ℕ) (old new : List (Told I R)) → AddsLine wording line old new
+      → first_bad wording (n + 1) (left (i + 1)) ≡ first_bad wording n (left i)
+  line_passed n old new adds = sym (first_after n (Some adds.more) adds.tells)
 
--- the first bad line is named
-pub names_first : {I R : Type 0} (wording : Wording I R) (lines : List (List ℕ)) (error : ReadError) → RefusesFirst wording lines error → NamesFirstBad wording lines error
-names_first wording lines (Refused fault) first = λ number e. some_same fault.line number (sym first ∙ e)
-names_first wording lines Memory first = tt
+  -- a line that is refused is the first bad one
+  pub refuses_first : (n : ℕ) (error : ReadError) → RefusesLine wording line n error
+      → first_bad wording n (left i) ≡ first_bad wording 1 (bytes_of lines) → RefusesFirst wording (bytes_of lines) error
+  refuses_first n (Refused fault) refused first = sym first ∙ first_after n None (refused.bad tt) ∙ ap Some (sym refused.on)
+  refuses_first n Memory refused first = tt
 
--- where none is bad, any may be named
-pub names_none : {I R : Type 0} (wording : Wording I R) (lines : List (List ℕ)) (error : ReadError) → first_bad wording 1 lines ≡ None → NamesFirstBad wording lines error
-names_none wording lines (Refused fault) none = λ number e. none_some fault.line number (sym none ∙ e)
-names_none wording lines Memory none = tt
+module _ {I R : Type 0} (wording : Wording I R) where
+  -- where lines are read, none is bad
+  pub none_bad : (n : ℕ) (lines : List (List ℕ)) (tolds : List (Told I R)) → tolds_of wording lines ≡ Some tolds → first_bad wording n lines ≡ None
+  none_bad n [] tolds e = refl
+  none_bad n (line ∷ lines) tolds e = step (line_tells wording line) (tolds_of wording lines) (λ ts r. none_bad (n + 1) lines ts r) e where
+    step : (told rest : Option (List (Told I R))) → ((ts : List (Told I R)) → rest ≡ Some ts → first_bad wording (n + 1) lines ≡ None)
+        → option_and_then (λ told. option_map (λ tolds. told ++ tolds) rest) told ≡ Some tolds
+        → (if is_some told then first_bad wording (n + 1) lines else Some n) ≡ None
+    step None rest so e = cc
+    step (Some told) None so e = cc
+    step (Some told) (Some ts) so e = so ts refl
+
+  -- the first bad line is named
+  pub names_first : (lines : List (List ℕ)) (error : ReadError) → RefusesFirst wording lines error → NamesFirstBad wording lines error
+  names_first lines (Refused fault) first = λ number e. let is : Some fault.line ≡ Some number = sym first ∙ e in cc
+  names_first lines Memory first = tt
+
+  -- where none is bad, any may be named
+  pub names_none : (lines : List (List ℕ)) (error : ReadError) → first_bad wording 1 lines ≡ None → NamesFirstBad wording lines error
+  names_none lines (Refused fault) none = λ number e. let is : None ≡ Some number = sym none ∙ e in cc
+  names_none lines Memory none = tt

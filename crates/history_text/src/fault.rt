@@ -63,38 +63,50 @@ pub enum Reason {
     NoType,
 }
 
+impl Reason {
+    /// What is said of it, in two parts.
+    fn texts(&self) -> (&'static str, &'static str) {
+        match self {
+            Reason::NoFormat => ("no history begins so: see 'unicheck --help'", ""),
+            Reason::BadByte(_) => ("a byte isn't from 32 to 126", ""),
+            Reason::CarriageReturn => ("a carriage return: the file has Windows line ends", ""),
+            Reason::Tab => ("a tab: between two words there is one space", ""),
+            Reason::SpaceFirst => ("a space first: a line begins with its first word", ""),
+            Reason::SpaceLast => ("a space last: a line ends with its last word", ""),
+            Reason::TwoSpaces => ("two spaces: there is one between two words", ""),
+            Reason::NoEvent => ("unknown event: there are call, return and lost", ""),
+            Reason::Missing(form) => ("a word is missing: ", form),
+            Reason::Extra(form) => ("a word too many: ", form),
+            Reason::NoProcess => ("a process is a number from 0 to 65535", ""),
+            Reason::NoName => ("a process is 1 to 20 letters, digits, _ and -", ""),
+            Reason::ManyProcesses => ("there are more than 65536 processes", ""),
+            Reason::NoCall(calls) => ("no such call: there are ", calls),
+            Reason::NoReply(replies) => ("no such reply: there are ", replies),
+            Reason::Busy => ("the process has a call that hasn't returned", ""),
+            Reason::Idle => ("the process has no call", ""),
+            Reason::Lost => ("the process was lost before", ""),
+            Reason::NoArrow => ("no arrow: NAME CALL -> REPLY BEGIN END", ""),
+            Reason::NoStamp => (
+                "a time stamp is a number from 0 to 18446744073709551615",
+                "",
+            ),
+            Reason::Backwards => ("the call ends before it begins", ""),
+            Reason::NoMap => ("a map begins with an open brace", ""),
+            Reason::Open => ("a bracket or a quotation mark is left open", ""),
+            Reason::AfterMap => ("one map stands on a line", ""),
+            Reason::NoMember(name) => ("the map has no ", name),
+            Reason::NoType => ("a type is invoke, ok, fail or info", ""),
+        }
+    }
+}
+
 impl fmt::Display for Reason {
     fn fmt<W: fmt::Write>(&self, f: &mut fmt::Formatter<W>) -> fmt::Result {
-        match self {
-            Reason::NoFormat => write!(f, "no history begins so: see 'unicheck --help'"),
-            Reason::BadByte(byte) => write!(f, "byte {byte} isn't from 32 to 126"),
-            Reason::CarriageReturn => {
-                write!(f, "a carriage return: the file has Windows line ends")
-            }
-            Reason::Tab => write!(f, "a tab: between two words there is one space"),
-            Reason::SpaceFirst => write!(f, "a space first: a line begins with its first word"),
-            Reason::SpaceLast => write!(f, "a space last: a line ends with its last word"),
-            Reason::TwoSpaces => write!(f, "two spaces: there is one between two words"),
-            Reason::NoEvent => write!(f, "unknown event: there are call, return and lost"),
-            Reason::Missing(form) => write!(f, "a word is missing: {form}"),
-            Reason::Extra(form) => write!(f, "a word too many: {form}"),
-            Reason::NoProcess => write!(f, "a process is a number from 0 to 65535"),
-            Reason::NoName => write!(f, "a process is 1 to 20 letters, digits, _ and -"),
-            Reason::ManyProcesses => write!(f, "there are more than 65536 processes"),
-            Reason::NoCall(calls) => write!(f, "no such call: there are {calls}"),
-            Reason::NoReply(replies) => write!(f, "no such reply: there are {replies}"),
-            Reason::Busy => write!(f, "the process has a call that hasn't returned"),
-            Reason::Idle => write!(f, "the process has no call"),
-            Reason::Lost => write!(f, "the process was lost before"),
-            Reason::NoArrow => write!(f, "no arrow: NAME CALL -> REPLY BEGIN END"),
-            Reason::NoStamp => write!(f, "a time stamp is a number from 0 to {}", u64::MAX),
-            Reason::Backwards => write!(f, "the call ends before it begins"),
-            Reason::NoMap => write!(f, "a map begins with an open brace"),
-            Reason::Open => write!(f, "a bracket or a quotation mark is left open"),
-            Reason::AfterMap => write!(f, "one map stands on a line"),
-            Reason::NoMember(name) => write!(f, "the map has no {name}"),
-            Reason::NoType => write!(f, "a type is invoke, ok, fail or info"),
+        if let Reason::BadByte(byte) = self {
+            return write!(f, "byte {byte} isn't from 32 to 126");
         }
+        let (text, rest) = self.texts();
+        write!(f, "{text}{rest}")
     }
 }
 

@@ -8,13 +8,22 @@ ghost use Rattle.history_text.specs.Own.{is_note, lines_of};
 use crate::fault::{Reason, Spot};
 use std::alloc::{AllocError, Global};
 
+/// The parts of a text between bytes like this one.
+///
+/// An `Err` says that memory was refused.
+fn parts_of(alloc: Global, text: &[u8], cut: u8) -> Result<Vec<&[u8]>, AllocError>
+    ensures { IfOk result (λ parts. bytes_of parts.items ≡ slice_split (λ b. b == cut) text.now) }
+{
+    text.split(|byte| *byte == cut).collect(alloc)
+}
+
 /// The lines of a text, cut at each byte 10.
 ///
 /// An `Err` says that memory was refused.
 pub(crate) fn lines_of(alloc: Global, text: &[u8]) -> Result<Vec<&[u8]>, AllocError>
     ensures { IfOk result (λ lines. bytes_of lines.items ≡ lines_of text.now) }
 {
-    text.split(|byte| *byte == b'\n').collect(alloc)
+    parts_of(alloc, text, b'\n')
 }
 
 /// Whether a line is a note: it is empty or begins with `#`.
@@ -33,7 +42,7 @@ pub(crate) fn is_note(line: &[u8]) -> bool
 pub(crate) fn words_of(alloc: Global, line: &[u8]) -> Result<Vec<&[u8]>, AllocError>
     ensures { IfOk result (λ words. bytes_of words.items ≡ words_of_text line.now) }
 {
-    line.split(|byte| *byte == b' ').collect(alloc)
+    parts_of(alloc, line, b' ')
 }
 
 /// Where a word of a line begins, by the words before it; the end of the line, where it has no such word.
@@ -46,6 +55,14 @@ pub(crate) fn start_of(words: &[&[u8]], place: usize) -> usize {
         start = start.saturating_add(word.len()).saturating_add(1);
     }
     start.saturating_sub(1)
+}
+
+/// What is wrong at a word of a line.
+pub(crate) fn spot_at(words: &[&[u8]], place: usize, reason: Reason) -> Spot {
+    Spot {
+        start: start_of(words, place),
+        reason,
+    }
 }
 
 /// What is wrong with the bytes of a line; `None` where they are from 32 to 126.
@@ -65,18 +82,13 @@ pub(crate) fn bad_byte(line: &[u8]) -> Option<Spot> {
 
 /// What is wrong with the spaces between the words of a line; `None` where there is one between two.
 pub(crate) fn bad_space(words: &[&[u8]]) -> Option<Spot> {
-    for (i, word) in words.iter().enumerate() {
-        if word.is_empty() {
-            let start = start_of(words, i);
-            let reason = if i == 0 {
-                Reason::SpaceFirst
-            } else if i.saturating_add(1) == words.len() {
-                Reason::SpaceLast
-            } else {
-                Reason::TwoSpaces
-            };
-            return Some(Spot { start, reason });
-        }
-    }
-    None
+    let place = words.iter().position(|word| word.is_empty())?;
+    let reason = if place == 0 {
+        Reason::SpaceFirst
+    } else if place.saturating_add(1) == words.len() {
+        Reason::SpaceLast
+    } else {
+        Reason::TwoSpaces
+    };
+    Some(spot_at(words, place, reason))
 }

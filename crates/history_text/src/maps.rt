@@ -9,29 +9,28 @@ use crate::tokens::{Kind, Token, tokens_of};
 use judged_objects::Worded;
 use ready_objects::{Amount, is_text};
 use std::alloc::{AllocError, Global};
+use std::collections::BTreeMap;
 
-/// What a map tells.
+/// What a map tells of a process.
 #[derive(Drop)]
-enum Map<'a, I: Drop, R: Drop> {
-    /// Nothing of a process: it is the first line of `unidraw`, or of Jepsen's nemesis.
-    Nothing,
-    /// A process begins a call.
-    Begins(&'a [u8], I),
+enum Act<I: Drop, R: Drop> {
+    /// It begins a call.
+    Begins(I),
     /// Its call returns.
-    Ends(&'a [u8], R),
+    Ends(R),
     /// Its call failed: it is known to have had no effect.
-    Fails(&'a [u8]),
+    Fails,
     /// Its call may never return.
-    Ceases(&'a [u8]),
+    Ceases,
 }
 
-/// The spot of a value's first token.
-fn at(value: &[Token<'_>], reason: Reason) -> Spot {
+/// The refusal of a line at the first token of a value.
+fn refused(line: u64, value: &[Token<'_>], reason: Reason) -> ReadError {
     let start = match value.first() {
         Some(token) => token.start,
         None => 0,
     };
-    Spot { start, reason }
+    Spot { start, reason }.on(line)
 }
 
 /// The words of a value: its tokens that are no brackets, without `nil` and `null`.
@@ -117,54 +116,55 @@ fn resp_in<O: Worded>(alloc: Global, tokens: &[Token<'_>]) -> Result<Option<O::R
     resp_by::<O>(alloc, bytes_of(function), value)
 }
 
-/// What a map tells of a process, or what is wrong with it.
-fn told_of<'a, O: Worded>(
+/// What a map tells of its process.
+fn act_of<O: Worded>(
     alloc: Global,
+    line: u64,
     tokens: &[Token<'_>],
     kind: &[Token<'_>],
-    process: &'a [u8],
-) -> Result<Result<Map<'a, O::Inv, O::Resp>, Spot>, AllocError> {
+) -> Result<Act<O::Inv, O::Resp>, ReadError> {
     let word = bytes_of(kind);
     if is_text(word, "invoke") {
         match inv_in::<O>(alloc, tokens)? {
-            Some(inv) => Ok(Ok(Map::Begins(process, inv))),
-            None => Ok(Err(at(kind, Reason::NoCall(O::calls())))),
+            Some(inv) => Ok(Act::Begins(inv)),
+            None => Err(refused(line, kind, Reason::NoCall(O::CALLS))),
         }
     } else if is_text(word, "ok") {
         match resp_in::<O>(alloc, tokens)? {
-            Some(resp) => Ok(Ok(Map::Ends(process, resp))),
-            None => Ok(Err(at(kind, Reason::NoReply(O::replies())))),
+            Some(resp) => Ok(Act::Ends(resp)),
+            None => Err(refused(line, kind, Reason::NoReply(O::REPLIES))),
         }
     } else if is_text(word, "fail") {
-        Ok(Ok(Map::Fails(process)))
+        Ok(Act::Fails)
     } else if is_text(word, "info") {
-        Ok(Ok(Map::Ceases(process)))
+        Ok(Act::Ceases)
     } else {
-        Ok(Err(at(kind, Reason::NoType)))
+        Err(refused(line, kind, Reason::NoType))
     }
 }
 
-/// What the map of a line tells, or what is wrong with it.
-fn map_of<'a, O: Worded>(
-    alloc: Global,
-    tokens: &[Token<'a>],
-) -> Result<Result<Map<'a, O::Inv, O::Resp>, Spot>, AllocError> {
+/// The type and the process of a map; `None` where it tells nothing of a process: it is the first line of `unidraw`, or
+/// of Jepsen's nemesis.
+fn heads_of<'a, 'b>(
+    line: u64,
+    tokens: &'b [Token<'a>],
+) -> Result<Option<(&'b [Token<'a>], &'a [u8])>, ReadError> {
     if let Some(spot) = bad_map(tokens) {
-        return Ok(Err(spot));
+        return Err(spot.on(line));
     }
     let Some(kind) = member(tokens, "type") else {
-        return Ok(Err(at(tokens, Reason::NoMember("type"))));
+        return Err(refused(line, tokens, Reason::NoMember("type")));
     };
     if is_text(bytes_of(kind), "run") {
-        return Ok(Ok(Map::Nothing));
+        return Ok(None);
     }
     let Some(process) = member(tokens, "process") else {
-        return Ok(Err(at(tokens, Reason::NoMember("process"))));
+        return Err(refused(line, tokens, Reason::NoMember("process")));
     };
     let process = bytes_of(process);
     match Amount::read(process) {
-        Some(_) => told_of::<O>(alloc, tokens, kind, process),
-        None => Ok(Ok(Map::Nothing)),
+        Some(_) => Ok(Some((kind, process))),
+        None => Ok(None),
     }
 }
 
@@ -176,7 +176,7 @@ struct Heard<'a, I: Drop, R: Drop> {
     /// The processes.
     names: Names<'a>,
     /// For each process the place of its last call.
-    begun: Vec<usize>,
+    begun: BTreeMap<usize, usize>,
 }
 
 impl<'a, I: Drop, R: Drop> Heard<'a, I, R> {
@@ -185,68 +185,72 @@ impl<'a, I: Drop, R: Drop> Heard<'a, I, R> {
         Heard {
             tolds: Vec::new(alloc),
             names: Names::new(alloc),
-            begun: Vec::new(alloc),
+            begun: BTreeMap::new(alloc),
         }
     }
 
-    /// Adds what a line tells.
-    fn add(&mut self, line: u64, told: Told<I, R>) -> Result<Option<Reason>, AllocError> {
-        self.tolds.push(Some(Placed {
-            line,
-            start: 0,
-            told,
-        }))?;
-        Ok(None)
-    }
-
-    /// Notes that a process begins a call here.
-    fn note_call(&mut self, process: usize) -> Result<(), AllocError> {
-        for _ in self.begun.len()..=process {
-            self.begun.push(usize::MAX)?;
-        }
-        if let Some(begun) = self.begun.get_mut(process) {
-            *begun = self.tolds.len();
-        }
-        Ok(())
-    }
-
-    /// Leaves out the last call of a process; the answer is the reason, where it has none.
-    fn leave_out(&mut self, process: usize) -> Option<Reason> {
-        let begun = match self.begun.get(process) {
-            Some(begun) => *begun,
-            None => usize::MAX,
-        };
+    /// Leaves out the last call of a process.
+    ///
+    /// An `Err` says that it has none.
+    fn leave_out(&mut self, line: u64, process: usize) -> Result<(), ReadError> {
+        let begun = self.begun.get(&process).copied().unwrap_or(usize::MAX);
         match self.tolds.get_mut(begun) {
             Some(told) => {
                 *told = None;
-                None
+                Ok(())
             }
-            None => Some(Reason::Idle),
+            None => Err(refused(line, &[], Reason::Idle)),
         }
     }
 
-    /// Takes what a map tells; the answer is the reason, where that can't be.
-    fn take(&mut self, line: u64, map: Map<'a, I, R>) -> Result<Option<Reason>, AllocError> {
-        let name = match &map {
-            Map::Nothing => return Ok(None),
-            Map::Begins(name, _) => *name,
-            Map::Ends(name, _) => *name,
-            Map::Fails(name) => *name,
-            Map::Ceases(name) => *name,
-        };
-        let Some(process) = self.names.number_of(name)? else {
-            return Ok(Some(Reason::ManyProcesses));
-        };
-        match map {
-            Map::Begins(_, inv) => {
-                self.note_call(process)?;
-                self.add(line, Told::Begins(process, inv))
+    /// What was told.
+    fn kept(self, alloc: Global) -> Result<Vec<Placed<I, R>>, AllocError> {
+        let mut kept = Vec::new(alloc);
+        for told in self.tolds {
+            if let Some(told) = told {
+                kept.push(told)?;
             }
-            Map::Ends(_, resp) => self.add(line, Told::Ends(process, resp)),
-            Map::Ceases(_) => self.add(line, Told::Ceases(process)),
-            Map::Fails(_) => Ok(self.leave_out(process)),
-            Map::Nothing => Ok(None),
         }
+        Ok(kept)
+    }
+
+    /// Takes what a map tells of a process.
+    fn take(&mut self, line: u64, name: &'a [u8], act: Act<I, R>) -> Result<(), ReadError> {
+        let process = self.names.number_of(name, line)?;
+        let told = match act {
+            Act::Begins(inv) => {
+                let place = self.tolds.len();
+                self.begun.insert(process, place).map_err(AllocError::from)?;
+                Told::Begins(process, inv)
+            }
+            Act::Ends(resp) => Told::Ends(process, resp),
+            Act::Fails => return self.leave_out(line, process),
+            Act::Ceases => Told::Ceases(process),
+        };
+        let start = 0;
+        let placed = Placed { line, start, told };
+        self.tolds.push(Some(placed)).map_err(AllocError::from)?;
+        Ok(())
+    }
+}
+
+/// Adds what a line tells, unless it is a note.
+fn add_line<'a, O: Worded>(
+    alloc: Global,
+    heard: &mut Heard<'a, O::Inv, O::Resp>,
+    line: &'a [u8],
+    number: u64,
+) -> Result<(), ReadError> {
+    if is_note(line) {
+        return Ok(());
+    }
+    let tokens = tokens_of(alloc, line, number)?;
+    match heads_of(number, tokens.as_slice())? {
+        Some((kind, process)) => {
+            let act = act_of::<O>(alloc, number, tokens.as_slice(), kind)?;
+            heard.take(number, process, act)
+        }
+        None => Ok(()),
     }
 }
 
@@ -259,22 +263,10 @@ pub(crate) fn tolds_of<O: Worded>(
     lines: &[&[u8]],
 ) -> Result<Vec<Placed<O::Inv, O::Resp>>, ReadError> {
     let mut heard = Heard::new(alloc);
-    for (i, line) in lines.iter().enumerate() {
-        if is_note(line) {
-            continue;
-        }
-        let number = (i as u64).saturating_add(1);
-        let tokens = tokens_of(alloc, line)?.map_err(|spot| spot.on(number))?;
-        let map = map_of::<O>(alloc, tokens.as_slice())?.map_err(|spot| spot.on(number))?;
-        if let Some(reason) = heard.take(number, map)? {
-            return Err(Spot { start: 0, reason }.on(number));
-        }
+    let mut number = 0u64;
+    for line in lines {
+        number = number.saturating_add(1);
+        add_line::<O>(alloc, &mut heard, line, number)?;
     }
-    let mut tolds = Vec::new(alloc);
-    for told in heard.tolds {
-        if let Some(told) = told {
-            tolds.push(told).map_err(AllocError::from)?;
-        }
-    }
-    Ok(tolds)
+    Ok(heard.kept(alloc)?)
 }

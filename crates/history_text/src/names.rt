@@ -1,5 +1,6 @@
 //! Numbers for the processes of a history, in the order in which they are first told of.
 
+use crate::fault::{ReadError, Reason, Spot};
 use std::alloc::{AllocError, Global};
 
 /// The names that have numbers, in the order of these.
@@ -16,17 +17,20 @@ impl<'a> Names<'a> {
         }
     }
 
-    /// The number of a name, from 0; `None` where 65,536 others have one.
-    pub(crate) fn number_of(&mut self, name: &'a [u8]) -> Result<Option<usize>, AllocError> {
+    /// The number of a name of this line, from 0.
+    ///
+    /// An `Err` says that 65,536 others have one, or that memory was refused.
+    pub(crate) fn number_of(&mut self, name: &'a [u8], line: u64) -> Result<usize, ReadError> {
         if let Some(number) = self.names.iter().position(|other| *other == name) {
-            return Ok(Some(number));
+            return Ok(number);
         }
         let number = self.names.len();
         if number >= 65_536 {
-            return Ok(None);
+            let reason = Reason::ManyProcesses;
+            return Err(Spot { start: 0, reason }.on(line));
         }
-        self.names.push(name)?;
-        Ok(Some(number))
+        self.names.push(name).map_err(AllocError::from)?;
+        Ok(number)
     }
 }
 

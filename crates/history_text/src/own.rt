@@ -7,7 +7,7 @@ ghost use Rattle.history_text.specs.Own.{AddsLine, RefusesFirst, RefusesLine, to
 
 use crate::fault::{ReadError, Reason, Spot};
 use crate::history::{Placed, Told};
-use crate::lines::{bad_byte, bad_space, is_note, start_of, words_of};
+use crate::lines::{bad_byte, bad_space, is_note, spot_at, start_of, words_of};
 use judged_objects::Worded;
 use ready_objects::{Amount, is_text};
 use std::alloc::Global;
@@ -22,6 +22,7 @@ const RETURN: &str = "return P REPLY";
 const LOST: &str = "lost P";
 
 /// The process that a word names: a number from 0 to 65,535.
+#[tactic(auto, unfolding(ready_objects::specs::Number::number_below))]
 pub(crate) fn process_of(word: &[u8]) -> Option<usize>
     ensures { result ≡ number_below 65536 word.now }
 {
@@ -60,16 +61,16 @@ fn told_of<O: Worded>(words: &[&[u8]]) -> Option<Told<O::Inv, O::Resp>>
 
 /// What is wrong with the words after a verb of this form.
 fn after_verb<O: Worded>(words: &[&[u8]], form: &'static str) -> Spot {
-    let at = |place: usize, reason: Reason| Spot {
-        start: start_of(words, place),
-        reason,
-    };
     match words {
-        [_, process, ..] if process_of(process).is_none() => at(1, Reason::NoProcess),
-        [_, _, _, ..] if is_text(form.as_bytes(), LOST) => at(2, Reason::Extra(form)),
-        [_, _, _, ..] if is_text(form.as_bytes(), CALL) => at(2, Reason::NoCall(O::calls())),
-        [_, _, _, ..] => at(2, Reason::NoReply(O::replies())),
-        _ => at(words.len(), Reason::Missing(form)),
+        [_, process, ..] if process_of(process).is_none() => spot_at(words, 1, Reason::NoProcess),
+        [_, _, _, ..] if is_text(form.as_bytes(), LOST) => spot_at(words, 2, Reason::Extra(form)),
+        [_, _, _, ..] if is_text(form.as_bytes(), CALL) => spot_at(
+            words,
+            2,
+            Reason::NoCall(O::CALLS),
+        ),
+        [_, _, _, ..] => spot_at(words, 2, Reason::NoReply(O::REPLIES)),
+        _ => spot_at(words, words.len(), Reason::Missing(form)),
     }
 }
 

@@ -1,13 +1,14 @@
 //! The history of a text.
 
-ghost use Rattle.std.specs.Prelude.{◌≡◌, IfErr, IfOk, Some, true};
+ghost use Rattle.std.specs.Prelude.{◌≡◌, IfErr, IfOk, Some, map, true};
 ghost use Rattle.ready_objects.specs.Words.{bytes_of};
-ghost use Rattle.history_text.specs.Own.{NamesFirstBad, begins_own, is_own, lines_of, own_events};
+ghost use Rattle.history_text.specs.Own.{NamesFirstBad, RefusesFirst, begins_own, is_own, lines_of};
+ghost use Rattle.history_text.specs.Own.{own_events, tolds_of};
 ghost use Rattle.history_text.specs.Refused.{IsRefusal};
 ghost use Rattle.history_text.specs.Turns.{IsReadable};
 
 use crate::fault::{ReadError, Reason, Spot};
-use crate::history::{History, history_of};
+use crate::history::{History, Placed, history_of};
 use crate::lines::{is_note, lines_of, words_of};
 use crate::{maps, own, stamped};
 use judged_objects::Worded;
@@ -63,6 +64,27 @@ fn format_in(alloc: Global, lines: &[&[u8]]) -> Result<Format, ReadError>
     Ok(Format::Own)
 }
 
+/// What the lines of a text tell.
+///
+/// An `Err` is the first line that is refused, or says that memory was refused.
+fn tolds_in<O: Worded>(
+    alloc: Global,
+    text: &[u8],
+) -> Result<Vec<Placed<O::Inv, O::Resp>>, ReadError>
+    ensures told { IfOk result (λ tolds. is_own (lines_of text.now) ≡ true
+        → tolds_of O.wording (lines_of text.now) ≡ Some (map (λ placed. placed.told) tolds.items)) }
+    ensures refused { IfErr result (λ error. is_own (lines_of text.now) ≡ true
+        → RefusesFirst O.wording (lines_of text.now) error) }
+{
+    let lines = lines_of(alloc, text)?;
+    let lines = lines.as_slice();
+    match format_in(alloc, lines)? {
+        Format::Own => own::tolds_of::<O>(alloc, lines),
+        Format::Maps => maps::tolds_of::<O>(alloc, lines),
+        Format::Stamped => stamped::tolds_of::<O>(alloc, lines),
+    }
+}
+
 /// Reads the recorded history of an object.
 ///
 /// An `Err` is the first line that can't be read; or where each can be, the first one that tells what a process can't
@@ -80,12 +102,8 @@ pub fn read_history<O: Worded>(
     ensures unreadable { IfErr result (λ error. is_own (lines_of text.now) ≡ true → IsRefusal error
         → ¬ (IsReadable O.wording (lines_of text.now))) }
 {
-    let lines = lines_of(alloc, text)?;
-    let lines = lines.as_slice();
-    let tolds = match format_in(alloc, lines)? {
-        Format::Own => own::tolds_of::<O>(alloc, lines)?,
-        Format::Maps => maps::tolds_of::<O>(alloc, lines)?,
-        Format::Stamped => stamped::tolds_of::<O>(alloc, lines)?,
-    };
-    history_of(alloc, tolds)
+    match tolds_in::<O>(alloc, text) {
+        Ok(tolds) => history_of(alloc, tolds),
+        Err(error) => Err(error),
+    }
 }

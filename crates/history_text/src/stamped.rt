@@ -1,9 +1,9 @@
 //! Lines of whole calls with time stamps: `NAME CALL -> REPLY BEGIN END`, or `NAME CALL -> ? BEGIN` of one that never
 //! returned.
 
-use crate::fault::{ReadError, Reason, Spot};
+use crate::fault::{ReadError, Reason};
 use crate::history::{Placed, Told};
-use crate::lines::{bad_byte, bad_space, is_note, start_of, words_of};
+use crate::lines::{bad_byte, bad_space, is_note, spot_at, words_of};
 use crate::names::{Names, is_name};
 use judged_objects::Worded;
 use ready_objects::is_text;
@@ -45,68 +45,60 @@ fn time_of(word: &[u8]) -> Option<u64> {
     }
 }
 
-/// What is wrong at a word of a line.
-fn at(words: &[&[u8]], place: usize, reason: Reason) -> Spot {
-    Spot {
-        start: start_of(words, place),
-        reason,
-    }
-}
-
-/// How a call returned by the words after the arrow; `None` where it never did.
+/// How a call returned by the words after the arrow.
 fn end_of<O: Worded>(
+    line: u64,
     words: &[&[u8]],
     after: usize,
     begins: u64,
-) -> Result<Option<End<O::Resp>>, Spot> {
-    let (Some(end), Some(resp)) = (
-        words.last(),
-        words.get(after..words.len().saturating_sub(2)),
-    ) else {
-        return Err(at(words, words.len(), Reason::Missing(FORM)));
-    };
-    let Some(resp) = O::read_resp(resp) else {
-        return Err(at(words, after, Reason::NoReply(O::replies())));
-    };
+) -> Result<End<O::Resp>, ReadError> {
     let last = words.len().saturating_sub(1);
-    match time_of(end) {
-        Some(time) if time < begins => Err(at(words, last, Reason::Backwards)),
-        Some(time) => Ok(Some(End { resp, at: time })),
-        None => Err(at(words, last, Reason::NoStamp)),
+    let resp = words.get(after..last.saturating_sub(1)).unwrap_or(&[]);
+    let Some(resp) = O::read_resp(resp) else {
+        return Err(spot_at(words, after, Reason::NoReply(O::REPLIES)).on(line));
+    };
+    match words.last().and_then(|word| time_of(word)) {
+        Some(at) if at < begins => Err(spot_at(words, last, Reason::Backwards).on(line)),
+        Some(at) => Ok(End { resp, at }),
+        None => Err(spot_at(words, last, Reason::NoStamp).on(line)),
     }
 }
 
-/// When a call began by the words after the arrow, and how it returned, if it did.
-fn times_of<O: Worded>(words: &[&[u8]], after: usize) -> Result<(u64, Option<End<O::Resp>>), Spot> {
+/// When a call began by the words after the arrow, and how it returned; `None` where it never did.
+fn times_of<O: Worded>(
+    line: u64,
+    words: &[&[u8]],
+    after: usize,
+) -> Result<(u64, Option<End<O::Resp>>), ReadError> {
     let many = words.len().saturating_sub(after);
     let is_pending = many == 2 && words.get(after).map_or(false, |word| is_text(word, "?"));
     if many < 3 && !is_pending {
-        return Err(at(words, words.len(), Reason::Missing(FORM)));
+        return Err(spot_at(words, words.len(), Reason::Missing(FORM)).on(line));
     }
     let place = words.len().saturating_sub(if is_pending { 1 } else { 2 });
     match words.get(place).and_then(|word| time_of(word)) {
         Some(begins) if is_pending => Ok((begins, None)),
-        Some(begins) => Ok((begins, end_of::<O>(words, after, begins)?)),
-        None => Err(at(words, place, Reason::NoStamp)),
+        Some(begins) => Ok((begins, Some(end_of::<O>(line, words, after, begins)?))),
+        None => Err(spot_at(words, place, Reason::NoStamp).on(line)),
     }
 }
 
-/// The call that the words of a line tell, or what is wrong with them.
+/// The call that the words of a line tell.
 fn whole_of<'a, O: Worded>(
     line: u64,
     words: &[&'a [u8]],
-) -> Result<Whole<'a, O::Inv, O::Resp>, Spot> {
+) -> Result<Whole<'a, O::Inv, O::Resp>, ReadError> {
     let process = match words.first() {
         Some(word) if is_name(word) => *word,
-        _ => return Err(at(words, 0, Reason::NoName)),
+        _ => return Err(spot_at(words, 0, Reason::NoName).on(line)),
     };
     let Some(arrow) = words.iter().position(|word| is_text(word, "->")) else {
-        return Err(at(words, words.len(), Reason::NoArrow));
+        return Err(spot_at(words, words.len(), Reason::NoArrow).on(line));
     };
     let Some(inv) = words.get(1..arrow).and_then(|inv| O::read_inv(inv)) else {
-        return Err(at(words, 1, Reason::NoCall(O::calls())));
+        return Err(spot_at(words, 1, Reason::NoCall(O::CALLS)).on(line));
     };
-    let (begins, end) = times_of::<O>(words, arrow.saturating_add(1))?;
+    let (begins, end) = times_of::<O>(line, words, arrow.saturating_add(1))?;
     Ok(Whole {
         line,
         process,
@@ -122,16 +114,17 @@ fn wholes_of<'a, O: Worded>(
     lines: &[&'a [u8]],
 ) -> Result<Vec<Whole<'a, O::Inv, O::Resp>>, ReadError> {
     let mut wholes = Vec::new(alloc);
-    for (i, line) in lines.iter().enumerate() {
+    let mut number = 0u64;
+    for line in lines {
+        number = number.saturating_add(1);
         if is_note(line) {
             continue;
         }
-        let number = (i as u64).saturating_add(1);
         let words = words_of(alloc, line)?;
         if let Some(spot) = bad_byte(line).or(bad_space(words.as_slice())) {
             return Err(spot.on(number));
         }
-        let whole = whole_of::<O>(number, words.as_slice()).map_err(|spot| spot.on(number))?;
+        let whole = whole_of::<O>(number, words.as_slice())?;
         wholes.push(whole).map_err(AllocError::from)?;
     }
     Ok(wholes)
@@ -177,10 +170,7 @@ pub(crate) fn tolds_of<O: Worded>(
         let Some(whole) = wholes.get(stamp.whole) else {
             continue;
         };
-        let Some(process) = names.number_of(whole.process)? else {
-            let reason = Reason::ManyProcesses;
-            return Err(Spot { start: 0, reason }.on(whole.line));
-        };
+        let process = names.number_of(whole.process, whole.line)?;
         let told = match whole.end {
             Some(end) if stamp.is_return => Told::Ends(process, end.resp),
             _ => Told::Begins(process, O::copy_inv(alloc, &whole.inv)?),

@@ -4,7 +4,7 @@
 
 ghost use Rattle.std.specs.Prelude.{◌<◌, length};
 
-use crate::fault::{Reason, Spot};
+use crate::fault::{ReadError, Reason, Spot};
 use std::alloc::{AllocError, Global};
 
 /// What a token is.
@@ -29,8 +29,6 @@ pub(crate) struct Token<'a> {
     pub(crate) bytes: &'a [u8],
     /// At which byte of the line it begins, from 0.
     pub(crate) start: usize,
-    /// At which byte it has ended.
-    pub(crate) end: usize,
 }
 
 /// Whether a byte stands between tokens.
@@ -43,15 +41,7 @@ fn ends_word(byte: u8) -> bool {
     is_blank(byte) || matches!(byte, b'{' | b'}' | b'[' | b']' | b'(' | b')' | b'"')
 }
 
-/// The bytes from one place on, before another.
-fn part(line: &[u8], from: usize, to: usize) -> &[u8] {
-    match line.get(from..to) {
-        Some(bytes) => bytes,
-        None => &[],
-    }
-}
-
-/// The first place from here on whose byte passes a test; the end of the line, where there is none.
+/// The first place from here on with a quotation mark, or else with a byte that ends a word.
 fn ends_at(line: &[u8], from: usize, is_quote: bool) -> Option<usize> {
     for at in from..line.len() {
         if (is_quote && line[at] == b'"') || (!is_quote && ends_word(line[at])) {
@@ -61,70 +51,47 @@ fn ends_at(line: &[u8], from: usize, is_quote: bool) -> Option<usize> {
     None
 }
 
-/// The token that begins at a place.
-///
-/// An `Err` says that a text isn't closed.
-fn token_at(line: &[u8], start: usize) -> Result<Token<'_>, Spot>
+/// The token that begins at a place, and where it has ended; `None` where a text isn't closed.
+fn token_at(line: &[u8], start: usize) -> Option<(Token<'_>, usize)>
     requires { start < length line.now }
 {
     let after = start + 1;
-    match line[start] {
-        b'{' | b'[' | b'(' => Ok(Token {
-            kind: Kind::Open,
-            bytes: part(line, start, after),
-            start,
-            end: after,
-        }),
-        b'}' | b']' | b')' => Ok(Token {
-            kind: Kind::Close,
-            bytes: part(line, start, after),
-            start,
-            end: after,
-        }),
-        b'"' => match ends_at(line, after, true) {
-            Some(end) => Ok(Token {
-                kind: Kind::Text,
-                bytes: part(line, after, end),
-                start,
-                end: end.saturating_add(1),
-            }),
-            None => Err(Spot {
-                start,
-                reason: Reason::Open,
-            }),
-        },
+    let (kind, from, to, end) = match line[start] {
+        b'{' | b'[' | b'(' => (Kind::Open, start, after, after),
+        b'}' | b']' | b')' => (Kind::Close, start, after, after),
+        b'"' => {
+            let end = ends_at(line, after, true)?;
+            (Kind::Text, after, end, end.saturating_add(1))
+        }
         _ => {
             let end = ends_at(line, start, false).unwrap_or(line.len());
-            Ok(Token {
-                kind: Kind::Word,
-                bytes: part(line, start, end),
-                start,
-                end,
-            })
+            (Kind::Word, start, end, end)
         }
-    }
+    };
+    let bytes = line.get(from..to).unwrap_or(&[]);
+    Some((Token { kind, bytes, start }, end))
 }
 
-/// The tokens of a line, or what is wrong with it.
+/// The tokens of the line with this number.
 ///
-/// The outer `Err` says that memory was refused.
+/// An `Err` says that a text isn't closed, or that memory was refused.
 pub(crate) fn tokens_of(
     alloc: Global,
     line: &[u8],
-) -> Result<Result<Vec<Token<'_>>, Spot>, AllocError> {
+    number: u64,
+) -> Result<Vec<Token<'_>>, ReadError> {
     let mut tokens = Vec::new(alloc);
     let mut after = 0;
-    for at in 0..line.len() {
-        if at < after || is_blank(line[at]) {
+    for start in 0..line.len() {
+        if start < after || is_blank(line[start]) {
             continue;
         }
-        match token_at(line, at) {
-            Ok(token) => {
-                after = token.end;
-                tokens.push(token)?;
-            }
-            Err(spot) => return Ok(Err(spot)),
-        }
+        let Some((token, end)) = token_at(line, start) else {
+            let reason = Reason::Open;
+            return Err(Spot { start, reason }.on(number));
+        };
+        tokens.push(token).map_err(AllocError::from)?;
+        after = end;
     }
-    Ok(Ok(tokens))
+    Ok(tokens)
 }

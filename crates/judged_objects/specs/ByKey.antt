@@ -1,187 +1,151 @@
 -- A map is made of its keys, and a set of its numbers: what a call is answered follows from the calls with the same one. The lemmas
 -- stand here, and not in proofs, since an impl takes its laws from specs.
-use Rattle.std.specs.Prelude.{◌≡◌, ◌==◌, ◌||◌, ◌∷◌, ◌++◌, ℕ, Bool, true, false, not, nat_eq, nat_lt, if◌then◌else◌, List, [], filter, Some, None, refl}
+use Rattle.std.specs.Prelude.{◌≡◌, ◌==◌, ◌∷◌, ◌++◌, ℕ, Bool, true, false, not, nat_eq, nat_lt, if◌then◌else◌, List, [], filter, refl}
 use Rattle.std.proofs.Common.{ap, arith, inl, inr, sym, ◌∙◌, ◌≢◌}
 use Rattle.std.proofs.lemmas.Bool.Decides.{nat_tests}
-use Rattle.std.proofs.lemmas.List.Folds.{list_any-append}
+use Rattle.std.proofs.lemmas.List.{append-nil}
+use Rattle.std.proofs.lemmas.List.Elements.{filter-append}
 use Rattle.seq_object.specs.History.{state_after}
+use Rattle.seq_object.specs.Sequential.{Sequential}
 use Rattle.lin_check.proofs.Vocabulary.{number_cases}
 use Rattle.lin_check.specs.Parts.{IsInParts}
 use Rattle.judged_objects.specs.declared.entries.Entry.{Entry}
 use Rattle.judged_objects.specs.declared.map.MapInv.{MapInv}
 use Rattle.judged_objects.specs.declared.map.MapInv.TheVariants.{Get, Put, Insert, Remove as TakeOut}
-use Rattle.judged_objects.specs.Map.{found, map_answer, map_key, map_next, map_object, value_at, with as with_entry, without as without_entry}
+use Rattle.judged_objects.specs.Map.{found, map_answer, map_key, map_next, map_object, value_at}
 use Rattle.judged_objects.specs.declared.set.SetInv.{SetInv}
 use Rattle.judged_objects.specs.declared.set.SetInv.TheVariants.{Add, Remove, Contains}
-use Rattle.judged_objects.specs.Set.{has, said, set, set_answer, set_key, set_next, with, without}
+use Rattle.judged_objects.specs.Set.{has, said, set, set_answer, set_key, set_next}
 
--- Maps: the value of a key among the entries that a test leaves, and where more entries come after them.
-left_value : (test : Entry → Bool) (entries : List Entry) (k : ℕ) → ((e : Entry) → e.key ≡ k → test e ≡ true) → value_at (filter test entries) k ≡ value_at entries k
-left_value test [] k keeps = refl
-left_value test (e ∷ entries) k keeps = elim (number_cases e.key k) [
-  | inl same ↦ rw (keeps e same.0) (ap (λ v. if nat_eq e.key k then Some e.value else v) (left_value test entries k keeps))
-  | inr other ↦ by_test (test e) refl other.1 (left_value test entries k keeps)
-] where
-  by_test : (b : Bool) → test e ≡ b → nat_eq e.key k ≡ false → value_at (filter test entries) k ≡ value_at entries k → value_at (filter test (e ∷ entries)) k ≡ value_at (e ∷ entries) k
-  by_test true is other so_far = rw is (ap (λ v. if nat_eq e.key k then Some e.value else v) so_far)
-  by_test false is other so_far = rw is (rw other so_far)
+-- An object whose states have a look by each key: a call leaves the looks of other keys, and of its own the next look and the answer
+-- follow from the look before.
+module _ {S I R L : Type 0} (object : Sequential S I R) (key : I → ℕ) (look : ℕ → S → L)
+    (others : (k : ℕ) (s : S) (i : I) → key i ≢ k → look k (object.next s i) ≡ look k s)
+    (own : (k : ℕ) (a b : S) (i : I) → key i ≡ k → look k a ≡ look k b → look k (object.next a i) ≡ look k (object.next b i))
+    (answers : (a b : S) (i : I) → look (key i) a ≡ look (key i) b → object.answer a i ≡ object.answer b i) where
+  look_after : (k : ℕ) (calls : List I) (a b : S) → look k a ≡ look k b
+      → look k (state_after object a calls) ≡ look k (state_after object b (filter (λ j. key j == k) calls))
+  look_after k [] a b same = same
+  look_after k (i ∷ calls) a b same = elim (number_cases (key i) k) [
+    | inl this ↦ rw this.1 (look_after k calls (object.next a i) (object.next b i) (own k a b i this.0 same))
+    | inr other ↦ rw other.1 (look_after k calls (object.next a i) b (others k a i other.0 ∙ same))
+  ]
 
-no_value : (test : Entry → Bool) (entries : List Entry) (k : ℕ) → ((e : Entry) → e.key ≡ k → test e ≡ false) → value_at (filter test entries) k ≡ None
-no_value test [] k drops = refl
-no_value test (e ∷ entries) k drops = elim (number_cases e.key k) [
-  | inl same ↦ rw (drops e same.0) (no_value test entries k drops)
-  | inr other ↦ by_test (test e) refl other.1 (no_value test entries k drops)
-] where
-  by_test : (b : Bool) → test e ≡ b → nat_eq e.key k ≡ false → value_at (filter test entries) k ≡ None → value_at (filter test (e ∷ entries)) k ≡ None
-  by_test true is other so_far = rw is (rw other so_far)
-  by_test false is other so_far = rw is so_far
+  by_looks : IsInParts object key
+  by_looks calls i = answers (state_after object object.initial calls) (state_after object object.initial (filter (λ j. key j == key i) calls)) i
+      (look_after (key i) calls object.initial object.initial refl)
 
-value_before : (xs ys : List Entry) (k : ℕ) → value_at ys k ≡ None → value_at (xs ++ ys) k ≡ value_at xs k
-value_before [] ys k none = none
-value_before (e ∷ xs) ys k none = ap (λ v. if nat_eq e.key k then Some e.value else v) (value_before xs ys k none)
+-- Elements by their keys: those with one key, in a list without some, and in one with an element in its place.
+module _ {A : Type 0} (key : A → ℕ) (k : ℕ) where
+  abbrev with_key : List A → List A
+  with_key xs = filter (λ x. key x == k) xs
 
-value_behind : (xs ys : List Entry) (k : ℕ) → value_at xs k ≡ None → value_at (xs ++ ys) k ≡ value_at ys k
-value_behind [] ys k none = refl
-value_behind (e ∷ xs) ys k none = elim (number_cases e.key k) [
-  | inl same ↦ absurd (let f : Some e.value ≡ None = sym (ap (λ b. if b then Some e.value else value_at xs k) same.1) ∙ none in cc)
-  | inr other ↦ rw other.1 (value_behind xs ys k (sym (ap (λ b. if b then Some e.value else value_at xs k) other.1) ∙ none))
-]
+  kept : (test : A → Bool) (xs : List A) → ((x : A) → key x ≡ k → test x ≡ true) → with_key (filter test xs) ≡ with_key xs
+  kept test [] keeps = refl
+  kept test (x ∷ xs) keeps = by_test (test x) refl (kept test xs keeps) where
+    by_test : (b : Bool) → test x ≡ b → with_key (filter test xs) ≡ with_key xs → with_key (filter test (x ∷ xs)) ≡ with_key (x ∷ xs)
+    by_test true is so_far = rw is (ap (λ ys. if key x == k then x ∷ ys else ys) so_far)
+    by_test false is so_far = let other : nat_eq (key x) k ≡ false = grind (arith, nat_tests, keeps x) in rw is (rw other so_far)
 
-value_own : (entries : List Entry) (k v : ℕ) → value_at (with_entry entries k v) k ≡ Some v
-value_own entries k v =
-    value_behind (filter (λ e. nat_lt e.key k) entries) (record { key = k; value = v } ∷ filter (λ e. nat_lt k e.key) entries) k (no_value (λ e. nat_lt e.key k) entries k (λ e same. grind (arith, nat_tests)))
-    ∙ ap (λ b. if b then Some v else value_at (filter (λ e. nat_lt k e.key) entries) k) (let t : nat_eq k k ≡ true = grind (arith, nat_tests) in t)
+  none : (test : A → Bool) (xs : List A) → ((x : A) → key x ≡ k → test x ≡ false) → with_key (filter test xs) ≡ []
+  none test [] drops = refl
+  none test (x ∷ xs) drops = by_test (test x) refl (none test xs drops) where
+    by_test : (b : Bool) → test x ≡ b → with_key (filter test xs) ≡ [] → with_key (filter test (x ∷ xs)) ≡ []
+    by_test true is so_far = let other : nat_eq (key x) k ≡ false = grind (arith, nat_tests, drops x) in rw is (rw other so_far)
+    by_test false is so_far = rw is so_far
 
-value_other : (entries : List Entry) (k v j : ℕ) → k ≢ j → value_at (with_entry entries k v) j ≡ value_at entries j
-value_other entries k v j other =
-    by_test (nat_lt j k) refl where
-      skips : (ys : List Entry) → value_at (record { key = k; value = v } ∷ ys) j ≡ value_at ys j
-      skips ys = ap (λ b. if b then Some v else value_at ys j) (let t : nat_eq k j ≡ false = grind (arith, nat_tests) in t)
+  abbrev placed : A → List A → List A
+  placed x xs = filter (λ y. nat_lt (key y) (key x)) xs ++ x ∷ filter (λ y. nat_lt (key x) (key y)) xs
 
-      by_test : (b : Bool) → nat_lt j k ≡ b → value_at (with_entry entries k v) j ≡ value_at entries j
-      by_test true is =
-          value_before (filter (λ e. nat_lt e.key k) entries) (record { key = k; value = v } ∷ filter (λ e. nat_lt k e.key) entries) j
-          (skips (filter (λ e. nat_lt k e.key) entries) ∙ no_value (λ e. nat_lt k e.key) entries j (λ e same. grind (arith, nat_tests)))
-          ∙ left_value (λ e. nat_lt e.key k) entries j (λ e same. grind (arith, nat_tests))
-      by_test false is =
-          value_behind (filter (λ e. nat_lt e.key k) entries) (record { key = k; value = v } ∷ filter (λ e. nat_lt k e.key) entries) j
-          (no_value (λ e. nat_lt e.key k) entries j (λ e same. grind (arith, nat_tests)))
-          ∙ skips (filter (λ e. nat_lt k e.key) entries)
-          ∙ left_value (λ e. nat_lt k e.key) entries j (λ e same. grind (arith, nat_tests))
+  placed_own : (x : A) (xs : List A) → key x ≡ k → with_key (placed x xs) ≡ x ∷ []
+  placed_own x xs same =
+      let here : nat_eq (key x) k ≡ true = grind (arith, nat_tests) in
+      rw (
+        filter-append,
+        none (λ y. nat_lt (key y) (key x)) xs (λ y is. grind (arith, nat_tests)),
+        here,
+        none (λ y. nat_lt (key x) (key y)) xs (λ y is. grind (arith, nat_tests)),
+      ) refl
 
-gone : (entries : List Entry) (k : ℕ) → value_at (without_entry entries k) k ≡ None
-gone entries k = no_value (λ e. not (nat_eq e.key k)) entries k (λ e same. let t : nat_eq e.key k ≡ true = grind (arith, nat_tests) in ap not t)
+  placed_other : (x : A) (xs : List A) → key x ≢ k → with_key (placed x xs) ≡ with_key xs
+  placed_other x xs other =
+      let elsewhere : nat_eq (key x) k ≡ false = grind (arith, nat_tests) in rw (filter-append, elsewhere) (by_test (nat_lt k (key x)) refl) where
+        by_test : (b : Bool) → nat_lt k (key x) ≡ b
+            → with_key (filter (λ y. nat_lt (key y) (key x)) xs) ++ with_key (filter (λ y. nat_lt (key x) (key y)) xs) ≡ with_key xs
+        by_test true is =
+            rw (none (λ y. nat_lt (key x) (key y)) xs (λ y same. grind (arith, nat_tests)), append-nil)
+            (kept (λ y. nat_lt (key y) (key x)) xs (λ y same. grind (arith, nat_tests)))
+        by_test false is =
+            rw (none (λ y. nat_lt (key y) (key x)) xs (λ y same. grind (arith, nat_tests)))
+            (kept (λ y. nat_lt (key x) (key y)) xs (λ y same. grind (arith, nat_tests)))
 
-stays : (entries : List Entry) (k j : ℕ) → k ≢ j → value_at (without_entry entries k) j ≡ value_at entries j
-stays entries k j other = left_value (λ e. not (nat_eq e.key k)) entries j (λ e same. let t : nat_eq e.key k ≡ false = grind (arith, nat_tests) in ap not t)
+  gone : (j : ℕ) (xs : List A) → j ≡ k → with_key (filter (λ x. not (key x == j)) xs) ≡ []
+  gone j xs own = none (λ x. not (key x == j)) xs (λ x same. grind (arith, nat_tests))
 
--- a call leaves the values of other keys, and that of its own follows from the one before
-map_others : (entries : List Entry) (i : MapInv) (k : ℕ) → map_key i ≢ k → value_at (map_next entries i) k ≡ value_at entries k
-map_others entries (Get j) k other = refl
-map_others entries (Put j v) k other = value_other entries j v k other
-map_others entries (Insert j v) k other = value_other entries j v k other
-map_others entries (TakeOut j) k other = stays entries j k other
+  stays : (j : ℕ) (xs : List A) → j ≢ k → with_key (filter (λ x. not (key x == j)) xs) ≡ with_key xs
+  stays j xs other = kept (λ x. not (key x == j)) xs (λ x same. grind (arith, nat_tests))
 
-map_own : (a b : List Entry) (i : MapInv) → value_at a (map_key i) ≡ value_at b (map_key i) → value_at (map_next a i) (map_key i) ≡ value_at (map_next b i) (map_key i)
-map_own a b (Get k) same = same
-map_own a b (Put k v) same = value_own a k v ∙ sym (value_own b k v)
-map_own a b (Insert k v) same = value_own a k v ∙ sym (value_own b k v)
-map_own a b (TakeOut k) same = gone a k ∙ sym (gone b k)
+-- Maps: the look is the entries with the key.
+abbrev entries_with : ℕ → List Entry → List Entry
+entries_with k entries = with_key (λ e. e.key) k entries
 
-map_answers : (a b : List Entry) (i : MapInv) → value_at a (map_key i) ≡ value_at b (map_key i) → map_answer a i ≡ map_answer b i
-map_answers a b (Get k) same = ap found same
+map_others : (k : ℕ) (entries : List Entry) (i : MapInv) → map_key i ≢ k → entries_with k (map_next entries i) ≡ entries_with k entries
+map_others k entries (Get j) other = refl
+map_others k entries (Put j v) other = placed_other (λ e. e.key) k (record { key = j; value = v }) entries other
+map_others k entries (Insert j v) other = placed_other (λ e. e.key) k (record { key = j; value = v }) entries other
+map_others k entries (TakeOut j) other = stays (λ e. e.key) k j entries other
+
+map_own : (k : ℕ) (a b : List Entry) (i : MapInv) → map_key i ≡ k → entries_with k a ≡ entries_with k b
+    → entries_with k (map_next a i) ≡ entries_with k (map_next b i)
+map_own k a b (Get j) own same = same
+map_own k a b (Put j v) own same =
+    placed_own (λ e. e.key) k (record { key = j; value = v }) a own ∙ sym (placed_own (λ e. e.key) k (record { key = j; value = v }) b own)
+map_own k a b (Insert j v) own same =
+    placed_own (λ e. e.key) k (record { key = j; value = v }) a own ∙ sym (placed_own (λ e. e.key) k (record { key = j; value = v }) b own)
+map_own k a b (TakeOut j) own same = gone (λ e. e.key) k j a own ∙ sym (gone (λ e. e.key) k j b own)
+
+value_with : (k : ℕ) (entries : List Entry) → value_at (entries_with k entries) k ≡ value_at entries k
+value_with k [] = refl
+value_with k (e ∷ entries) = elim (number_cases e.key k) [ inl same ↦ rw same.1 (rw same.1 refl) | inr other ↦ rw other.1 (value_with k entries) ]
+
+same_value : (k : ℕ) (a b : List Entry) → entries_with k a ≡ entries_with k b → value_at a k ≡ value_at b k
+same_value k a b same = sym (value_with k a) ∙ ap (λ entries. value_at entries k) same ∙ value_with k b
+
+map_answers : (a b : List Entry) (i : MapInv) → entries_with (map_key i) a ≡ entries_with (map_key i) b → map_answer a i ≡ map_answer b i
+map_answers a b (Get k) same = ap found (same_value k a b same)
 map_answers a b (Put k v) same = refl
-map_answers a b (Insert k v) same = ap found same
-map_answers a b (TakeOut k) same = ap found same
-
-map_values : (calls : List MapInv) (a b : List Entry) (k : ℕ) → value_at a k ≡ value_at b k
-    → value_at (state_after map_object a calls) k ≡ value_at (state_after map_object b (filter (λ j. map_key j == k) calls)) k
-map_values [] a b k same = same
-map_values (i ∷ calls) a b k same = elim (number_cases (map_key i) k) [
-  | inl own ↦ rw own.1 (map_values calls (map_next a i) (map_next b i) k
-      (sym (ap (value_at (map_next a i)) own.0) ∙ map_own a b i (ap (value_at a) own.0 ∙ same ∙ sym (ap (value_at b) own.0)) ∙ ap (value_at (map_next b i)) own.0))
-  | inr other ↦ rw other.1 (map_values calls (map_next a i) b k (map_others a i k other.0 ∙ same))
-]
+map_answers a b (Insert k v) same = ap found (same_value k a b same)
+map_answers a b (TakeOut k) same = ap found (same_value k a b same)
 
 pub map_by_key : IsInParts map_object map_key
-map_by_key calls i = map_answers (state_after map_object [] calls) (state_after map_object [] (filter (λ j. map_key j == map_key i) calls)) i (map_values calls [] [] (map_key i) refl)
+map_by_key = by_looks map_object map_key entries_with map_others map_own map_answers
 
--- Sets: whether a number is among those that a test leaves.
-left_number : (test : ℕ → Bool) (numbers : List ℕ) (v : ℕ) → test v ≡ true → has (filter test numbers) v ≡ has numbers v
-left_number test [] v keeps = refl
-left_number test (x ∷ numbers) v keeps = elim (number_cases x v) [
-  | inl same ↦ rw (ap test same.0 ∙ keeps) (ap (λ b. (nat_eq x v || b)) (left_number test numbers v keeps))
-  | inr other ↦ by_test (test x) refl other.1 (left_number test numbers v keeps)
-] where
-  by_test : (b : Bool) → test x ≡ b → nat_eq x v ≡ false → has (filter test numbers) v ≡ has numbers v → has (filter test (x ∷ numbers)) v ≡ has (x ∷ numbers) v
-  by_test true is other so_far = rw is (ap (λ b. (nat_eq x v || b)) so_far)
-  by_test false is other so_far = rw is (rw other so_far)
+-- Sets: the look is the number itself, where it is in.
+abbrev numbers_with : ℕ → List ℕ → List ℕ
+numbers_with v numbers = with_key (λ x. x) v numbers
 
-no_number : (test : ℕ → Bool) (numbers : List ℕ) (v : ℕ) → test v ≡ false → has (filter test numbers) v ≡ false
-no_number test [] v drops = refl
-no_number test (x ∷ numbers) v drops = elim (number_cases x v) [
-  | inl same ↦ rw (ap test same.0 ∙ drops) (no_number test numbers v drops)
-  | inr other ↦ by_test (test x) refl other.1 (no_number test numbers v drops)
-] where
-  by_test : (b : Bool) → test x ≡ b → nat_eq x v ≡ false → has (filter test numbers) v ≡ false → has (filter test (x ∷ numbers)) v ≡ false
-  by_test true is other so_far = rw is (rw other so_far)
-  by_test false is other so_far = rw is so_far
+set_others : (v : ℕ) (numbers : List ℕ) (i : SetInv) → set_key i ≢ v → numbers_with v (set_next numbers i) ≡ numbers_with v numbers
+set_others v numbers (Add w) other = placed_other (λ x. x) v w numbers other
+set_others v numbers (Remove w) other = stays (λ x. x) v w numbers other
+set_others v numbers (Contains w) other = refl
 
-or_false : (b : Bool) → (b || false) ≡ b
-or_false true = refl
-or_false false = refl
+set_own : (v : ℕ) (a b : List ℕ) (i : SetInv) → set_key i ≡ v → numbers_with v a ≡ numbers_with v b
+    → numbers_with v (set_next a i) ≡ numbers_with v (set_next b i)
+set_own v a b (Add w) own same = placed_own (λ x. x) v w a own ∙ sym (placed_own (λ x. x) v w b own)
+set_own v a b (Remove w) own same = gone (λ x. x) v w a own ∙ sym (gone (λ x. x) v w b own)
+set_own v a b (Contains w) own same = same
 
-or_true : (b : Bool) → (b || true) ≡ true
-or_true true = refl
-or_true false = refl
+has_with : (v : ℕ) (numbers : List ℕ) → has (numbers_with v numbers) v ≡ has numbers v
+has_with v [] = refl
+has_with v (x ∷ numbers) = elim (number_cases x v) [ inl same ↦ rw same.1 (rw same.1 refl) | inr other ↦ rw other.1 (has_with v numbers) ]
 
-added : (numbers : List ℕ) (v : ℕ) → has (with numbers v) v ≡ true
-added numbers v =
-    list_any-append (λ x. x == v) (filter (λ x. nat_lt x v) numbers) (v ∷ filter (λ x. nat_lt v x) numbers)
-    ∙ ap (λ b. has (filter (λ x. nat_lt x v) numbers) v || (b || has (filter (λ x. nat_lt v x) numbers) v)) (let t : nat_eq v v ≡ true = grind (arith, nat_tests) in t)
-    ∙ or_true (has (filter (λ x. nat_lt x v) numbers) v)
+same_has : (v : ℕ) (a b : List ℕ) → numbers_with v a ≡ numbers_with v b → has a v ≡ has b v
+same_has v a b same = sym (has_with v a) ∙ ap (λ numbers. has numbers v) same ∙ has_with v b
 
-others_stay : (numbers : List ℕ) (v w : ℕ) → v ≢ w → has (with numbers v) w ≡ has numbers w
-others_stay numbers v w other =
-    list_any-append (λ x. x == w) (filter (λ x. nat_lt x v) numbers) (v ∷ filter (λ x. nat_lt v x) numbers)
-    ∙ ap (λ b. has (filter (λ x. nat_lt x v) numbers) w || (b || has (filter (λ x. nat_lt v x) numbers) w)) (let t : nat_eq v w ≡ false = grind (arith, nat_tests) in t)
-    ∙ by_test (nat_lt w v) refl where
-      by_test : (b : Bool) → nat_lt w v ≡ b → (has (filter (λ x. nat_lt x v) numbers) w || has (filter (λ x. nat_lt v x) numbers) w) ≡ has numbers w
-      by_test true is =
-          ap (λ b. (has (filter (λ x. nat_lt x v) numbers) w || b)) (no_number (λ x. nat_lt v x) numbers w (grind (arith, nat_tests)))
-          ∙ or_false (has (filter (λ x. nat_lt x v) numbers) w) ∙ left_number (λ x. nat_lt x v) numbers w is
-      by_test false is =
-          ap (λ b. (b || has (filter (λ x. nat_lt v x) numbers) w)) (no_number (λ x. nat_lt x v) numbers w is)
-          ∙ left_number (λ x. nat_lt v x) numbers w (grind (arith, nat_tests))
-
-removed : (numbers : List ℕ) (v : ℕ) → has (without numbers v) v ≡ false
-removed numbers v = no_number (λ x. not (nat_eq x v)) numbers v (let t : nat_eq v v ≡ true = grind (arith, nat_tests) in ap not t)
-
-others_are_kept : (numbers : List ℕ) (v w : ℕ) → v ≢ w → has (without numbers v) w ≡ has numbers w
-others_are_kept numbers v w other = left_number (λ x. not (nat_eq x v)) numbers w (let t : nat_eq w v ≡ false = grind (arith, nat_tests) in ap not t)
-
-set_others : (numbers : List ℕ) (i : SetInv) (v : ℕ) → set_key i ≢ v → has (set_next numbers i) v ≡ has numbers v
-set_others numbers (Add w) v other = others_stay numbers w v other
-set_others numbers (Remove w) v other = others_are_kept numbers w v other
-set_others numbers (Contains w) v other = refl
-
-set_own : (a b : List ℕ) (i : SetInv) → has a (set_key i) ≡ has b (set_key i) → has (set_next a i) (set_key i) ≡ has (set_next b i) (set_key i)
-set_own a b (Add v) same = added a v ∙ sym (added b v)
-set_own a b (Remove v) same = removed a v ∙ sym (removed b v)
-set_own a b (Contains v) same = same
-
-set_answers : (a b : List ℕ) (i : SetInv) → has a (set_key i) ≡ has b (set_key i) → set_answer a i ≡ set_answer b i
-set_answers a b (Add v) same = ap (λ t. said (not t)) same
-set_answers a b (Remove v) same = ap said same
-set_answers a b (Contains v) same = ap said same
-
-set_numbers : (calls : List SetInv) (a b : List ℕ) (v : ℕ) → has a v ≡ has b v → has (state_after set a calls) v ≡ has (state_after set b (filter (λ j. set_key j == v) calls)) v
-set_numbers [] a b v same = same
-set_numbers (i ∷ calls) a b v same = elim (number_cases (set_key i) v) [
-  | inl own ↦ rw own.1 (set_numbers calls (set_next a i) (set_next b i) v
-      (sym (ap (has (set_next a i)) own.0) ∙ set_own a b i (ap (has a) own.0 ∙ same ∙ sym (ap (has b) own.0)) ∙ ap (has (set_next b i)) own.0))
-  | inr other ↦ rw other.1 (set_numbers calls (set_next a i) b v (set_others a i v other.0 ∙ same))
-]
+set_answers : (a b : List ℕ) (i : SetInv) → numbers_with (set_key i) a ≡ numbers_with (set_key i) b → set_answer a i ≡ set_answer b i
+set_answers a b (Add v) same = ap (λ t. said (not t)) (same_has v a b same)
+set_answers a b (Remove v) same = ap said (same_has v a b same)
+set_answers a b (Contains v) same = ap said (same_has v a b same)
 
 pub set_by_key : IsInParts set set_key
-set_by_key calls i = set_answers (state_after set [] calls) (state_after set [] (filter (λ j. set_key j == set_key i) calls)) i (set_numbers calls [] [] (set_key i) refl)
+set_by_key = by_looks set set_key numbers_with set_others set_own set_answers

@@ -3,6 +3,7 @@ pub mod Queue
 pub mod Stack
 pub mod Register
 pub mod Counter
+pub mod Sorted
 pub mod Map
 pub mod Set
 pub mod ByKey

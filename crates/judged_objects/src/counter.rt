@@ -116,6 +116,10 @@ impl Checkable for Counter {
 }
 
 impl Worded for Counter {
+    const CALLS: &'static str = "read, add V, getadd V";
+
+    const REPLIES: &'static str = "V, ok";
+
     ghost wording = { counter_wording };
 
     fn read_inv(words: &[&[u8]]) -> Option<CounterInv> {
@@ -150,13 +154,5 @@ impl Worded for Counter {
             CounterResp::Value(number) => push_number(text, number),
             CounterResp::Added => text.extend_from_slice(b"ok"),
         }
-    }
-
-    fn calls() -> &'static str {
-        "read, add V, getadd V"
-    }
-
-    fn replies() -> &'static str {
-        "V, ok"
     }
 }

@@ -8,7 +8,9 @@ ghost use Rattle.judged_objects.specs.declared.map.MapResp.TheVariants.{Value, M
 ghost use Rattle.judged_objects.specs.Map.{found, map_key, map_object, map_wording};
 ghost use Rattle.judged_objects.specs.ByKey.{map_by_key};
 
-use crate::entries::{Entries, are_same, value_at, with, without};
+use crate::entries::{Entries, Entry, value_at};
+use crate::items::mixed;
+use crate::sorted::{Side, on_side, placed};
 use crate::worded::{Worded, number, push_words};
 use lin_check::{Checkable, Event};
 use ready_objects::{is_text, push_number};
@@ -88,19 +90,19 @@ impl SeqObject for Map {
         let entries = state.as_slice();
         match *inv {
             MapInv::Get(key) => Ok((
-                Entries::of(Vec::from_slice(alloc, entries)?),
+                Entries::copied(alloc, entries)?,
                 found(value_at(entries, key)),
             )),
             MapInv::Put(key, value) => Ok((
-                Entries::of(with(alloc, entries, key, value)?),
+                Entries::of(placed(alloc, entries, key, Entry { key, value })?),
                 MapResp::Written,
             )),
             MapInv::Insert(key, value) => Ok((
-                Entries::of(with(alloc, entries, key, value)?),
+                Entries::of(placed(alloc, entries, key, Entry { key, value })?),
                 found(value_at(entries, key)),
             )),
             MapInv::Remove(key) => Ok((
-                Entries::of(without(alloc, entries, key)?),
+                Entries::of(on_side(alloc, entries, Side::Beside, key)?),
                 found(value_at(entries, key)),
             )),
         }
@@ -113,11 +115,15 @@ impl SeqObject for Map {
 
 impl Checkable for Map {
     fn is_same(a: &Entries, b: &Entries) -> bool {
-        are_same(a.as_slice(), b.as_slice())
+        a.as_slice() == b.as_slice()
     }
 
     fn key(state: &Entries) -> u64 {
-        state.key()
+        let mut key = 0;
+        for entry in state.as_slice() {
+            key = mixed(mixed(key, entry.key), entry.value);
+        }
+        key
     }
 
     ghost part = { map_key };
@@ -126,10 +132,8 @@ impl Checkable for Map {
 
     fn part_of(inv: &MapInv) -> u64 {
         match inv {
-            MapInv::Get(key) => *key,
-            MapInv::Put(key, _) => *key,
-            MapInv::Insert(key, _) => *key,
-            MapInv::Remove(key) => *key,
+            MapInv::Get(key) | MapInv::Remove(key) => *key,
+            MapInv::Put(key, _) | MapInv::Insert(key, _) => *key,
         }
     }
 
@@ -146,6 +150,10 @@ impl Checkable for Map {
 }
 
 impl Worded for Map {
+    const CALLS: &'static str = "get K, put K V, insert K V, remove K";
+
+    const REPLIES: &'static str = "V, none, ok";
+
     ghost wording = { map_wording };
 
     fn read_inv(words: &[&[u8]]) -> Option<MapInv> {
@@ -192,13 +200,5 @@ impl Worded for Map {
             MapResp::Missing => text.extend_from_slice(b"none"),
             MapResp::Written => text.extend_from_slice(b"ok"),
         }
-    }
-
-    fn calls() -> &'static str {
-        "get K, put K V, insert K V, remove K"
-    }
-
-    fn replies() -> &'static str {
-        "V, none, ok"
     }
 }

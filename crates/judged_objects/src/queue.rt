@@ -8,7 +8,7 @@ ghost use Rattle.judged_objects.specs.declared.queue.QueueResp.TheVariants.{Adde
 ghost use Rattle.judged_objects.specs.Queue.{queue, queue_wording};
 ghost use Rattle.lin_check.specs.Parts.{in_one_part};
 
-use crate::numbers::Numbers;
+use crate::items::{Numbers, key_of};
 use crate::queue_order::queue_order;
 use crate::worded::{Worded, number, push_words};
 use lin_check::{Checkable, Event};
@@ -73,7 +73,7 @@ impl SeqObject for Queue {
     ) -> Result<(Numbers, QueueResp), AllocError> {
         match inv {
             QueueInv::Enq(number) => Ok((
-                Numbers::with_last(alloc, state.as_slice(), *number)?,
+                Numbers::joined(alloc, state.as_slice(), &[*number])?,
                 QueueResp::Added,
             )),
             QueueInv::Deq => match state.as_slice() {
@@ -106,11 +106,11 @@ fn takes(
 
 impl Checkable for Queue {
     fn is_same(a: &Numbers, b: &Numbers) -> bool {
-        a.is_same(b)
+        a.as_slice() == b.as_slice()
     }
 
     fn key(state: &Numbers) -> u64 {
-        state.key()
+        key_of(state.as_slice())
     }
 
     ghost part = { λ _. 0 };
@@ -148,6 +148,10 @@ impl Checkable for Queue {
 }
 
 impl Worded for Queue {
+    const CALLS: &'static str = "enq V, deq";
+
+    const REPLIES: &'static str = "ok, empty, V";
+
     ghost wording = { queue_wording };
 
     fn read_inv(words: &[&[u8]]) -> Option<QueueInv> {
@@ -180,13 +184,5 @@ impl Worded for Queue {
             QueueResp::Taken(number) => push_number(text, number),
             QueueResp::Empty => text.extend_from_slice(b"empty"),
         }
-    }
-
-    fn calls() -> &'static str {
-        "enq V, deq"
-    }
-
-    fn replies() -> &'static str {
-        "ok, empty, V"
     }
 }

@@ -17,17 +17,24 @@ struct Span {
     end: u64,
 }
 
-/// The time of the event at a place; the greatest, where there is no such place.
-fn time(place: u64) -> u64 {
-    place.saturating_mul(4)
-}
+impl Span {
+    /// The call at a place, where each call returns at these places.
+    fn at(returns: &[u64], call: usize) -> Span {
+        let place = returns.get(call).copied().unwrap_or(u64::MAX);
+        Span {
+            call,
+            begin: (call as u64).saturating_mul(4).saturating_add(1),
+            end: place.saturating_mul(4),
+        }
+    }
 
-/// The call at a place, where each call returns at these places.
-fn span_at(returns: &[u64], call: usize) -> Span {
-    Span {
-        call,
-        begin: time(call as u64).saturating_add(1),
-        end: time(returns.get(call).copied().unwrap_or(u64::MAX)),
+    /// The same between two instants.
+    fn within(self, begin: u64, end: u64) -> Span {
+        Span {
+            call: self.call,
+            begin: self.begin.max(begin),
+            end: self.end.min(end),
+        }
     }
 }
 
@@ -39,32 +46,22 @@ struct Stay {
 }
 
 impl Stay {
-    /// When its taking can begin.
-    fn take_begin(&self) -> u64 {
-        match &self.take {
-            Some(take) => take.begin,
-            None => u64::MAX - 1,
-        }
-    }
-
-    /// When its taking has ended.
-    fn take_end(&self) -> u64 {
-        match &self.take {
-            Some(take) => take.end,
-            None => u64::MAX,
-        }
+    /// Its taking; one that never comes can begin before the greatest time.
+    fn taking(&self) -> Span {
+        self.take.unwrap_or(Span {
+            call: usize::MAX,
+            begin: u64::MAX - 1,
+            end: u64::MAX,
+        })
     }
 
     /// The same between two instants, and put in before it is taken out.
-    fn within(mut self, begin: u64, end: u64) -> Stay {
-        self.put.begin = self.put.begin.max(begin);
-        self.put.end = self.put.end.min(self.take_end()).min(end);
-        let first = self.put.begin;
-        if let Some(take) = &mut self.take {
-            take.begin = take.begin.max(first);
-            take.end = take.end.min(end);
+    fn within(&self, begin: u64, end: u64) -> Stay {
+        let put = self.put.within(begin, self.taking().end.min(end));
+        Stay {
+            put,
+            take: self.take.map(|take| take.within(put.begin, end)),
         }
-        self
     }
 }
 
@@ -87,12 +84,11 @@ fn puts(
     let mut known = BTreeMap::new(alloc);
     for i in 0..history.len() {
         if let Event::Call(_, QueueInv::Enq(number)) = &history[i] {
-            if known.contains_key(number) {
+            if known.insert(*number, stays.len())?.is_some() {
                 return Ok(None);
             }
-            known.insert(*number, stays.len())?;
             stays.push(Stay {
-                put: span_at(returns, i),
+                put: Span::at(returns, i),
                 take: None,
             })?;
         }
@@ -126,15 +122,17 @@ fn calls_in(
     for i in 0..history.len() {
         if let Event::Call(_, QueueInv::Deq) = &history[i] {
             match reply_of(history, &returns, i) {
-                Some(QueueResp::Empty) => empties.push(span_at(&returns, i))?,
+                Some(QueueResp::Empty) => empties.push(Span::at(&returns, i))?,
                 Some(QueueResp::Taken(number)) => {
                     let stay = known.get(&number).copied().unwrap_or(usize::MAX);
                     match stays.get_mut(stay) {
-                        Some(stay) if stay.take.is_none() => stay.take = Some(span_at(&returns, i)),
+                        Some(stay) if stay.take.is_none() => stay.take = Some(Span::at(
+                            &returns, i,
+                        )),
                         _ => return Ok(None),
                     }
                 }
-                _ => open_takes.push(span_at(&returns, i))?,
+                _ => open_takes.push(Span::at(&returns, i))?,
             }
         }
     }
@@ -188,8 +186,8 @@ fn told_stays(alloc: Global, stays: &[Stay]) -> Result<Vec<Stay>, AllocError> {
 fn full_times(alloc: Global, stays: &[Stay]) -> Result<Vec<(u64, u64)>, AllocError> {
     let mut times = Vec::new(alloc);
     for stay in stays {
-        if stay.put.end < stay.take_begin() {
-            times.push((stay.put.end, stay.take_begin()))?;
+        if stay.put.end < stay.taking().begin {
+            times.push((stay.put.end, stay.taking().begin))?;
         }
     }
     times.sort_by_key(|times| times.0)?;
@@ -229,7 +227,7 @@ fn cuts_of(
 fn between(alloc: Global, stays: &[Stay], cuts: &[u64]) -> Result<Vec<Stay>, AllocError> {
     let mut narrow = Vec::new(alloc);
     for stay in stays {
-        let next = cuts.partition_point(|cut| *cut < stay.take_begin());
+        let next = cuts.partition_point(|cut| *cut < stay.taking().begin);
         let begin = match cuts.get(next.saturating_sub(1)) {
             Some(cut) if next > 0 => cut.saturating_add(1),
             _ => 0,
@@ -251,9 +249,15 @@ struct Front {
 
 impl Front {
     /// The front of these spans.
-    fn of(mut begins: Vec<(u64, usize)>, mut ends: Vec<(u64, usize)>) -> Result<Front, AllocError> {
-        begins.sort_by_key(|begin| begin.0)?;
-        ends.sort_by_key(|end| end.0)?;
+    fn of(alloc: Global, spans: &[Span]) -> Result<Front, AllocError> {
+        let mut begins = Vec::new(alloc);
+        let mut ends = Vec::new(alloc);
+        for (i, span) in spans.iter().enumerate() {
+            begins.push((span.begin, i))?;
+            ends.push((span.end, i))?;
+        }
+        begins.sort()?;
+        ends.sort()?;
         Ok(Front {
             begins,
             ends,
@@ -300,32 +304,12 @@ impl Front {
     }
 }
 
-/// The front of the calls that put numbers in.
-fn put_front(alloc: Global, stays: &[Stay]) -> Result<Front, AllocError> {
-    let mut begins = Vec::new(alloc);
-    let mut ends = Vec::new(alloc);
-    for (i, stay) in stays.iter().enumerate() {
-        begins.push((stay.put.begin, i))?;
-        ends.push((stay.put.end, i))?;
-    }
-    Front::of(begins, ends)
-}
-
-/// The front of the calls that take them out.
-fn take_front(alloc: Global, stays: &[Stay]) -> Result<Front, AllocError> {
-    let mut begins = Vec::new(alloc);
-    let mut ends = Vec::new(alloc);
-    for (i, stay) in stays.iter().enumerate() {
-        begins.push((stay.take_begin(), i))?;
-        ends.push((stay.take_end(), i))?;
-    }
-    Front::of(begins, ends)
-}
-
 /// The numbers in an order in which they can go through the queue; `None` where none is found.
 fn turns_of(alloc: Global, stays: &[Stay]) -> Result<Option<Vec<usize>>, AllocError> {
-    let mut puts = put_front(alloc, stays)?;
-    let mut takes = take_front(alloc, stays)?;
+    let puts: Vec<Span> = stays.iter().map(|stay| stay.put).collect(alloc)?;
+    let takes: Vec<Span> = stays.iter().map(|stay| stay.taking()).collect(alloc)?;
+    let mut puts = Front::of(alloc, &puts)?;
+    let mut takes = Front::of(alloc, &takes)?;
     let mut is_gone = vec![in alloc; false; stays.len()]?;
     let mut counts: Vec<u64> = vec![in alloc; 0; stays.len()]?;
     let mut ready = Vec::new(alloc);

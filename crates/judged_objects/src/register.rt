@@ -125,6 +125,10 @@ impl Checkable for Register {
 }
 
 impl Worded for Register {
+    const CALLS: &'static str = "read, write V, cas OLD NEW";
+
+    const REPLIES: &'static str = "V, ok, true, false";
+
     ghost wording = { register_wording };
 
     fn read_inv(words: &[&[u8]]) -> Option<RegisterInv> {
@@ -166,13 +170,5 @@ impl Worded for Register {
             RegisterResp::Exchanged => text.extend_from_slice(b"true"),
             RegisterResp::Kept => text.extend_from_slice(b"false"),
         }
-    }
-
-    fn calls() -> &'static str {
-        "read, write V, cas OLD NEW"
-    }
-
-    fn replies() -> &'static str {
-        "V, ok, true, false"
     }
 }

@@ -1,14 +1,15 @@
 //! A set of numbers.
 
-ghost use Rattle.std.specs.Prelude.{◌≡◌, ◌++◌, ◌∷◌, ℕ, IfOk, filter, nat_lt, not, ◌==◌};
+ghost use Rattle.std.specs.Prelude.{◌≡◌};
 ghost use Rattle.std.proofs.Common.{refl};
 ghost use Rattle.seq_object.proofs.Cases.{exact_by_cases, other, itself_one, only_one};
 ghost use Rattle.judged_objects.specs.declared.set.SetInv.TheVariants.{Add, Remove, Contains};
 ghost use Rattle.judged_objects.specs.declared.set.SetResp.TheVariants.{Yes, No};
-ghost use Rattle.judged_objects.specs.Set.{has, said, set, set_key, set_wording, with, without};
+ghost use Rattle.judged_objects.specs.Set.{has, said, set, set_key, set_wording};
 ghost use Rattle.judged_objects.specs.ByKey.{set_by_key};
 
-use crate::numbers::Numbers;
+use crate::items::{Numbers, key_of};
+use crate::sorted::{Side, on_side, placed};
 use crate::worded::{Worded, number, push_words};
 use lin_check::{Checkable, Event};
 use ready_objects::is_text;
@@ -53,49 +54,6 @@ fn has(numbers: &[u64], number: u64) -> bool
     numbers.contains(&number)
 }
 
-/// The numbers without one.
-fn without(alloc: Global, numbers: &[u64], number: u64) -> Result<Vec<u64>, AllocError>
-    ensures { IfOk result (λ others. others.items ≡ without numbers.now number) }
-{
-    numbers
-        .iter()
-        .copied()
-        .filter(|x| *x != number)
-        .collect(alloc)
-}
-
-/// The numbers below one.
-fn below(alloc: Global, numbers: &[u64], number: u64) -> Result<Vec<u64>, AllocError>
-    ensures { IfOk result (λ low. low.items ≡ filter (λ x. nat_lt x number) numbers.now) }
-{
-    numbers
-        .iter()
-        .copied()
-        .filter(|x| *x < number)
-        .collect(alloc)
-}
-
-/// The numbers above one.
-fn above(alloc: Global, numbers: &[u64], number: u64) -> Result<Vec<u64>, AllocError>
-    ensures { IfOk result (λ high. high.items ≡ filter (λ x. nat_lt number x) numbers.now) }
-{
-    numbers
-        .iter()
-        .copied()
-        .filter(|x| number < *x)
-        .collect(alloc)
-}
-
-/// The numbers with one, in rising order.
-fn with(alloc: Global, numbers: &[u64], number: u64) -> Result<Vec<u64>, AllocError>
-    ensures { IfOk result (λ more. more.items ≡ with numbers.now number) }
-{
-    let mut more = below(alloc, numbers, number)?;
-    more.push(number)?;
-    more.extend_from_slice(above(alloc, numbers, number)?.as_slice())?;
-    Ok(more)
-}
-
 impl SeqObject for Set {
     type State = Numbers;
 
@@ -129,11 +87,11 @@ impl SeqObject for Set {
         let numbers = state.as_slice();
         match *inv {
             SetInv::Add(number) => Ok((
-                Numbers::of(with(alloc, numbers, number)?),
+                Numbers::of(placed(alloc, numbers, number, number)?),
                 said(!has(numbers, number)),
             )),
             SetInv::Remove(number) => Ok((
-                Numbers::of(without(alloc, numbers, number)?),
+                Numbers::of(on_side(alloc, numbers, Side::Beside, number)?),
                 said(has(numbers, number)),
             )),
             SetInv::Contains(number) => Ok((
@@ -150,11 +108,11 @@ impl SeqObject for Set {
 
 impl Checkable for Set {
     fn is_same(a: &Numbers, b: &Numbers) -> bool {
-        a.is_same(b)
+        a.as_slice() == b.as_slice()
     }
 
     fn key(state: &Numbers) -> u64 {
-        state.key()
+        key_of(state.as_slice())
     }
 
     ghost part = { set_key };
@@ -163,9 +121,7 @@ impl Checkable for Set {
 
     fn part_of(inv: &SetInv) -> u64 {
         match inv {
-            SetInv::Add(key) => *key,
-            SetInv::Remove(key) => *key,
-            SetInv::Contains(key) => *key,
+            SetInv::Add(key) | SetInv::Remove(key) | SetInv::Contains(key) => *key,
         }
     }
 
@@ -182,6 +138,10 @@ impl Checkable for Set {
 }
 
 impl Worded for Set {
+    const CALLS: &'static str = "add V, remove V, contains V";
+
+    const REPLIES: &'static str = "true, false";
+
     ghost wording = { set_wording };
 
     fn read_inv(words: &[&[u8]]) -> Option<SetInv> {
@@ -214,13 +174,5 @@ impl Worded for Set {
             SetResp::Yes => text.extend_from_slice(b"true"),
             SetResp::No => text.extend_from_slice(b"false"),
         }
-    }
-
-    fn calls() -> &'static str {
-        "add V, remove V, contains V"
-    }
-
-    fn replies() -> &'static str {
-        "true, false"
     }
 }

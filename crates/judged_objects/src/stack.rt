@@ -8,7 +8,7 @@ ghost use Rattle.judged_objects.specs.declared.stack.StackResp.TheVariants.{Push
 ghost use Rattle.judged_objects.specs.Stack.{stack, stack_wording};
 ghost use Rattle.lin_check.specs.Parts.{in_one_part};
 
-use crate::numbers::Numbers;
+use crate::items::{Numbers, key_of};
 use crate::worded::{Worded, number, push_words};
 use lin_check::{Checkable, Event};
 use ready_objects::{is_text, push_number};
@@ -71,7 +71,7 @@ impl SeqObject for Stack {
     ) -> Result<(Numbers, StackResp), AllocError> {
         match inv {
             StackInv::Push(number) => Ok((
-                Numbers::with_first(alloc, *number, state.as_slice())?,
+                Numbers::joined(alloc, &[*number], state.as_slice())?,
                 StackResp::Pushed,
             )),
             StackInv::Pop => match state.as_slice() {
@@ -90,11 +90,11 @@ impl SeqObject for Stack {
 
 impl Checkable for Stack {
     fn is_same(a: &Numbers, b: &Numbers) -> bool {
-        a.is_same(b)
+        a.as_slice() == b.as_slice()
     }
 
     fn key(state: &Numbers) -> u64 {
-        state.key()
+        key_of(state.as_slice())
     }
 
     ghost part = { λ _. 0 };
@@ -121,6 +121,10 @@ impl Checkable for Stack {
 }
 
 impl Worded for Stack {
+    const CALLS: &'static str = "push V, pop";
+
+    const REPLIES: &'static str = "ok, empty, V";
+
     ghost wording = { stack_wording };
 
     fn read_inv(words: &[&[u8]]) -> Option<StackInv> {
@@ -153,13 +157,5 @@ impl Worded for Stack {
             StackResp::Popped(number) => push_number(text, number),
             StackResp::Empty => text.extend_from_slice(b"empty"),
         }
-    }
-
-    fn calls() -> &'static str {
-        "push V, pop"
-    }
-
-    fn replies() -> &'static str {
-        "ok, empty, V"
     }
 }

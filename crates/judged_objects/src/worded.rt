@@ -12,6 +12,12 @@ use std::alloc::AllocError;
 
 /// An object that can be checked, and the words of its calls and replies.
 pub trait Worded: Checkable {
+    /// The calls that there are, in words.
+    const CALLS: &'static str;
+
+    /// The replies that there are, in words.
+    const REPLIES: &'static str;
+
     /// The words of invocations and responses.
     ghost wording: { Wording Self.Inv Self.Resp };
 
@@ -34,12 +40,6 @@ pub trait Worded: Checkable {
     /// An `Err` says that memory was refused.
     fn push_resp(text: &mut Vec<u8>, resp: Self::Resp) -> Result<(), AllocError>
         ensures { OnOk result (text.new.items ≡ text.old.items ++ wording.resp_text resp) };
-
-    /// The calls that there are, in words.
-    fn calls() -> &'static str;
-
-    /// The replies that there are, in words.
-    fn replies() -> &'static str;
 }
 
 /// The number from 0 to 999,999,999,999 that a word writes in decimal, without leading zeros.
