@@ -8,7 +8,7 @@ use Rattle.lin_check.specs.declared.event.Event.TheVariants.{Call, Return}
 use Rattle.ready_objects.specs.Words.{bytes_of}
 use Rattle.judged_objects.specs.Wording.{Wording}
 use Rattle.history_text.specs.Told.{events_of}
-use Rattle.history_text.specs.Own.{AddsLine, NamesFirstBad, RefusesFirst, RefusesLine, first_bad, line_tells, tolds_of}
+use Rattle.history_text.specs.Own.{AddsLine, NamesFirstBad, RefusesFirst, first_bad, line_tells, tolds_of}
 use Rattle.history_text.specs.declared.fault.ReadError.{ReadError}
 use Rattle.history_text.specs.declared.fault.ReadError.TheVariants.{Refused, Memory}
 use Rattle.history_text.specs.declared.history.Told.{Told}
@@ -50,23 +50,12 @@ module _ {I R : Type 0} (wording : Wording I R) (lines : List (Bor (List ℕ))) 
       ∙ sym (ap (λ told. option_map (λ ts. old ++ ts) (option_and_then (λ told. option_map (λ tolds. told ++ tolds) rest) told)) adds.tells)
       ∙ sym (at_drop_more (λ ls. option_map (λ ts. old ++ ts) (tolds_of wording (bytes_of ls))) lines i d within)
 
-  -- the first bad line, where line i tells something, or nothing
-  first_after : (n : ℕ) (told : Option (List (Told I R))) → line_tells wording line ≡ told
-      → first_bad wording n (left i) ≡ (if is_some told then first_bad wording (n + 1) (left (i + 1)) else Some n)
-  first_after n told is =
-      at_drop_more (λ ls. first_bad wording n (bytes_of ls)) lines i d within
-      ∙ ap (λ told. if is_some told then first_bad wording (n + 1) (left (i + 1)) else Some n) is
-
   -- a line that tells something is passed
   pub line_passed : (n : ℕ) (old new : List (Told I R)) → AddsLine wording line old new
       → first_bad wording (n + 1) (left (i + 1)) ≡ first_bad wording n (left i)
-  line_passed n old new adds = sym (first_after n (Some adds.more) adds.tells)
-
-  -- a line that is refused is the first bad one
-  pub refuses_first : (n : ℕ) (error : ReadError) → RefusesLine wording line n error
-      → first_bad wording n (left i) ≡ first_bad wording 1 (bytes_of lines) → RefusesFirst wording (bytes_of lines) error
-  refuses_first n (Refused fault) refused first = sym first ∙ first_after n None (refused.bad tt) ∙ ap Some (sym refused.on)
-  refuses_first n Memory refused first = tt
+  line_passed n old new adds =
+      sym (ap (λ told. if is_some told then first_bad wording (n + 1) (left (i + 1)) else Some n) adds.tells)
+      ∙ sym (at_drop_more (λ ls. first_bad wording n (bytes_of ls)) lines i d within)
 
 module _ {I R : Type 0} (wording : Wording I R) where
   -- where lines are read, none is bad
