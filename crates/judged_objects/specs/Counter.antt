@@ -48,7 +48,12 @@ counter_inv_text (Add v) = codes "add " ++ decimal v
 counter_inv_text (GetAndAdd v) = codes "getadd " ++ decimal v
 
 abbrev pub counter_wording : Wording CounterInv CounterResp
-counter_wording = record { inv_of_words = counter_inv_of_words; resp_of_words = counter_resp_of_words; inv_text = counter_inv_text; resp_text = counter_resp_text }
+counter_wording = record {
+  inv_of_words = counter_inv_of_words;
+  resp_of_words = counter_resp_of_words;
+  inv_text = counter_inv_text;
+  resp_text = counter_resp_text;
+}
 
 a_number_is_added : map (counter_next 4) (Add 7 ∷ GetAndAdd 7 ∷ Read ∷ []) ≡ 11 ∷ 11 ∷ 4 ∷ []
 a_number_is_added = refl

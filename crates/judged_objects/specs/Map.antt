@@ -102,7 +102,8 @@ what_is_answered : map (map_answer sample) (Get 4 ∷ Get 5 ∷ Put 4 1 ∷ Inse
     ≡ Value 40 ∷ Missing ∷ Written ∷ Value 70 ∷ Missing ∷ []
 what_is_answered = refl
 
-words_of_calls : map (λ t. map_inv_of_words (words_of_text t)) (codes "get 7" ∷ codes "put 7 1" ∷ codes "insert 7 1" ∷ codes "remove 7" ∷ codes "put 7" ∷ [])
+words_of_calls : map (λ t. map_inv_of_words (words_of_text t))
+    (codes "get 7" ∷ codes "put 7 1" ∷ codes "insert 7 1" ∷ codes "remove 7" ∷ codes "put 7" ∷ [])
     ≡ Some (Get 7) ∷ Some (Put 7 1) ∷ Some (Insert 7 1) ∷ Some (Remove 7) ∷ None ∷ []
 unfolding number_of_word
 words_of_calls = refl

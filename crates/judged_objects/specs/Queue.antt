@@ -48,7 +48,12 @@ queue_inv_text (Enq v) = codes "enq " ++ decimal v
 queue_inv_text Deq = codes "deq"
 
 abbrev pub queue_wording : Wording QueueInv QueueResp
-queue_wording = record { inv_of_words = queue_inv_of_words; resp_of_words = queue_resp_of_words; inv_text = queue_inv_text; resp_text = queue_resp_text }
+queue_wording = record {
+  inv_of_words = queue_inv_of_words;
+  resp_of_words = queue_resp_of_words;
+  inv_text = queue_inv_text;
+  resp_text = queue_resp_text;
+}
 
 a_number_goes_last : queue_next (4 ∷ []) (Enq 7) ≡ 4 ∷ 7 ∷ []
 a_number_goes_last = refl

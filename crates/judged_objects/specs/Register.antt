@@ -55,7 +55,12 @@ register_inv_text (Write v) = codes "write " ++ decimal v
 register_inv_text (Exchange u v) = (codes "cas " ++ decimal u) ++ (codes " " ++ decimal v)
 
 abbrev pub register_wording : Wording RegisterInv RegisterResp
-register_wording = record { inv_of_words = register_inv_of_words; resp_of_words = register_resp_of_words; inv_text = register_inv_text; resp_text = register_resp_text }
+register_wording = record {
+  inv_of_words = register_inv_of_words;
+  resp_of_words = register_resp_of_words;
+  inv_text = register_inv_text;
+  resp_text = register_resp_text;
+}
 
 what_was_written_is_read : register_answer (register_next 4 (Write 7)) Read ≡ Value 7
 what_was_written_is_read = refl

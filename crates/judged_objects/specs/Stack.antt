@@ -48,7 +48,12 @@ stack_inv_text (Push v) = codes "push " ++ decimal v
 stack_inv_text Pop = codes "pop"
 
 abbrev pub stack_wording : Wording StackInv StackResp
-stack_wording = record { inv_of_words = stack_inv_of_words; resp_of_words = stack_resp_of_words; inv_text = stack_inv_text; resp_text = stack_resp_text }
+stack_wording = record {
+  inv_of_words = stack_inv_of_words;
+  resp_of_words = stack_resp_of_words;
+  inv_text = stack_inv_text;
+  resp_text = stack_resp_text;
+}
 
 a_number_comes_first : stack_next (4 ∷ []) (Push 7) ≡ 7 ∷ 4 ∷ []
 a_number_comes_first = refl
