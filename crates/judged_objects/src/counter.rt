@@ -38,6 +38,9 @@ pub enum CounterResp {
     Added,
 }
 
+/// An event of a history.
+type CounterEvent = Event<CounterInv, CounterResp>;
+
 impl SeqObject for Counter {
     type State = u64;
 
@@ -100,17 +103,11 @@ impl Checkable for Counter {
         0
     }
 
-    fn ranks(
-        alloc: Global,
-        history: &[Event<CounterInv, CounterResp>],
-    ) -> Result<Vec<u64>, AllocError> {
+    fn ranks(alloc: Global, history: &[CounterEvent]) -> Result<Vec<u64>, AllocError> {
         lin_check::by_return(alloc, history)
     }
 
-    fn guess(
-        _alloc: Global,
-        _history: &[Event<CounterInv, CounterResp>],
-    ) -> Result<Option<Vec<usize>>, AllocError> {
+    fn guess(_alloc: Global, _history: &[CounterEvent]) -> Result<Option<Vec<usize>>, AllocError> {
         Ok(None)
     }
 }

@@ -41,6 +41,9 @@ pub enum QueueResp {
     Empty,
 }
 
+/// An event of a history.
+pub(crate) type QueueEvent = Event<QueueInv, QueueResp>;
+
 impl SeqObject for Queue {
     type State = Numbers;
 
@@ -91,10 +94,7 @@ impl SeqObject for Queue {
 }
 
 /// Where in a history each number is taken.
-fn takes(
-    alloc: Global,
-    history: &[Event<QueueInv, QueueResp>],
-) -> Result<BTreeMap<u64, u64>, AllocError> {
+fn takes(alloc: Global, history: &[QueueEvent]) -> Result<BTreeMap<u64, u64>, AllocError> {
     let mut takes = BTreeMap::new(alloc);
     for i in 0..history.len() {
         if let Event::Return(_, QueueResp::Taken(number)) = &history[i] {
@@ -123,10 +123,7 @@ impl Checkable for Queue {
 
     /// Of two calls that put a number the one whose number is taken first is tried first; of others the one that
     /// returns first.
-    fn ranks(
-        alloc: Global,
-        history: &[Event<QueueInv, QueueResp>],
-    ) -> Result<Vec<u64>, AllocError> {
+    fn ranks(alloc: Global, history: &[QueueEvent]) -> Result<Vec<u64>, AllocError> {
         let takes = takes(alloc, history)?;
         let mut ranks = lin_check::by_return(alloc, history)?;
         for i in 0..history.len() {
@@ -139,10 +136,7 @@ impl Checkable for Queue {
         Ok(ranks)
     }
 
-    fn guess(
-        alloc: Global,
-        history: &[Event<QueueInv, QueueResp>],
-    ) -> Result<Option<Vec<usize>>, AllocError> {
+    fn guess(alloc: Global, history: &[QueueEvent]) -> Result<Option<Vec<usize>>, AllocError> {
         queue_order(alloc, history)
     }
 }

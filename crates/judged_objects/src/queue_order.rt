@@ -4,7 +4,7 @@
 //! Of two numbers one goes first where it was put in, or taken out, before that of the other began (Henzinger, Sezgin
 //! and Vafeiadis 2013). The queue is empty at some instant of a call that finds it so: such instants cut the history.
 
-use crate::queue::{QueueInv, QueueResp};
+use crate::queue::{QueueEvent, QueueInv, QueueResp};
 use lin_check::{Event, by_return};
 use std::alloc::{AllocError, Global};
 use std::collections::BTreeMap;
@@ -77,7 +77,7 @@ struct Calls {
 /// The numbers that are put in, and where each stands among them; `None` where one is put in twice.
 fn puts(
     alloc: Global,
-    history: &[Event<QueueInv, QueueResp>],
+    history: &[QueueEvent],
     returns: &[u64],
 ) -> Result<Option<(Vec<Stay>, BTreeMap<u64, usize>)>, AllocError> {
     let mut stays = Vec::new(alloc);
@@ -97,11 +97,7 @@ fn puts(
 }
 
 /// The response of the call at a place.
-fn reply_of(
-    history: &[Event<QueueInv, QueueResp>],
-    returns: &[u64],
-    call: usize,
-) -> Option<QueueResp> {
+fn reply_of(history: &[QueueEvent], returns: &[u64], call: usize) -> Option<QueueResp> {
     match history.get(*returns.get(call)? as usize)? {
         Event::Return(_, response) => Some(*response),
         Event::Call(_, _) => None,
@@ -109,10 +105,7 @@ fn reply_of(
 }
 
 /// The calls of a history; `None` where a number is put in twice, or is taken that isn't put in or is taken already.
-fn calls_in(
-    alloc: Global,
-    history: &[Event<QueueInv, QueueResp>],
-) -> Result<Option<Calls>, AllocError> {
+fn calls_in(alloc: Global, history: &[QueueEvent]) -> Result<Option<Calls>, AllocError> {
     let returns = by_return(alloc, history)?;
     let Some((mut stays, known)) = puts(alloc, history, &returns)? else {
         return Ok(None);
@@ -353,7 +346,7 @@ fn points_of(
 /// An order that a history may have; `None` where none is found.
 pub(crate) fn queue_order(
     alloc: Global,
-    history: &[Event<QueueInv, QueueResp>],
+    history: &[QueueEvent],
 ) -> Result<Option<Vec<usize>>, AllocError> {
     let Some(mut calls) = calls_in(alloc, history)? else {
         return Ok(None);

@@ -42,6 +42,9 @@ pub enum RegisterResp {
     Kept,
 }
 
+/// An event of a history.
+type RegisterEvent = Event<RegisterInv, RegisterResp>;
+
 impl SeqObject for Register {
     type State = u64;
 
@@ -109,17 +112,11 @@ impl Checkable for Register {
         0
     }
 
-    fn ranks(
-        alloc: Global,
-        history: &[Event<RegisterInv, RegisterResp>],
-    ) -> Result<Vec<u64>, AllocError> {
+    fn ranks(alloc: Global, history: &[RegisterEvent]) -> Result<Vec<u64>, AllocError> {
         lin_check::by_return(alloc, history)
     }
 
-    fn guess(
-        _alloc: Global,
-        _history: &[Event<RegisterInv, RegisterResp>],
-    ) -> Result<Option<Vec<usize>>, AllocError> {
+    fn guess(_alloc: Global, _history: &[RegisterEvent]) -> Result<Option<Vec<usize>>, AllocError> {
         Ok(None)
     }
 }

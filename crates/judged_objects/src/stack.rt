@@ -39,6 +39,9 @@ pub enum StackResp {
     Empty,
 }
 
+/// An event of a history.
+type StackEvent = Event<StackInv, StackResp>;
+
 impl SeqObject for Stack {
     type State = Numbers;
 
@@ -105,17 +108,11 @@ impl Checkable for Stack {
         0
     }
 
-    fn ranks(
-        alloc: Global,
-        history: &[Event<StackInv, StackResp>],
-    ) -> Result<Vec<u64>, AllocError> {
+    fn ranks(alloc: Global, history: &[StackEvent]) -> Result<Vec<u64>, AllocError> {
         lin_check::by_return(alloc, history)
     }
 
-    fn guess(
-        _alloc: Global,
-        _history: &[Event<StackInv, StackResp>],
-    ) -> Result<Option<Vec<usize>>, AllocError> {
+    fn guess(_alloc: Global, _history: &[StackEvent]) -> Result<Option<Vec<usize>>, AllocError> {
         Ok(None)
     }
 }
