@@ -19,22 +19,7 @@ struct Whole<'a, I: Drop, R> {
     process: &'a [u8],
     inv: I,
     begins: u64,
-    end: Option<End<R>>,
-}
-
-/// How a call returned, and when.
-#[derive(Clone, Copy)]
-struct End<R> {
-    resp: R,
-    at: u64,
-}
-
-/// When something happened: of two at one time a call comes first.
-#[derive(Clone, Copy, PartialEq, Eq, PartialOrd, Ord)]
-struct Stamp {
-    at: u64,
-    is_return: bool,
-    whole: usize,
+    end: Option<(u64, R)>,
 }
 
 /// The time that a word tells.
@@ -45,13 +30,13 @@ fn time_of(word: &[u8]) -> Option<u64> {
     }
 }
 
-/// How a call returned by the words after the arrow.
+/// When a call returned by the words after the arrow, and its response.
 fn end_of<O: Worded>(
     line: u64,
     words: &[&[u8]],
     after: usize,
     begins: u64,
-) -> Result<End<O::Resp>, ReadError> {
+) -> Result<(u64, O::Resp), ReadError> {
     let last = words.len().saturating_sub(1);
     let resp = words.get(after..last.saturating_sub(1)).unwrap_or(&[]);
     let Some(resp) = O::read_resp(resp) else {
@@ -59,7 +44,7 @@ fn end_of<O: Worded>(
     };
     match words.last().and_then(|word| time_of(word)) {
         Some(at) if at < begins => Err(spot_at(words, last, Reason::Backwards).on(line)),
-        Some(at) => Ok(End { resp, at }),
+        Some(at) => Ok((at, resp)),
         None => Err(spot_at(words, last, Reason::NoStamp).on(line)),
     }
 }
@@ -69,7 +54,7 @@ fn times_of<O: Worded>(
     line: u64,
     words: &[&[u8]],
     after: usize,
-) -> Result<(u64, Option<End<O::Resp>>), ReadError> {
+) -> Result<(u64, Option<(u64, O::Resp)>), ReadError> {
     let many = words.len().saturating_sub(after);
     let is_pending = many == 2 && words.get(after).map_or(false, |word| is_text(word, "?"));
     if many < 3 && !is_pending {
@@ -130,24 +115,17 @@ fn wholes_of<'a, O: Worded>(
     Ok(wholes)
 }
 
-/// When calls began and returned, in order.
+/// When calls began and returned, in order: the time, whether it returned, and which it is. Of two at one time a call
+/// comes first.
 fn stamps_of<I: Drop, R: Copy>(
     alloc: Global,
     wholes: &[Whole<'_, I, R>],
-) -> Result<Vec<Stamp>, AllocError> {
+) -> Result<Vec<(u64, bool, usize)>, AllocError> {
     let mut stamps = Vec::new(alloc);
     for (i, whole) in wholes.iter().enumerate() {
-        stamps.push(Stamp {
-            at: whole.begins,
-            is_return: false,
-            whole: i,
-        })?;
-        if let Some(end) = whole.end {
-            stamps.push(Stamp {
-                at: end.at,
-                is_return: true,
-                whole: i,
-            })?;
+        stamps.push((whole.begins, false, i))?;
+        if let Some((at, _)) = whole.end {
+            stamps.push((at, true, i))?;
         }
     }
     stamps.sort()?;
@@ -166,13 +144,13 @@ pub(crate) fn tolds_of<O: Worded>(
     let stamps = stamps_of(alloc, wholes.as_slice())?;
     let mut names = Names::new(alloc);
     let mut tolds = Vec::new(alloc);
-    for stamp in &stamps {
-        let Some(whole) = wholes.get(stamp.whole) else {
+    for (_, is_return, place) in &stamps {
+        let Some(whole) = wholes.get(*place) else {
             continue;
         };
         let process = names.number_of(whole.process, whole.line)?;
         let told = match whole.end {
-            Some(end) if stamp.is_return => Told::Ends(process, end.resp),
+            Some((_, resp)) if *is_return => Told::Ends(process, resp),
             _ => Told::Begins(process, O::copy_inv(alloc, &whole.inv)?),
         };
         let placed = Placed {
