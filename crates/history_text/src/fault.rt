@@ -64,11 +64,11 @@ pub enum Reason {
 }
 
 impl Reason {
-    /// What is said of it, in two parts.
+    /// What is said of it, in two parts; between them stands the byte, where there is one.
     fn texts(&self) -> (&'static str, &'static str) {
         match self {
             Reason::NoFormat => ("no history begins so: see 'unicheck --help'", ""),
-            Reason::BadByte(_) => ("a byte isn't from 32 to 126", ""),
+            Reason::BadByte(_) => ("byte ", " isn't from 32 to 126"),
             Reason::CarriageReturn => ("a carriage return: the file has Windows line ends", ""),
             Reason::Tab => ("a tab: between two words there is one space", ""),
             Reason::SpaceFirst => ("a space first: a line begins with its first word", ""),
@@ -102,11 +102,11 @@ impl Reason {
 
 impl fmt::Display for Reason {
     fn fmt<W: fmt::Write>(&self, f: &mut fmt::Formatter<W>) -> fmt::Result {
-        if let Reason::BadByte(byte) = self {
-            return write!(f, "byte {byte} isn't from 32 to 126");
-        }
         let (text, rest) = self.texts();
-        write!(f, "{text}{rest}")
+        match self {
+            Reason::BadByte(byte) => write!(f, "{text}{byte}{rest}"),
+            _ => write!(f, "{text}{rest}"),
+        }
     }
 }
 
