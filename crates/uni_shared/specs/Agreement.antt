@@ -36,8 +36,8 @@ completed_of r = record {
 
 -- The receipts are the calls of a process in a run, in order, none missing and none more: each with what it asked for,
 -- with the reply of its return, and with its own steps and turns.
-pub record Agrees {S I R : Type 0} (object : Sequential S I R) (first : WorldOf S I R) (events : List (Stored I)) (p : ℕ)
-    (receipts : List (Receipt I R)) : Type 0 where
+pub record Agrees {S I R : Type 0} (object : Sequential S I R) (first : WorldOf S I R) (events : List (Stored I))
+    (p : ℕ) (receipts : List (Receipt I R)) : Type 0 where
   pub invocations : map (λ r. r.inv) receipts ≡ filter_map (invocation_by p) events
   pub completed : map completed_of receipts ≡ completed_of_process p (completed_in object first (events_shown events))
 
@@ -95,8 +95,8 @@ SeatAgreesAt sequential recorded seat =
     AgreesAt (meaning sequential recorded) (opening sequential recorded) recorded.events seat.process seat.receipts
 
 -- this is the first call of a seat's process at which its receipts differ from the stored events
-pub record IsMismatchOf {O S I R : Type 0} (sequential : O → Sequential S I R) (recorded : Recording O S I R) (seat : SeatOf I R)
-    (call : CallId) : Type 0 where
+pub record IsMismatchOf {O S I R : Type 0} (sequential : O → Sequential S I R) (recorded : Recording O S I R)
+    (seat : SeatOf I R) (call : CallId) : Type 0 where
   pub process : seat.process ≡ call.process
   pub differs : ¬ (SeatAgreesAt sequential recorded seat call.nth)
   pub same : (j : ℕ) → j < call.nth → SeatAgreesAt sequential recorded seat j
@@ -114,8 +114,8 @@ abbrev pub AreAllThere : {I R : Type 0} → ℕ → List (SeatOf I R) → Type 0
 AreAllThere n seats = (q : ℕ) → ¬ (IsMissing n seats q)
 
 -- why a record and seats of n processes aren't closed: the first of these that holds
-abbrev pub IsFaultOfClosing : {O S I R : Type 0} → (O → Sequential S I R) → (n : ℕ) → Recording O S I R → List (SeatOf I R)
-    → CloseFault → Type 0
+abbrev pub IsFaultOfClosing : {O S I R : Type 0} → (O → Sequential S I R) → (n : ℕ) → Recording O S I R
+    → List (SeatOf I R) → CloseFault → Type 0
 IsFaultOfClosing sequential n recorded seats (MissingSeat p) = IsLeast (IsMissing n seats) p
 IsFaultOfClosing sequential n recorded seats Stranger = AreAllThere n seats × (recorded.processes ≢ n)
 IsFaultOfClosing sequential n recorded seats (PendingSeat p) =

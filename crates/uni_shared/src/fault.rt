@@ -3,7 +3,8 @@
 use thiserror::Error;
 
 /// Why a call has no receipt yet. Where several hold, the one told is the first in the order that
-/// `Seat::apply` tells: so `Memory` for the receipt's room, and then `Stranger`, come before `RowFull`.
+/// `Seat::apply` tells: so `Memory` for the receipt's room, and then `Stranger` of the begin, come
+/// before `RowFull`.
 #[derive(Clone, Copy, Debug, PartialEq, Eq, Error)]
 pub enum ApplyFault {
     /// The seat has a call pending.

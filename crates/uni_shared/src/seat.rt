@@ -315,8 +315,8 @@ impl<O: SeqObject> Seat<O> {
     ///
     /// Errors: `SeatPending` where the seat has a call pending; `Memory` where the room for the receipt
     /// was refused; then at the begin `Stranger` where there is no such process, or it has a call
-    /// pending, or the call isn't the one after those that the seat has receipts of, `RowFull`,
-    /// `HistoryFull` and `Memory` as `begin_held` has them; then before each step `GaveUp` where the
+    /// pending, and `RowFull`, `HistoryFull` and `Memory` as `begin_held` has them; after it `Stranger` where the
+    /// call isn't the one after those that the seat has receipts of; then before each step `GaveUp` where the
     /// gate gave up, and at it `Stranger` where the call isn't its process's pending one, and `Memory`.
     /// `Stranger` comes too where the call hasn't ended after `10 n + 12` steps, by the seat's number of
     /// processes. Where the call had begun, the seat has it pending after an error; else the seat is as

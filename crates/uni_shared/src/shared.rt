@@ -99,7 +99,8 @@ fn seats_of<O: SeqObject>(alloc: Global, n: u64) -> Result<Vec<Seat<O>>, AllocEr
 /// Ends the era of the record, in one hold of the lock: `trim_held`. The answer is the number of the
 /// new anchor.
 ///
-/// Errors: those of `Recorded::trim`. After each the record is as it was.
+/// Errors: those of `Recorded::trim`. After each the record is as it was. No clause says any of it, since a lock tells
+/// nothing of what is under it; `trim_held` has the clauses.
 pub fn trim<O: SeqObject, R: Wait>(
     rt: &R,
     alloc: Global,

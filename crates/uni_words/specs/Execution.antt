@@ -153,13 +153,13 @@ module _ (object : Sequential ℕ ℕ ℕ) (n row : ℕ) where
   abbrev pub opened_table : State ℕ View
   opened_table = opening (first_words n row object.initial) [] (first_view n row)
 
-  -- how many word steps process p has taken for its latest call at the end, where it had taken so many before; to ask
-  -- about a call is no step of one
+  -- the word steps of a process for its latest call, with this step; to ask about a call is no step of one
   abbrev pub counted : {v : Known} → Next v → (taken : ℕ) → ℕ
   counted (Begin inv narrow idle room) taken = 1
   counted (Ask call idle) taken = taken
   counted next taken = taken + 1
 
+  -- how many word steps process p has taken for its latest call at the end, where it had taken so many before
   abbrev pub steps_of_call : (p taken : ℕ) {s : State ℕ View} → Execution s → ℕ
   steps_of_call p taken Ends = taken
   steps_of_call p taken (Takes id v seat next word there rest) =

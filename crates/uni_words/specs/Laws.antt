@@ -78,7 +78,7 @@ module _ (object : Sequential ℕ ℕ ℕ) (row : ℕ) (w : WorldOf ℕ ℕ ℕ)
   abbrev pub LeadsBy : Event ℕ → State ℕ View → Type 0
   LeadsBy event s' = Leads (event ∷ []) (world_after object w event) s'
 
-  -- a seat of several processes is cut in two
+  -- a seat is cut in two, its first process apart from the others, if there are any
   abbrev pub SplitKeeps : (id : ℕ) → View → Type 0
   SplitKeeps id v =
       IsShown object row w s → get_elem? s.views id ≡ some v → 1 ≤ v.known.count → Leads [] w (after_split s id v)
@@ -106,8 +106,8 @@ module _ (object : Sequential ℕ ℕ ℕ) (row : ℕ) (w : WorldOf ℕ ℕ ℕ)
         → word_of w.n row (InvOf (Of v.first v.its.begun)) ≡ Some word
         → LeadsBy (Call v.first inv) (after_word s word inv id (begun_by v inv))
 
-    -- A word step at the place of the stage where a call stands is the event Step, as long as the call goes on after
-    -- it: it leaves in the word a number that reads as what the event leaves, and no state past 31 bits.
+    -- A word step at the place of the stage where a call stands is the event Step, where the call goes on after it, and
+    -- where it leaves in the word a number that reads as what the event leaves, and no state past 31 bits.
     abbrev pub WordStepMoves : Pending → (next : Stage) → (word x : ℕ) → Type 0
     WordStepMoves c next word x =
         IsShown object row w s → HasSeat s id v → v.its.call ≡ Some c

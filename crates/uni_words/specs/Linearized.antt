@@ -9,7 +9,8 @@ use Rattle.uni_model.specs.HerlihyWing.{IsLinearizedByCompletion, IsWellFormed, 
 use Rattle.uni_model.specs.Linearizable.{observed_in}
 use Rattle.uni_model.specs.ProcessCalls.{ProcessCalls, sequential_acts}
 use Rattle.uni_model.specs.Worlds.{AreAccepted, Event}
-use Rattle.uni_words.specs.Execution.{Execution, Next, access_of, events, goes_on, last_state, opened_table, steps_of_call}
+use Rattle.uni_words.specs.Execution.{Execution, Next, access_of, events, goes_on, last_state, opened_table}
+use Rattle.uni_words.specs.Execution.{steps_of_call}
 use Rattle.uni_words.specs.Laws.{HasSeat}
 use Rattle.uni_words.specs.Run.{opened}
 use Rattle.uni_words.specs.Shown.{IsAmong, acts_in_view}

@@ -20,7 +20,8 @@ pub fn opening_shows<O: WordObject>()
     ensures { (object : O) (n row : ℕ) → OpeningShows (O.sequential object) n row }
 {}
 
-/// A seat of several processes is cut in two: the world and the run to it stay as they are.
+/// A seat is cut in two, its first process apart from the others, if there are any: the world and the run to it stay as
+/// they are.
 pub fn split_keeps<O: WordObject>()
     ensures { (object : O) (row : ℕ) (w : WorldOf ℕ ℕ ℕ) (s : State ℕ View) (id : ℕ) (v : View) →
         SplitKeeps (O.sequential object) row w s id v }

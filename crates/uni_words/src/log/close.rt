@@ -40,8 +40,8 @@ impl<O: WordObject> WordLog<O> {
     /// on (`execution`). So what the laws say of every execution holds of it.
     ///
     /// `known` has all that `own` says, and `execution` all that `seen` does, which has all that `run` says. The
-    /// execution is chosen by the clause: that it is the one that was made isn't said, but the rule of the table keeps
-    /// one that has led to these words, step by step.
+    /// execution is chosen by the clause: that it is the one that was made isn't said, nor that it leads to these words,
+    /// which the rule of the table keeps of one.
     pub fn close_with(self, seat: WordSeat) -> Words
         requires seat { IsSeatOf self seat }
         ensures counts { (count_in result ≡ processes_of self) × (row_in result ≡ row_of self) }
@@ -73,12 +73,13 @@ impl<O: WordObject> WordLog<O> {
         }
     }
 
-    /// Closes the log with these seats, of which there is one at least: what `close_with` tells of one
-    /// seat's process is told of each one's. It costs one load for each seat but one (in no clause).
+    /// Closes the log with these seats, of which there is one at least: what `close_with` tells of its seat's own calls
+    /// is told of each one's; but not the number of its latest call, nor the calls of seats that it took in earlier. It
+    /// costs one load for each seat but one (in no clause).
     ///
-    /// What these seats saw was so in the run, and orders their calls in the log. The run is chosen by the clause: a
-    /// call that returned before another seat's call began stands before it only where that seat had asked about it, or
-    /// both are calls of one process.
+    /// What these seats saw was so in the run, and orders their calls in the log. The run is chosen by the clause: that a
+    /// call which returned before another seat's call began stands before it is said only where that seat had asked
+    /// about it or taken it in, or both are calls of one process.
     ///
     /// With the seats of all processes, in order, the log and what their callers were told agree, so
     /// that `differs` finds nothing.
