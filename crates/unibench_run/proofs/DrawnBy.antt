@@ -1,13 +1,10 @@
 -- What is drawn from words, and the seeds of jobs by their places.
-use Rattle.unibench_run.proofs.Vocabulary.{List, None, Some, [], add-zero, ap, arith, cond, count_by, drawn_by, drawn_from, false, length, length-append, length-map-range_with_len, map, map-append, map-range_with_len_more, range_with_len, refl, seed_of, seeded_word, slice_get, slice_get-index, slice_get-map, slice_index_or, subst, suc, sum_by-cons, sym, zero, zero-add, ℕ, ◌++◌, ◌+◌, ◌<◌, ◌==◌, ◌∙◌, ◌∷◌, ◌≡◌}
+use Rattle.unibench_run.proofs.Vocabulary.{List, None, Some, [], add-zero, ap, arith, cond, count_by, drawn_by, drawn_from, false, length, length-append, map, map-append, map-range_with_len_more, range_with_len, refl, seed_of, seeded_word, slice_get, slice_get-index, slice_get-map, slice_index_or, subst, suc, sum_by-cons, sym, zero, zero-add, ℕ, ◌++◌, ◌+◌, ◌<◌, ◌==◌, ◌∙◌, ◌∷◌, ◌≡◌}
 use Rattle.std.proofs.lemmas.Bool.Decides.{nat_tests}
 
 -- one word more
 pub drawn-more : {I : Type 0} (read : ℕ → I) (word : ℕ → ℕ) (count : ℕ) → drawn_from read word (count + 1) ≡ drawn_from read word count ++ read (word count) ∷ []
 drawn-more read word count = map-range_with_len_more (λ i. read (word i)) 0 count count (zero-add count)
-
-pub length-drawn : {I : Type 0} (read : ℕ → I) (word : ℕ → ℕ) (count : ℕ) → length (drawn_from read word count) ≡ count
-length-drawn read word count = length-map-range_with_len (λ i. read (word i)) 0 count
 
 -- one more is asked for, by the next word of a generator
 pub drawn-next : {I C : Type 0} (read : ℕ → I) (asks : C → I) (seed count word : ℕ) (old new : List C) (call : C) → map asks old ≡ drawn_by read seed count

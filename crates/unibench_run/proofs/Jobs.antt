@@ -1,5 +1,5 @@
 -- What came of jobs that threads did, by their places.
-use Rattle.unibench_run.proofs.Vocabulary.{AreJobsDone, IsJobOf, Job, List, Ok, Result, Some, ap, arith, length, length-map, map, range_with_len, seed_of, slice_get, slice_get-index, slice_get-map, slice_index_or, subst, sym, ℕ, ◌<◌, ◌∙◌, ◌≡◌}
+use Rattle.unibench_run.proofs.Vocabulary.{AreDone, AreJobsDone, Done, IsDone, IsJobOf, Job, List, Ok, Result, Some, [], ap, arith, length, length-map, map, range_with_len, seed_of, slice_get, slice_get-index, slice_get-map, slice_index_or, subst, sym, ℕ, ◌<◌, ◌∙◌, ◌≡◌}
 use Rattle.unibench_run.proofs.DrawnBy.{of_place}
 use Rattle.unibench_run.proofs.Told.{at_below}
 
@@ -32,3 +32,15 @@ module _ {S : Type 0} (seed : ℕ) (seats : List S) (jobs : List (Job S)) where
           let here : slice_index_or results p (Ok one) ≡ Ok one = (let e = sym (slice_get-index results p (Ok one) below) ∙ result in cc) in
           (its.0, job_at p its.0 within its.1, subst (Gives its.0) here its.2);
     }
+
+-- the jobs of the first seats, none of which has made a call, are all done
+pub all_jobs_done : {S T C : Type 0} (HasMade : (p : ℕ) → List T → S → Type 0) (asks : T → C) (read : ℕ → C) (threads calls seed : ℕ) (seats : List S) (done : List (Done S T))
+    → length seats ≡ threads → ((p : ℕ) (seat : S) → slice_get seats p ≡ Some seat → HasMade p [] seat)
+    → AreJobsDone (λ (job : Job S) (one : Done S T). (p : ℕ) → HasMade p [] job.seat → IsDone HasMade asks read calls job.seed p one) seats seed done
+    → AreDone HasMade asks read threads calls seed done
+all_jobs_done HasMade asks read threads calls seed seats done many fresh are = record {
+  many = are.many ∙ many;
+  each = λ p one at.
+      let its = are.each p one at in
+      subst (λ s. IsDone HasMade asks read calls s p one) its.1.1 (its.2 p (fresh p its.0.seat its.1.0));
+}

@@ -1,5 +1,5 @@
 -- What a run comes to by what was asked for, and what refused memory leaves.
-use Rattle.unibench_run.proofs.Vocabulary.{Appends, AppendsPrefix, Bool, Explained, IsFaultOfScript, IsRunOf, Language, List, Memory, Option, Random, Replay, Request, Some, Tells, TellsThreadsFault, Threads, ThreadsFault, arith, false, inl, inr, refl, refusal_of, scripts, subst, sym, ℕ, ◌∙◌, ◌≡◌}
+use Rattle.unibench_run.proofs.Vocabulary.{Appends, AppendsPrefix, Bool, Explained, IsFaultOfScript, IsRunOf, Language, List, Memory, Option, Random, Replay, Request, Tells, TellsThreadsFault, Threads, ThreadsFault, arith, false, inl, inr, refl, refusal_of, scripts, subst, sym, ℕ, ◌∙◌, ◌≡◌}
 use Rattle.uni_script.specs.Fault.{fault_line}
 use Rattle.uni_script.specs.declared.fault.BenchFault.{BenchFault}
 use Rattle.uni_script.specs.declared.fault.BenchFault.TheVariants as bench
@@ -24,23 +24,13 @@ threads_told : (refusal : Option ThreadsFault) (old new : Option (List ℕ)) (fa
 threads_told refusal old new failed status four told = by_fault told.fault told.status_is told.prefix told.whole
   where
     by_fault : (f : BenchFault) → status ≡ status_of f → AppendsPrefix old new (fault_line f) → (failed ≡ false → Appends old new (fault_line f)) → TellsThreadsFault refusal old new failed status
-    by_fault (bench.NoHeader l) is prefix whole = absurd (omega arith)
-    by_fault (bench.BadHeader l) is prefix whole = absurd (omega arith)
-    by_fault (bench.TooLong l) is prefix whole = absurd (omega arith)
-    by_fault (bench.BadByte l) is prefix whole = absurd (omega arith)
-    by_fault (bench.BadLine l) is prefix whole = absurd (omega arith)
-    by_fault bench.TooMany is prefix whole = absurd (omega arith)
-    by_fault bench.Read is prefix whole = absurd (omega arith)
-    by_fault bench.Write is prefix whole = absurd (omega arith)
-    by_fault (bench.Audit verdict) is prefix whole = absurd (omega arith)
     by_fault bench.Memory is prefix whole = record { fault = Memory; status_is = (four, λ two. absurd (omega arith)); prefix = prefix; whole = whole }
+    by_fault _ is prefix whole = absurd (omega arith)
 
 pub told_by_memory : (r : Request) (old new : Option (List ℕ)) (failed : Bool) (status : ℕ) → status ≡ 4 → TellsFault old new failed status → Tells r old new failed status
-told_by_memory (Replay options) old new failed status four told = told
 told_by_memory (Explained options) old new failed status four told = told_more old new failed status told
-told_by_memory (Language object) old new failed status four told = told
-told_by_memory (Random plan) old new failed status four told = told
 told_by_memory (Threads plan) old new failed status four told = threads_told (refusal_of plan) old new failed status four told
+told_by_memory _ old new failed status four told = told
 
 -- the line of a fault is told by its bytes
 pub TellsLine-bytes : {A : Type 0} (EndsWith : A → ℕ → Type 0) (line_of : A → List ℕ) (fault : A) (old new : Option (List ℕ)) (failed : Bool) (status : ℕ) (line : List ℕ)
@@ -48,31 +38,14 @@ pub TellsLine-bytes : {A : Type 0} (EndsWith : A → ℕ → Type 0) (line_of : 
 TellsLine-bytes EndsWith line_of fault old new failed status line ends is prefix whole =
     record { fault = fault; status_is = ends; prefix = subst (AppendsPrefix old new) is prefix; whole = λ good. subst (Appends old new) is (whole good) }
 
--- what was asked for is one request
-module _ (asked : Option Request) (q r : Request) (is_q : asked ≡ Some q) (is_r : asked ≡ Some r) where
-  same_request : q ≡ r
-  same_request = let same : Some q ≡ Some r = sym is_q ∙ is_r in cc
-
-  pub run_of_asked : (left left_after old new : Option (List ℕ)) (failed : Bool) (status : ℕ)
-      → IsRunOf q left left_after old new failed status → IsRunOf r left left_after old new failed status
-  run_of_asked left left_after old new failed status run = subst (λ x. IsRunOf x left left_after old new failed status) same_request run
-
-  pub told_of_asked : (old new : Option (List ℕ)) (failed : Bool) (status : ℕ) → Tells q old new failed status → Tells r old new failed status
-  told_of_asked old new failed status told = subst (λ x. Tells x old new failed status) same_request told
-
 -- a fault that ends with 2 is one that a script has
 pub is_of_script : (fault : BenchFault) (status : ℕ) → IsStatusOf fault status → status ≡ 2 → IsFaultOfScript fault
-is_of_script (bench.NoHeader l) status is two = tt
-is_of_script (bench.BadHeader l) status is two = tt
-is_of_script (bench.TooLong l) status is two = tt
-is_of_script (bench.BadByte l) status is two = tt
-is_of_script (bench.BadLine l) status is two = tt
-is_of_script bench.TooMany status is two = tt
-is_of_script bench.Read status (inl is) two = omega (arith, is, two)
-is_of_script bench.Read status (inr is) two = let four = is.1 in omega (arith, four, two)
-is_of_script bench.Write status (inl is) two = omega (arith, is, two)
-is_of_script bench.Write status (inr is) two = let four = is.1 in omega (arith, four, two)
-is_of_script bench.Memory status (inl is) two = omega (arith, is, two)
-is_of_script bench.Memory status (inr is) two = let four = is.1 in omega (arith, four, two)
-is_of_script (bench.Audit verdict) status (inl is) two = omega (arith, is, two)
-is_of_script (bench.Audit verdict) status (inr is) two = let four = is.1 in omega (arith, four, two)
+is_of_script fault status (inr is) two = let four = is.1 in absurd (omega arith)
+is_of_script fault status (inl is) two = by_own fault (sym is ∙ two)
+  where
+    by_own : (f : BenchFault) → status_of f ≡ 2 → IsFaultOfScript f
+    by_own bench.Read e = absurd (omega arith)
+    by_own bench.Write e = absurd (omega arith)
+    by_own bench.Memory e = absurd (omega arith)
+    by_own (bench.Audit verdict) e = absurd (omega arith)
+    by_own _ e = tt

@@ -17,38 +17,15 @@ two_refusals plan some = by_tests (has_form plan.form plan.object) (are_too_many
 status_2 : (f : ThreadsFault) → status_of_threads f ≡ 2 → (f ≡ fault.NoSuchObject) ⊎ (f ≡ fault.CallsTooMany)
 status_2 fault.NoSuchObject e = inl refl
 status_2 fault.CallsTooMany e = inr refl
-status_2 fault.Write e = absurd (omega (arith, e))
-status_2 fault.Memory e = absurd (omega (arith, e))
-status_2 (fault.Differs call) e = absurd (omega (arith, e))
-status_2 fault.LastState e = absurd (omega (arith, e))
-status_2 (fault.SeatMissing p) e = absurd (omega (arith, e))
-status_2 (fault.SeatPending p) e = absurd (omega (arith, e))
-status_2 fault.OtherRecord e = absurd (omega (arith, e))
-status_2 (fault.Audit verdict) e = absurd (omega (arith, e))
+status_2 _ e = absurd (omega (arith, e))
 
 status_3 : (f : ThreadsFault) → status_of_threads f ≡ 3 → f ≡ fault.Write
-status_3 fault.NoSuchObject e = absurd (omega (arith, e))
-status_3 fault.CallsTooMany e = absurd (omega (arith, e))
 status_3 fault.Write e = refl
-status_3 fault.Memory e = absurd (omega (arith, e))
-status_3 (fault.Differs call) e = absurd (omega (arith, e))
-status_3 fault.LastState e = absurd (omega (arith, e))
-status_3 (fault.SeatMissing p) e = absurd (omega (arith, e))
-status_3 (fault.SeatPending p) e = absurd (omega (arith, e))
-status_3 fault.OtherRecord e = absurd (omega (arith, e))
-status_3 (fault.Audit verdict) e = absurd (omega (arith, e))
+status_3 _ e = absurd (omega (arith, e))
 
 no_status_0 : (f : ThreadsFault) → status_of_threads f ≢ 0
-no_status_0 fault.NoSuchObject e = omega (arith, e)
-no_status_0 fault.CallsTooMany e = omega (arith, e)
 no_status_0 fault.Write e = omega (arith, e)
-no_status_0 fault.Memory e = omega (arith, e)
-no_status_0 (fault.Differs call) e = omega (arith, e)
-no_status_0 fault.LastState e = omega (arith, e)
-no_status_0 (fault.SeatMissing p) e = omega (arith, e)
-no_status_0 (fault.SeatPending p) e = omega (arith, e)
-no_status_0 fault.OtherRecord e = omega (arith, e)
-no_status_0 (fault.Audit verdict) e = omega (arith, e)
+no_status_0 _ e = omega (arith, e)
 
 module _ (plan : Plan) (old new : Option (List ℕ)) (failed : Bool) (f : ThreadsFault) (status : ℕ) (is : IsStatusOfThreads f status)
     (there : (f ≡ fault.NoSuchObject → refusal_of plan ≡ Some fault.NoSuchObject) × (refusal_of plan ≡ Some fault.NoSuchObject → f ≡ fault.NoSuchObject))

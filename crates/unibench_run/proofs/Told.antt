@@ -1,5 +1,5 @@
 -- Threads whose calls are all made: their seats, and what they were told.
-use Rattle.unibench_run.proofs.Vocabulary.{Agrees, All, All-map, AreAllSeats, AreDone, AreFirstSeats, AreJobsDone, Done, Global, IfOk, IsDoneOf, IsFreshSeat, IsRunOfThreads, IsSeatOf, Job, List, None, Ok, Result, Sequential, Some, Vec, [], ap, arith, asked_in, at_of_map, below_1000, drawn_by, length, length-map, map, own_calls, process_of, range_with_len, refl, row_of, seed_of, slice_get, slice_get-index, slice_get-map, slice_index_or, subst, suc, sym, told_to, vec_len, zero, ℕ, ◌<◌, ◌∙◌, ◌∷◌, ◌≡◌}
+use Rattle.unibench_run.proofs.Vocabulary.{Agrees, All, All-map, AreAllSeats, AreDone, Done, Global, HasMadeWords, IsRunOfThreads, IsSeatOf, List, None, Sequential, Some, Vec, [], ap, arith, asked_in, at_of_map, below_1000, call_in, length, length-map, map, own_calls, process_of, refl, slice_get, slice_get-index, slice_index_or, subst, suc, sym, told_to, vec_len, zero, ℕ, ◌<◌, ◌∙◌, ◌∷◌, ◌≡◌}
 use Rattle.uni_model.specs.Chain.{Entry}
 use Rattle.uni_words.specs.Belongs.{calls_of, processes_of}
 use Rattle.uni_words.specs.Run.{IsLogOfRun}
@@ -27,38 +27,29 @@ seat_in one = one.seat
 abbrev pub list_in : Done WordSeat (ℕ × ℕ) → Vec (ℕ × ℕ) Global
 list_in one = one.told
 
--- what came of the jobs of the first seats
-pub all_are_done : {O : Type 0} (log : WordLog O) (seed : ℕ) (seats : List WordSeat) (done : List (Done WordSeat (ℕ × ℕ))) → AreFirstSeats log (processes_of log) seats
-    → AreJobsDone (IsDoneOf log) seats seed done → AreDone log seed done
-all_are_done log seed seats done first are = record {
-  many = are.many ∙ first.many;
-  each = λ p one at.
-      let its = are.each p one at in
-      (its.2.made, its.2.process ∙ (first.each p its.0.seat its.1.0).process, its.2.asked ∙ ap (λ s. drawn_by below_1000 s (row_of log)) its.1.1);
-}
-
-module _ {O : Type 0} (log : WordLog O) (seed : ℕ) (done : List (Done WordSeat (ℕ × ℕ))) (are : AreDone log seed done) where
+module _ {O : Type 0} (log : WordLog O) (threads calls seed : ℕ) (done : List (Done WordSeat (ℕ × ℕ)))
+    (are : AreDone (HasMadeWords log) call_in below_1000 threads calls seed done) where
   pub done_seats : All (IsSeatOf log) (map seat_in done)
-  done_seats = All-map (IsSeatOf log) seat_in done (λ k d below. (are.each k (slice_index_or done k d) (slice_get-index done k d below)).0.0)
+  done_seats = All-map (IsSeatOf log) seat_in done (λ k d below. (are.each k (slice_index_or done k d) (slice_get-index done k d below)).made.is_seat)
 
-  pub all_seats : AreAllSeats log (map seat_in done)
-  all_seats = record {
-    many = length-map done seat_in ∙ are.many;
-    each = λ p seat at. let one = at_of_map seat_in done p seat at in ap process_of (sym one.2) ∙ (are.each p one.0 one.1).1;
+  pub all_seats : processes_of log ≡ threads → AreAllSeats log (map seat_in done)
+  all_seats processes = record {
+    many = length-map done seat_in ∙ are.many ∙ sym processes;
+    each = λ p seat at. let one = at_of_map seat_in done p seat at in ap process_of (sym one.2) ∙ (are.each p one.0 one.1).made.process;
   }
 
   -- the calls of the seats are what their threads were told
   pub seats_told : map calls_of (map seat_in done) ≡ map told_to done
   seats_told = map-map seat_in calls_of done
-      ∙ map-same (λ one. calls_of one.seat) told_to done (λ i one at. ap (λ calls. record { process = process_of one.seat; calls = calls }) (sym (are.each i one at).0.2))
+      ∙ map-same (λ one. calls_of one.seat) told_to done (λ i one at. ap (λ (own : List (ℕ × ℕ)). record { process = process_of one.seat; calls = own }) (sym (are.each i one at).made.own))
 
   -- the lists that they were told
   pub lists_are : map own_calls (map seat_in done) ≡ map (λ (own : Vec (ℕ × ℕ) Global). own.items) (map list_in done)
-  lists_are = map-map seat_in own_calls done ∙ map-same (λ one. own_calls one.seat) (λ one. one.told.items) done (λ i one at. sym (are.each i one at).0.2)
+  lists_are = map-map seat_in own_calls done ∙ map-same (λ one. own_calls one.seat) (λ one. one.told.items) done (λ i one at. sym (are.each i one at).made.own)
       ∙ sym (map-map list_in (λ (own : Vec (ℕ × ℕ) Global). own.items) done)
 
-  pub lists_whole : All (λ told. vec_len told ≡ row_of log) (map list_in done)
-  lists_whole = All-map (λ told. vec_len told ≡ row_of log) list_in done (λ k d below. (are.each k (slice_index_or done k d) (slice_get-index done k d below)).0.1)
+  pub lists_whole : All (λ told. vec_len told ≡ calls) (map list_in done)
+  lists_whole = All-map (λ told. vec_len told ≡ calls) list_in done (λ k d below. (are.each k (slice_index_or done k d) (slice_get-index done k d below)).many)
 
   lists_told : map own_calls (map seat_in done) ≡ map (λ (its : ProcessCalls ℕ ℕ). its.calls) (map told_to done)
   lists_told = sym (map-map calls_of (λ (its : ProcessCalls ℕ ℕ). its.calls) (map seat_in done)) ∙ ap (map (λ (its : ProcessCalls ℕ ℕ). its.calls)) seats_told
@@ -67,15 +58,15 @@ module _ {O : Type 0} (log : WordLog O) (seed : ℕ) (done : List (Done WordSeat
   told_lists = sym lists_told ∙ lists_are
 
   -- a log of a run of the seats' calls, with which they agree, is that of a run of the threads
-  pub run_of_threads : (object : Sequential ℕ ℕ ℕ) (entries : List (Entry ℕ ℕ)) (seats : List WordSeat) → seats ≡ map seat_in done → IsLogOfRun object (processes_of log) entries (map calls_of seats)
-      → Agrees object entries (map own_calls seats) → IsRunOfThreads object (processes_of log) (row_of log) seed (map told_to done)
+  pub run_of_threads : (object : Sequential ℕ ℕ ℕ) (entries : List (Entry ℕ ℕ)) (seats : List WordSeat) → seats ≡ map seat_in done → IsLogOfRun object threads entries (map calls_of seats)
+      → Agrees object entries (map own_calls seats) → IsRunOfThreads object threads calls seed (map told_to done)
   run_of_threads object entries seats seats_are run agrees = record {
     many = length-map done told_to ∙ are.many;
     each = λ p its at.
         let one = at_of_map told_to done p its at in
         let made = are.each p one.0 one.1 in
-        (ap (λ (k : ProcessCalls ℕ ℕ). k.process) (sym one.2) ∙ made.1, ap (λ (k : ProcessCalls ℕ ℕ). asked_in k.calls) (sym one.2) ∙ made.2);
+        (ap (λ (k : ProcessCalls ℕ ℕ). k.process) (sym one.2) ∙ made.made.process, ap (λ (k : ProcessCalls ℕ ℕ). asked_in k.calls) (sym one.2) ∙ made.asked);
     log = entries;
-    run = subst (IsLogOfRun object (processes_of log) entries) (ap (map calls_of) seats_are ∙ seats_told) run;
+    run = subst (IsLogOfRun object threads entries) (ap (map calls_of) seats_are ∙ seats_told) run;
     agrees = subst (Agrees object entries) (ap (map own_calls) seats_are ∙ lists_told) agrees;
   }

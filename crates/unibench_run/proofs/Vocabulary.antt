@@ -32,12 +32,12 @@ pub use Rattle.uni_words.proofs.Comparing.{slice_get-index, slice_get-map}
 pub use Rattle.uni_words.specs.Belongs.{AreAllSeats, AreFirstSeats, IsFreshSeat, IsSeatOf, calls_made, log_in, own_calls, process_of, row_of}
 pub use Rattle.uni_words.specs.Compare.{Agrees}
 pub use Rattle.unibench_run.specs.CommandLine.{asked_of, faults_of_words, replay_in, request_in, unibench}
-pub use Rattle.unibench_run.specs.Draws.{below_1000, drawn_by, drawn_from, seed_of, seeded_word}
+pub use Rattle.unibench_run.specs.Draws.{asked_in, below_1000, call_in, drawn_by, drawn_from, seed_of, seeded_word}
 pub use Rattle.unibench_run.specs.Request.{echo_in, form_named, object_named, options_of, plan_of, plan_with, random_of, random_with, subject_named, subject_of}
-pub use Rattle.unibench_run.specs.Runs.{IsRunOf, IsThreadsRun}
-pub use Rattle.unibench_run.specs.Small.{AreCalls, AreSmallDone, HasSmallRun, IsDrawnList, IsSmallDone, IsSmallDoneOf, IsSmallJob, IsSmallRun, IsWide, in_words_of, read_in_place}
+pub use Rattle.unibench_run.specs.Runs.{IsInRange, IsRunOf, IsThreadsRun}
+pub use Rattle.unibench_run.specs.Small.{AreCalls, HasMadeSmall, HasSmallRun, IsDrawnList, IsSmallRun, IsWide, in_words_of, read_in_place}
 pub use Rattle.unibench_run.specs.Statuses.{EndsThreads, IsStatusOfThreads, Tells, TellsThreadsFault, status_of_threads}
-pub use Rattle.unibench_run.specs.Threads.{AreDone, AreJobsDone, IsDoneOf, IsJobOf, IsLockedRun, IsRunOfThreads, IsThreadsPlan, MakesCalls, OfAgreed, are_too_many, asked_by, asked_in, events_of, has_form, line_of_fault, refusal_of, told_to}
+pub use Rattle.unibench_run.specs.Threads.{AreDone, AreJobsDone, HasMadeWords, IsDone, IsJobOf, IsLockedRun, IsRunOfThreads, IsThreadsPlan, MakesCalls, OfAgreed, are_too_many, asked_by, events_of, has_form, line_of_fault, refusal_of, told_to}
 pub use Rattle.unibench_run.specs.declared.request.Plan.{Plan}
 pub use Rattle.unibench_run.specs.declared.request.Request.{Request}
 pub use Rattle.unibench_run.specs.declared.request.Request.TheVariants.{Explained, Language, Random, Replay, Threads}

@@ -1,5 +1,5 @@
 -- What a run of threads on any object comes to.
-use Rattle.std.specs.Prelude.{◌≡◌, ◌≤◌, ◌*◌, ℕ, List, [], ◌∷◌, None, Some, length, map, slice_get, refl}
+use Rattle.std.specs.Prelude.{◌≡◌, ◌*◌, ℕ, List, [], ◌∷◌, None, Some, length, map, slice_get, refl}
 use Rattle.ready_objects.specs.Book.{book, book_language}
 use Rattle.ready_objects.specs.Directory.{directory, directory_language, pairs_text}
 use Rattle.ready_objects.specs.Number.{numbers_text}
@@ -12,17 +12,14 @@ use Rattle.told_order.specs.declared.counted.CountedState.{CountedState}
 use Rattle.told_order.specs.declared.in_place.InPlace.{InPlace}
 use Rattle.uni_any.specs.Closed.{HasRunTo}
 use Rattle.uni_any.specs.Final.{KnownCalls}
-use Rattle.uni_any.specs.Seats.{IsSeatOf, own_calls, pending_call, process_of, processes_of}
+use Rattle.uni_any.specs.Seats.{IsSeatOf, own_calls, pending_call, process_of}
 use Rattle.uni_any.specs.declared.seat.AnySeat.{AnySeat}
 use Rattle.uni_any.specs.declared.seat.AnyShared.{AnyShared}
 use Rattle.uni_any.specs.declared.view.Image.{Image}
 use Rattle.uni_any.specs.declared.view.Returned.{Returned}
-use Rattle.unibench_run.specs.Draws.{drawn_by, seed_of}
-use Rattle.unibench_run.specs.Small.{asked_in}
+use Rattle.unibench_run.specs.Draws.{asked_in, drawn_by, seed_of}
 use Rattle.unibench_run.specs.declared.request.ThreadsObject.{ThreadsObject}
 use Rattle.unibench_run.specs.declared.request.ThreadsObject.TheVariants as object
-use Rattle.unibench_run.specs.declared.threads.Done.{Done}
-use Rattle.unibench_run.specs.declared.threads.Job.{Job}
 
 -- calls, each with what it was told
 abbrev pub told_of : {I R : Type 0} → List (Returned I (InPlace R)) → List (I × InPlace R)
@@ -64,32 +61,13 @@ HasAnyRun object.Book = HasAnyRunOn book book_language.inv_of_word numbers_text
 HasAnyRun object.Sticky = HasAnyRunOn sticky sticky_language.inv_of_word sticky_text
 HasAnyRun _ = λ _ _ _ _. ⊥
 
-module _ {O S I R : Type 0} (shared : AnyShared O S I (InPlace R)) where
-  -- a seat of this object that has made no call, and has so few to make
-  pub record IsAnyJob (calls : ℕ) (job : Job (AnySeat O S I (InPlace R))) : Type 0 where
-    pub seat : IsSeatOf shared job.seat
-    pub unused : own_calls job.seat ≡ []
-    pub idle : pending_call job.seat ≡ None
-    pub few : calls ≤ 10000000
-
-  module _ (read : ℕ → I) where
-    -- the seat of process p has made so many calls, as they are drawn from a seed, and what it was told is listed
-    pub record IsAnyDone (calls seed p : ℕ) (done : Done (AnySeat O S I (InPlace R)) (I × InPlace R)) : Type 0 where
-      pub seat : IsSeatOf shared done.seat
-      pub process : process_of done.seat ≡ p
-      pub idle : pending_call done.seat ≡ None
-      pub told : done.told.items ≡ told_of (own_calls done.seat)
-      pub asked : asked_in done.told.items ≡ drawn_by read seed calls
-
-    -- so is a job
-    abbrev pub IsAnyDoneOf : (calls : ℕ) → Job (AnySeat O S I (InPlace R)) → Done (AnySeat O S I (InPlace R)) (I × InPlace R) → Type 0
-    IsAnyDoneOf calls job = IsAnyDone calls job.seed (process_of job.seat)
-
-    -- so are the jobs of all processes, in order, by the seed of the first
-    pub record AreAnyDone (calls seed : ℕ) (done : List (Done (AnySeat O S I (InPlace R)) (I × InPlace R))) : Type 0 where
-      pub many : length done ≡ processes_of shared
-      pub each : (p : ℕ) (one : Done (AnySeat O S I (InPlace R)) (I × InPlace R)) → slice_get done p ≡ Some one
-          → IsAnyDone calls (seed_of seed p) p one
+-- the seat is that of process p, has no call pending, and has made these calls alone, each of which was told this
+pub record HasMadeAny {O S I R : Type 0} (shared : AnyShared O S I (InPlace R)) (p : ℕ) (told : List (I × InPlace R))
+    (seat : AnySeat O S I (InPlace R)) : Type 0 where
+  pub is_seat : IsSeatOf shared seat
+  pub process : process_of seat ≡ p
+  pub idle : pending_call seat ≡ None
+  pub own : told ≡ told_of (own_calls seat)
 
 -- two calls of a counter: the reply to the second one tells that two calls came before it
 two_calls : told_of {I = ℕ} {R = ℕ} (record { inv = 3; reply = record { place = 0; reply = 0 }; after = 0; version = 1 }

@@ -1,5 +1,5 @@
 -- What the words of the command line ask for, by clap's own account of a command without options.
-use Rattle.std.specs.Prelude.{◌≡◌, ◌⊎◌, ◌-◌, ◌^◌, ℕ, List, [], ◌∷◌, Option, None, Some, option_map}
+use Rattle.std.specs.Prelude.{◌≡◌, ◌⊎◌, ◌-◌, ◌^◌, ℕ, List, [], ◌∷◌, ◌++◌, Option, None, Some, option_map, map}
 use Rattle.std.specs.Prelude.{if◌then◌else◌, true, codes, refl}
 use Rattle.std.specs.Str.{bytes_eq}
 use Rattle.clap.specs.Words.{App, Row, Rule, Text, Kinds, IsAmong, new_app, new_rule, with_rule, with_subcommand, subcommand_of, fault_of}
@@ -8,6 +8,7 @@ use Rattle.clap.specs.declared.error.kind.ErrorKind.TheVariants.{DisplayHelp, Di
 use Rattle.clap.specs.declared.error.kind.ErrorKind.TheVariants.{UnknownArgument, ValueValidation}
 use Rattle.command_line.specs.Flags.{flag, is_set, versioned}
 use Rattle.command_line.specs.Numbers.{in_range}
+use Rattle.ready_objects.specs.Words.{words_of_text}
 use Rattle.uni_script.specs.declared.grammar.ObjectName.TheVariants as shared
 use Rattle.uni_script.specs.declared.options.Options.{Options}
 use Rattle.uni_script.specs.declared.options.Echo.TheVariants.{Off, On}
@@ -104,125 +105,23 @@ MayAskForHelp words = IsAmong DisplayHelp (faults_of_words words) ⊎ IsAmong Di
 abbrev pub IsRefused : List Text → Type 0
 IsRefused words = AsksForNothing words × ¬ (MayAskForHelp words)
 
--- whatever the program's name is
-replay_is_asked : (name : Text) → AsksFor (name ∷ codes "replay" ∷ []) (Replay (record { history = 1048576; echo = Off }))
-unfolding clap_on_literals
-replay_is_asked name = (refl, refl)
+-- whatever the program's name is, of the words that come after it: what they ask for, the kinds of their first fault, and both
+abbrev asked : (name : Text) → (words : Text) → Option Request
+asked name words = asked_of (name ∷ words_of_text words)
 
-replay_of_23_events_is_asked : (name : Text) → AsksFor (name ∷ codes "replay" ∷ codes "--history" ∷ codes "23" ∷ [])
-    (Replay (record { history = 23; echo = Off }))
-unfolding clap_on_literals
-replay_of_23_events_is_asked name = (refl, refl)
+abbrev faults : (name : Text) → (words : Text) → Kinds
+faults name words = faults_of_words (name ∷ words_of_text words)
 
-explained_is_asked : (name : Text) → AsksFor (name ∷ codes "replay" ∷ codes "--explain" ∷ codes "--history=23" ∷ [])
-    (Explained (record { history = 23; echo = Off }))
-unfolding clap_on_literals
-explained_is_asked name = (refl, refl)
+abbrev answers : (name before : Text) → (values : List Text) → List (Kinds × Option Request)
+answers name before values = map (λ value. (faults name (before ++ value), asked name (before ++ value))) values
 
-language_is_asked : (name : Text) → AsksFor (name ∷ codes "language" ∷ []) (Language None)
-unfolding clap_on_literals
-language_is_asked name = (refl, refl)
+abbrev asks : Request → Kinds × Option Request
+asks request = ([], Some request)
 
-language_of_a_book_is_asked : (name : Text) → AsksFor (name ∷ codes "language" ∷ codes "book" ∷ []) (Language (Some shared.Book))
-unfolding clap_on_literals
-language_of_a_book_is_asked name = (refl, refl)
+-- a value that the option doesn't take
+abbrev refused : Kinds × Option Request
+refused = (ValueValidation ∷ [], None)
 
-language_of_a_tally : (name : Text) → asked_of (name ∷ codes "language" ∷ codes "tally" ∷ []) ≡ None
-unfolding clap_on_literals
-language_of_a_tally name = refl
-
-language_of_two_objects_is_a_fault : (name : Text)
-    → faults_of_words (name ∷ codes "language" ∷ codes "queue" ∷ codes "book" ∷ []) ≡ UnknownArgument ∷ []
-unfolding clap_on_literals
-language_of_two_objects_is_a_fault name = refl
-
-no_history : (name : Text) → asked_of (name ∷ codes "replay" ∷ codes "--history=0" ∷ []) ≡ None
-unfolding clap_on_literals
-no_history name = refl
-
-random_by_default : (name : Text) → AsksFor (name ∷ codes "random" ∷ [])
-    (Random (record { schedule = record { object = shared.Queue; processes = 2; row = 64; events = 100 }; seed = 1 }))
-unfolding clap_on_literals
-random_by_default name = (refl, refl)
-
-random_on_a_book : (name : Text)
-    → AsksFor (name ∷ codes "random" ∷ codes "--object" ∷ codes "book" ∷ codes "--processes=17" ∷ codes "--row" ∷ codes "8"
-    ∷ codes "--events=20" ∷ [])
-    (Random (record { schedule = record { object = shared.Book; processes = 17; row = 8; events = 20 }; seed = 1 }))
-unfolding clap_on_literals
-random_on_a_book name = (refl, refl)
-
-too_many_events : (name : Text) → asked_of (name ∷ codes "random" ∷ codes "--events" ∷ codes "99001" ∷ []) ≡ None
-unfolding clap_on_literals
-too_many_events name = refl
-
-threads_by_default : (name : Text) → AsksFor (name ∷ codes "threads" ∷ [])
-    (Threads (record { form = Lock; object = Queue; processes = 2; calls = 100; seed = 1 }))
-unfolding clap_on_literals
-threads_by_default name = (refl, refl)
-
-threads_on_words : (name : Text)
-    → AsksFor (name ∷ codes "threads" ∷ codes "--form" ∷ codes "words" ∷ codes "--object=tally" ∷ codes "--processes"
-    ∷ codes "8" ∷ [])
-    (Threads (record { form = Words; object = Tally; processes = 8; calls = 100; seed = 1 }))
-unfolding clap_on_literals
-threads_on_words name = (refl, refl)
-
-too_many_threads : (name : Text) → asked_of (name ∷ codes "threads" ∷ codes "--processes" ∷ codes "65" ∷ []) ≡ None
-unfolding clap_on_literals
-too_many_threads name = refl
-
-threads_of_65_are_a_fault : (name : Text) → faults_of_words (name ∷ codes "threads" ∷ codes "--processes" ∷ codes "65" ∷ [])
-    ≡ ValueValidation ∷ []
-unfolding clap_on_literals
-threads_of_65_are_a_fault name = refl
-
-echoed_is_asked : (name : Text) → AsksFor (name ∷ codes "replay" ∷ codes "--echo" ∷ [])
-    (Replay (record { history = 1048576; echo = On }))
-unfolding clap_on_literals
-echoed_is_asked name = (refl, refl)
-
-nothing_is_asked : (name : Text) → faults_of_words (name ∷ []) ≡ MissingSubcommand ∷ []
-unfolding clap_on_literals
-nothing_is_asked name = refl
-
-help_is_asked : (name : Text) → faults_of_words (name ∷ codes "--help" ∷ []) ≡ DisplayHelp ∷ []
-unfolding clap_on_literals
-help_is_asked name = refl
-
-version_is_asked : (name : Text) → faults_of_words (name ∷ codes "--version" ∷ []) ≡ DisplayVersion ∷ []
-unfolding clap_on_literals
-version_is_asked name = refl
-
-version_is_asked_in_short : (name : Text) → faults_of_words (name ∷ codes "-V" ∷ []) ≡ DisplayVersion ∷ []
-unfolding clap_on_literals
-version_is_asked_in_short name = refl
-
-a_file_is_a_fault : (name : Text) → faults_of_words (name ∷ codes "replay" ∷ codes "queue.script" ∷ []) ≡ UnknownArgument ∷ []
-unfolding clap_on_literals
-a_file_is_a_fault name = refl
-
-a_hyphen_is_a_fault : (name : Text) → faults_of_words (name ∷ codes "replay" ∷ codes "-" ∷ []) ≡ UnknownArgument ∷ []
-unfolding clap_on_literals
-a_hyphen_is_a_fault name = refl
-
-help_of_replay_is_asked : (name : Text) → faults_of_words (name ∷ codes "replay" ∷ codes "-h" ∷ []) ≡ DisplayHelp ∷ []
-unfolding clap_on_literals
-help_of_replay_is_asked name = refl
-
-another_word : (name : Text) → faults_of_words (name ∷ codes "play" ∷ []) ≡ UnknownArgument ∷ InvalidSubcommand ∷ []
-unfolding clap_on_literals
-another_word name = refl
-
-one_word_more : (name : Text) → faults_of_words (name ∷ codes "replay" ∷ codes "now" ∷ []) ≡ UnknownArgument ∷ []
-unfolding clap_on_literals
-one_word_more name = refl
-
--- a subcommand with one option
-abbrev with_option : (name command option value : Text) → List Text
-with_option name command option value = name ∷ command ∷ option ∷ value ∷ []
-
--- requests for a queue
 abbrev random_request : (processes row events seed : ℕ) → Request
 random_request processes row events seed =
     Random (record { schedule = record { object = shared.Queue; processes = processes; row = row; events = events }; seed = seed })
@@ -230,160 +129,73 @@ random_request processes row events seed =
 abbrev threads_request : (processes calls seed : ℕ) → Request
 threads_request processes calls seed = Threads (record { form = Lock; object = Queue; processes = processes; calls = calls; seed = seed })
 
--- the least and the greatest number that each option takes, and the numbers beside them; 65 threads are one of the faults above
-history_least : (name : Text) → AsksFor (with_option name (codes "replay") (codes "--history") (codes "1"))
-    (Replay (record { history = 1; echo = Off }))
+requests : (name : Text) → answers name [] (codes "replay" ∷ codes "replay --history 23" ∷ codes "replay --explain --history=23"
+    ∷ codes "replay --echo" ∷ codes "language" ∷ codes "language book" ∷ codes "random" ∷ codes "threads"
+    ∷ codes "random --object book --processes=17 --row 8 --events=20" ∷ codes "threads --form words --object=tally --processes 8" ∷ [])
+    ≡ map asks (Replay (record { history = 1048576; echo = Off }) ∷ Replay (record { history = 23; echo = Off })
+    ∷ Explained (record { history = 23; echo = Off }) ∷ Replay (record { history = 1048576; echo = On })
+    ∷ Language None ∷ Language (Some shared.Book) ∷ random_request 2 64 100 1 ∷ threads_request 2 100 1
+    ∷ Random (record { schedule = record { object = shared.Book; processes = 17; row = 8; events = 20 }; seed = 1 })
+    ∷ Threads (record { form = Words; object = Tally; processes = 8; calls = 100; seed = 1 }) ∷ [])
 unfolding clap_on_literals
-history_least name = (refl, refl)
+requests name = refl
 
-history_greatest : (name : Text) → AsksFor (with_option name (codes "replay") (codes "--history") (codes "16777216"))
-    (Replay (record { history = 16777216; echo = Off }))
+first_faults : (name : Text) → map (faults name) (codes "--help" ∷ codes "replay -h" ∷ codes "--version" ∷ codes "-V" ∷ codes "play"
+    ∷ codes "replay now" ∷ codes "replay queue.script" ∷ codes "replay -" ∷ codes "language queue book" ∷ [])
+    ≡ (DisplayHelp ∷ []) ∷ (DisplayHelp ∷ []) ∷ (DisplayVersion ∷ []) ∷ (DisplayVersion ∷ []) ∷ (UnknownArgument ∷ InvalidSubcommand ∷ [])
+    ∷ (UnknownArgument ∷ []) ∷ (UnknownArgument ∷ []) ∷ (UnknownArgument ∷ []) ∷ (UnknownArgument ∷ []) ∷ []
 unfolding clap_on_literals
-history_greatest name = (refl, refl)
+first_faults name = refl
 
-history_below_the_least : (name : Text) → faults_of_words (with_option name (codes "replay") (codes "--history") (codes "0"))
-    ≡ ValueValidation ∷ []
+nothing_is_asked : (name : Text) → faults_of_words (name ∷ []) ≡ MissingSubcommand ∷ []
 unfolding clap_on_literals
-history_below_the_least name = refl
-
-history_past_the_greatest : (name : Text) → faults_of_words (with_option name (codes "replay") (codes "--history") (codes "16777217"))
-    ≡ ValueValidation ∷ []
-unfolding clap_on_literals
-history_past_the_greatest name = refl
-
-processes_of_random_least : (name : Text) → AsksFor (with_option name (codes "random") (codes "--processes") (codes "1"))
-    (random_request 1 64 100 1)
-unfolding clap_on_literals
-processes_of_random_least name = (refl, refl)
-
-processes_of_random_greatest : (name : Text) → AsksFor (with_option name (codes "random") (codes "--processes") (codes "64"))
-    (random_request 64 64 100 1)
-unfolding clap_on_literals
-processes_of_random_greatest name = (refl, refl)
-
-processes_of_random_below_the_least : (name : Text)
-    → faults_of_words (with_option name (codes "random") (codes "--processes") (codes "0")) ≡ ValueValidation ∷ []
-unfolding clap_on_literals
-processes_of_random_below_the_least name = refl
-
-processes_of_random_past_the_greatest : (name : Text)
-    → faults_of_words (with_option name (codes "random") (codes "--processes") (codes "65")) ≡ ValueValidation ∷ []
-unfolding clap_on_literals
-processes_of_random_past_the_greatest name = refl
-
-row_of_random_least : (name : Text) → AsksFor (with_option name (codes "random") (codes "--row") (codes "1")) (random_request 2 1 100 1)
-unfolding clap_on_literals
-row_of_random_least name = (refl, refl)
-
-row_of_random_greatest : (name : Text) → AsksFor (with_option name (codes "random") (codes "--row") (codes "4096"))
-    (random_request 2 4096 100 1)
-unfolding clap_on_literals
-row_of_random_greatest name = (refl, refl)
-
-row_of_random_below_the_least : (name : Text) → faults_of_words (with_option name (codes "random") (codes "--row") (codes "0"))
-    ≡ ValueValidation ∷ []
-unfolding clap_on_literals
-row_of_random_below_the_least name = refl
-
-row_of_random_past_the_greatest : (name : Text) → faults_of_words (with_option name (codes "random") (codes "--row") (codes "4097"))
-    ≡ ValueValidation ∷ []
-unfolding clap_on_literals
-row_of_random_past_the_greatest name = refl
-
-events_of_random_least : (name : Text) → AsksFor (with_option name (codes "random") (codes "--events") (codes "1"))
-    (random_request 2 64 1 1)
-unfolding clap_on_literals
-events_of_random_least name = (refl, refl)
-
-events_of_random_greatest : (name : Text) → AsksFor (with_option name (codes "random") (codes "--events") (codes "99000"))
-    (random_request 2 64 99000 1)
-unfolding clap_on_literals
-events_of_random_greatest name = (refl, refl)
-
-events_of_random_below_the_least : (name : Text) → faults_of_words (with_option name (codes "random") (codes "--events") (codes "0"))
-    ≡ ValueValidation ∷ []
-unfolding clap_on_literals
-events_of_random_below_the_least name = refl
-
-events_of_random_past_the_greatest : (name : Text)
-    → faults_of_words (with_option name (codes "random") (codes "--events") (codes "99001")) ≡ ValueValidation ∷ []
-unfolding clap_on_literals
-events_of_random_past_the_greatest name = refl
-
-seed_of_random_least : (name : Text) → AsksFor (with_option name (codes "random") (codes "--seed") (codes "0"))
-    (random_request 2 64 100 0)
-unfolding clap_on_literals
-seed_of_random_least name = (refl, refl)
-
-seed_of_random_greatest : (name : Text) → AsksFor (with_option name (codes "random") (codes "--seed") (codes "18446744073709551615"))
-    (random_request 2 64 100 18446744073709551615)
-unfolding clap_on_literals
-seed_of_random_greatest name = (refl, refl)
-
-seed_of_random_past_the_greatest : (name : Text) → faults_of_words
-    (with_option name (codes "random") (codes "--seed") (codes "18446744073709551616")) ≡ ValueValidation ∷ []
-unfolding clap_on_literals
-seed_of_random_past_the_greatest name = refl
-
-processes_of_threads_least : (name : Text) → AsksFor (with_option name (codes "threads") (codes "--processes") (codes "1"))
-    (threads_request 1 100 1)
-unfolding clap_on_literals
-processes_of_threads_least name = (refl, refl)
-
-processes_of_threads_greatest : (name : Text) → AsksFor (with_option name (codes "threads") (codes "--processes") (codes "64"))
-    (threads_request 64 100 1)
-unfolding clap_on_literals
-processes_of_threads_greatest name = (refl, refl)
-
-processes_of_threads_below_the_least : (name : Text)
-    → faults_of_words (with_option name (codes "threads") (codes "--processes") (codes "0")) ≡ ValueValidation ∷ []
-unfolding clap_on_literals
-processes_of_threads_below_the_least name = refl
-
-calls_of_threads_least : (name : Text) → AsksFor (with_option name (codes "threads") (codes "--calls") (codes "1"))
-    (threads_request 2 1 1)
-unfolding clap_on_literals
-calls_of_threads_least name = (refl, refl)
-
-calls_of_threads_greatest : (name : Text) → AsksFor (with_option name (codes "threads") (codes "--calls") (codes "10000000"))
-    (threads_request 2 10000000 1)
-unfolding clap_on_literals
-calls_of_threads_greatest name = (refl, refl)
-
-calls_of_threads_below_the_least : (name : Text) → faults_of_words (with_option name (codes "threads") (codes "--calls") (codes "0"))
-    ≡ ValueValidation ∷ []
-unfolding clap_on_literals
-calls_of_threads_below_the_least name = refl
-
-calls_of_threads_past_the_greatest : (name : Text)
-    → faults_of_words (with_option name (codes "threads") (codes "--calls") (codes "10000001")) ≡ ValueValidation ∷ []
-unfolding clap_on_literals
-calls_of_threads_past_the_greatest name = refl
-
-seed_of_threads_least : (name : Text) → AsksFor (with_option name (codes "threads") (codes "--seed") (codes "0"))
-    (threads_request 2 100 0)
-unfolding clap_on_literals
-seed_of_threads_least name = (refl, refl)
-
-seed_of_threads_greatest : (name : Text) → AsksFor (with_option name (codes "threads") (codes "--seed") (codes "18446744073709551615"))
-    (threads_request 2 100 18446744073709551615)
-unfolding clap_on_literals
-seed_of_threads_greatest name = (refl, refl)
-
-seed_of_threads_past_the_greatest : (name : Text)
-    → faults_of_words (with_option name (codes "threads") (codes "--seed") (codes "18446744073709551616")) ≡ ValueValidation ∷ []
-unfolding clap_on_literals
-seed_of_threads_past_the_greatest name = refl
+nothing_is_asked name = refl
 
 -- a word that names nothing is no fault of clap's, and asks for nothing
-random_on_a_tally : (name : Text) → asked_of (with_option name (codes "random") (codes "--object") (codes "tally")) ≡ None
+words_that_name_nothing : (name : Text) → answers name [] (codes "language tally" ∷ codes "random --object tally"
+    ∷ codes "threads --object ring" ∷ codes "threads --form locks" ∷ []) ≡ ([], None) ∷ ([], None) ∷ ([], None) ∷ ([], None) ∷ []
 unfolding clap_on_literals
-random_on_a_tally name = refl
+words_that_name_nothing name = refl
 
-threads_on_a_ring : (name : Text) → asked_of (with_option name (codes "threads") (codes "--object") (codes "ring")) ≡ None
+-- the least and the greatest number that each option takes, and the numbers beside them
+history_of_replay : (name : Text) → answers name (codes "replay --history ") (codes "0" ∷ codes "1" ∷ codes "16777216" ∷ codes "16777217" ∷ [])
+    ≡ refused ∷ asks (Replay (record { history = 1; echo = Off })) ∷ asks (Replay (record { history = 16777216; echo = Off })) ∷ refused ∷ []
 unfolding clap_on_literals
-threads_on_a_ring name = refl
+history_of_replay name = refl
 
-threads_of_another_form : (name : Text) → asked_of (with_option name (codes "threads") (codes "--form") (codes "locks")) ≡ None
+processes_of_random : (name : Text) → answers name (codes "random --processes ") (codes "0" ∷ codes "1" ∷ codes "64" ∷ codes "65" ∷ [])
+    ≡ refused ∷ asks (random_request 1 64 100 1) ∷ asks (random_request 64 64 100 1) ∷ refused ∷ []
 unfolding clap_on_literals
-threads_of_another_form name = refl
+processes_of_random name = refl
+
+row_of_random : (name : Text) → answers name (codes "random --row ") (codes "0" ∷ codes "1" ∷ codes "4096" ∷ codes "4097" ∷ [])
+    ≡ refused ∷ asks (random_request 2 1 100 1) ∷ asks (random_request 2 4096 100 1) ∷ refused ∷ []
+unfolding clap_on_literals
+row_of_random name = refl
+
+events_of_random : (name : Text) → answers name (codes "random --events ") (codes "0" ∷ codes "1" ∷ codes "99000" ∷ codes "99001" ∷ [])
+    ≡ refused ∷ asks (random_request 2 64 1 1) ∷ asks (random_request 2 64 99000 1) ∷ refused ∷ []
+unfolding clap_on_literals
+events_of_random name = refl
+
+seed_of_random : (name : Text)
+    → answers name (codes "random --seed ") (codes "0" ∷ codes "18446744073709551615" ∷ codes "18446744073709551616" ∷ [])
+    ≡ asks (random_request 2 64 100 0) ∷ asks (random_request 2 64 100 18446744073709551615) ∷ refused ∷ []
+unfolding clap_on_literals
+seed_of_random name = refl
+
+processes_of_threads : (name : Text) → answers name (codes "threads --processes ") (codes "0" ∷ codes "1" ∷ codes "64" ∷ codes "65" ∷ [])
+    ≡ refused ∷ asks (threads_request 1 100 1) ∷ asks (threads_request 64 100 1) ∷ refused ∷ []
+unfolding clap_on_literals
+processes_of_threads name = refl
+
+calls_of_threads : (name : Text) → answers name (codes "threads --calls ") (codes "0" ∷ codes "1" ∷ codes "10000000" ∷ codes "10000001" ∷ [])
+    ≡ refused ∷ asks (threads_request 2 1 1) ∷ asks (threads_request 2 10000000 1) ∷ refused ∷ []
+unfolding clap_on_literals
+calls_of_threads name = refl
+
+seed_of_threads : (name : Text)
+    → answers name (codes "threads --seed ") (codes "0" ∷ codes "18446744073709551615" ∷ codes "18446744073709551616" ∷ [])
+    ≡ asks (threads_request 2 100 0) ∷ asks (threads_request 2 100 18446744073709551615) ∷ refused ∷ []
+unfolding clap_on_literals
+seed_of_threads name = refl

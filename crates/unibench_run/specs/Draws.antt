@@ -30,6 +30,13 @@ drawn_from read word count = map (λ i. read (word i)) (range_with_len 0 count)
 abbrev pub drawn_by : {I : Type 0} → (read : ℕ → I) → (seed count : ℕ) → List I
 drawn_by read seed count = drawn_from read (seeded_word seed) count
 
+-- what a call with what it was told asked for, and what such calls did
+abbrev pub call_in : {C R : Type 0} → C × R → C
+call_in call = call.0
+
+abbrev pub asked_in : {C R : Type 0} → List (C × R) → List C
+asked_in own = map call_in own
+
 -- what a word stands for over words: a number below 1000
 abbrev pub below_1000 : ℕ → ℕ
 below_1000 word = word % 1000

@@ -1,14 +1,16 @@
 -- What a run of the program has done when it ends.
-use Rattle.std.specs.Prelude.{◌≡◌, ◌≢◌, ◌⊎◌, ◌↔◌, ℕ, List, Option, None, IsSome, Bool, true, false}
+use Rattle.std.specs.Prelude.{◌≡◌, ◌≢◌, ◌⊎◌, ◌↔◌, ℕ, List, Option, None, IsSome, Bool, true, false, ⊤}
 use Rattle.std.specs.Io.KnownBytes.{Appends}
 use Rattle.uni_script.specs.Ends.{AppendsPrefix}
+use Rattle.uni_record.specs.Refusals.{IsHistoryLimit}
 use Rattle.uni_script.specs.declared.options.Options.{Options}
+use Rattle.uni_script.specs.Schedules.{IsPlan}
 use Rattle.uni_script.specs.Scripts.{scripts}
 use Rattle.uni_script.specs.Replay.{IsReplay, IsBadReplay, IsPartOfReplay, HasAnswered}
 use Rattle.unibench_run.specs.Draws.{drawn_text}
 use Rattle.uni_script.specs.declared.grammar.ObjectName.{ObjectName}
 use Rattle.unibench_run.specs.Language.{language_text}
-use Rattle.unibench_run.specs.Threads.{OfAgreed, refusal_of}
+use Rattle.unibench_run.specs.Threads.{IsThreadsPlan, OfAgreed, refusal_of}
 use Rattle.unibench_run.specs.declared.request.Form.TheVariants.{Words}
 use Rattle.unibench_run.specs.declared.request.Plan.{Plan}
 use Rattle.unibench_run.specs.declared.request.RandomPlan.{RandomPlan}
@@ -61,6 +63,14 @@ pub record IsLanguageRun (object : Option ObjectName) (old new : Option (List �
   pub prefix : status ≡ 3 → AppendsPrefix old new (language_text object)
   pub failed : (status ≡ 3) ↔ (output_failed ≡ true)
   pub nothing : status ≡ 4 → new ≡ old
+
+-- the numbers of what was asked for are those that its options take
+abbrev pub IsInRange : Request → Type 0
+IsInRange (Replay options) = IsHistoryLimit options.history
+IsInRange (Explained options) = IsHistoryLimit options.history
+IsInRange (Random plan) = IsPlan plan.schedule
+IsInRange (Threads plan) = IsThreadsPlan plan
+IsInRange (Language object) = ⊤
 
 -- a run of what was asked for
 abbrev pub IsRunOf : Request → (left left_after old new : Option (List ℕ)) (output_failed : Bool) (status : ℕ) → Type 0

@@ -1,5 +1,5 @@
 -- What a run of threads on an object of several words comes to.
-use Rattle.std.specs.Prelude.{◌≡◌, ◌≤◌, ◌*◌, ℕ, List, [], ◌∷◌, Some, drop, length, map, slice_get, slice_index, suc, vec_len, refl}
+use Rattle.std.specs.Prelude.{◌≡◌, ◌*◌, ℕ, List, [], ◌∷◌, Some, drop, length, map, slice_get, slice_index, suc, refl}
 use Rattle.ready_objects.specs.Book.{book_language}
 use Rattle.ready_objects.specs.Queue.{queue_language}
 use Rattle.ready_objects.specs.Sticky.{sticky, sticky_language}
@@ -18,19 +18,17 @@ use Rattle.told_order.specs.Replay.{IsReplayed}
 use Rattle.told_order.specs.declared.order.ReplayFault.{ReplayFault}
 use Rattle.told_order.specs.declared.order.ReplayFault.TheVariants as replay
 use Rattle.told_order.specs.declared.in_place.InPlace.{InPlace}
-use Rattle.uni_small.specs.Belongs.{IsSeatOf, calls_made, calls_of, invocation_width_of, own_calls, process_of, processes_of}
+use Rattle.uni_small.specs.Belongs.{IsSeatOf, calls_made, calls_of, invocation_width_of, process_of}
 use Rattle.uni_small.specs.Belongs.{reply_width_of}
 use Rattle.uni_small.specs.Final.{HasHistory}
 use Rattle.uni_small.specs.Image.{Meaning}
 use Rattle.uni_small.specs.View.{ProcessReturned, Returned}
 use Rattle.uni_small.specs.declared.log.SmallShared.{SmallShared}
 use Rattle.uni_small.specs.declared.seat.SmallSeat.{SmallSeat}
-use Rattle.unibench_run.specs.Draws.{below_1000, drawn_by, seed_of}
+use Rattle.unibench_run.specs.Draws.{asked_in, below_1000, drawn_by, seed_of}
 use Rattle.unibench_run.specs.SmallDraws.{counters_call, map_call, register_call, zero_or_value}
 use Rattle.unibench_run.specs.declared.request.ThreadsObject.{ThreadsObject}
 use Rattle.unibench_run.specs.declared.request.ThreadsObject.TheVariants as object
-use Rattle.unibench_run.specs.declared.threads.Done.{Done}
-use Rattle.unibench_run.specs.declared.threads.Job.{Job}
 use Rattle.unibench_run.specs.declared.threads.ThreadsFault.{ThreadsFault}
 use Rattle.unibench_run.specs.declared.threads.ThreadsFault.TheVariants as fault
 
@@ -48,10 +46,6 @@ read_in_place reads call = (call.inv, in_place reads call.reply)
 -- these are the calls of a process, each with what it was told
 abbrev pub AreCalls : {C R : Type 0} → (asks : C → List ℕ) (reads : List ℕ → R) → List (C × InPlace R) → ProcessReturned → Type 0
 AreCalls asks reads own its = map (in_words_of asks) own ≡ map (read_in_place reads) its.calls
-
--- what calls with what they were told asked for
-abbrev pub asked_in : {C R : Type 0} → List (C × InPlace R) → List C
-asked_in {C} {R} own = map (λ (call : C × InPlace R). call.0) own
 
 -- the list of process p: as many calls as these, as they are drawn from a seed
 pub record IsDrawnList {C R : Type 0} (asks : C → List ℕ) (reads : List ℕ → R) (read : ℕ → C) (calls seed p : ℕ) (its : ProcessReturned)
@@ -107,15 +101,6 @@ fault_of_replay replay.OtherState = fault.LastState
 fault_of_replay replay.Memory = fault.Memory
 
 module _ {O : Type 0} (shared : SmallShared O) where
-  -- a seat of this object that has made no call, and has so few to make; a call has so many words, and a reply one more
-  pub record IsSmallJob (call reply calls : ℕ) (job : Job (SmallSeat O)) : Type 0 where
-    pub seat : IsSeatOf shared job.seat
-    pub unused : own_calls job.seat ≡ []
-    pub made : calls_made job.seat ≡ 0
-    pub few : calls ≤ 10000000
-    pub call_wide : invocation_width_of shared ≡ call
-    pub reply_wide : reply_width_of shared ≡ suc reply
-
   -- a call has so many words, and a reply one more, and there is room for them
   pub record IsWide (call reply : ℕ) (invocation told : List ℕ) : Type 0 where
     pub call_wide : invocation_width_of shared ≡ call
@@ -123,20 +108,12 @@ module _ {O : Type 0} (shared : SmallShared O) where
     pub call_room : length invocation ≡ call
     pub reply_room : length told ≡ suc reply
 
-  module _ {C R : Type 0} (asks : C → List ℕ) (reads : List ℕ → R) (read : ℕ → C) where
-    -- the seat of process p has made so many calls, as they are drawn from a seed, and what it was told is listed
-    pub record IsSmallDone (calls seed p : ℕ) (done : Done (SmallSeat O) (C × InPlace R)) : Type 0 where
-      pub seat : IsSeatOf shared done.seat
-      pub many : vec_len done.told ≡ calls
-      pub list : IsDrawnList asks reads read calls seed p (calls_of done.seat) done.told.items
-
-    -- so is a job, and so are the jobs of all processes, in order, by the seed of the first
-    abbrev pub IsSmallDoneOf : (calls : ℕ) → Job (SmallSeat O) → Done (SmallSeat O) (C × InPlace R) → Type 0
-    IsSmallDoneOf calls job = IsSmallDone calls job.seed (process_of job.seat)
-
-    pub record AreSmallDone (calls seed : ℕ) (done : List (Done (SmallSeat O) (C × InPlace R))) : Type 0 where
-      pub many : length done ≡ processes_of shared
-      pub each : (p : ℕ) (one : Done (SmallSeat O) (C × InPlace R)) → slice_get done p ≡ Some one → IsSmallDone calls (seed_of seed p) p one
+  -- the seat is that of process p, and has made these calls alone, each of which was told this
+  pub record HasMadeSmall {C R : Type 0} (asks : C → List ℕ) (reads : List ℕ → R) (p : ℕ) (told : List (C × InPlace R)) (seat : SmallSeat O) : Type 0 where
+    pub is_seat : IsSeatOf shared seat
+    pub process : process_of seat ≡ p
+    pub own : AreCalls asks reads told (calls_of seat)
+    pub made : calls_made seat ≡ length told
 
 -- a counter's call 3, which was told that one call came before it, and the sum 5
 one_call : AreCalls one_word first_word ((3, record { place = 1; reply = 5 }) ∷ [])

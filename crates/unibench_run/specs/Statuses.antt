@@ -18,12 +18,7 @@ status_of_threads fault.NoSuchObject = 2
 status_of_threads fault.CallsTooMany = 2
 status_of_threads fault.Write = 3
 status_of_threads fault.Memory = 4
-status_of_threads (fault.Differs call) = 5
-status_of_threads fault.LastState = 5
-status_of_threads (fault.SeatMissing p) = 5
-status_of_threads (fault.SeatPending p) = 5
-status_of_threads fault.OtherRecord = 5
-status_of_threads (fault.Audit verdict) = 5
+status_of_threads _ = 5
 
 -- the status of a fault of threads, or that of refused memory for the text of a closing or its audit
 abbrev pub IsStatusOfThreads : ThreadsFault → (status : ℕ) → Type 0

@@ -22,7 +22,7 @@ use Rattle.uni_shared.specs.declared.closed.CloseFault.{CloseFault}
 use Rattle.uni_shared.specs.declared.closed.CloseFault.TheVariants as close
 use Rattle.uni_shared.specs.declared.receipt.Receipt.{Receipt}
 use Rattle.uni_model.specs.Chain.{Entry}
-use Rattle.uni_words.specs.Belongs.{IsSeatOf, own_calls, process_of, processes_of, row_of}
+use Rattle.uni_words.specs.Belongs.{IsSeatOf, calls_made, own_calls, process_of}
 use Rattle.uni_words.specs.Compare.{Agrees}
 use Rattle.uni_words.specs.Objects.{sticky, tally}
 use Rattle.uni_words.specs.Run.{IsLogOfRun}
@@ -30,7 +30,7 @@ use Rattle.uni_model.specs.ProcessCalls.{ProcessCalls}
 use Rattle.uni_words.specs.declared.log.WordLog.{WordLog}
 use Rattle.uni_words.specs.declared.seat.WordSeat.{WordSeat}
 use Rattle.unibench_run.specs.Any.{HasAnyRun}
-use Rattle.unibench_run.specs.Draws.{below_1000, drawn_by, seed_of}
+use Rattle.unibench_run.specs.Draws.{asked_in, below_1000, drawn_by, seed_of}
 use Rattle.unibench_run.specs.Small.{HasSmallRun}
 use Rattle.unibench_run.specs.declared.request.Form.{Form}
 use Rattle.unibench_run.specs.declared.request.Form.TheVariants as form
@@ -92,10 +92,6 @@ abbrev pub meaning_over_words : ThreadsObject → Option (Sequential ℕ ℕ ℕ
 meaning_over_words object.Sticky = Some sticky
 meaning_over_words object.Tally = Some tally
 meaning_over_words _ = None
-
--- what calls with their replies asked for
-abbrev pub asked_in : List (ℕ × ℕ) → List ℕ
-asked_in calls = map (λ (call : ℕ × ℕ). call.0) calls
 
 -- A run of so many threads, each of which made so many calls, those of process p as they are drawn from its seed. What they were told
 -- is, of process p, the p-th of these lists of calls: the calls of a log that is that of a run of the construction, with which they
@@ -215,25 +211,23 @@ pub record AreJobsDone {S T : Type 0} (Gives : Job S → T → Type 0) (seats : 
   pub many : length done ≡ length seats
   pub each : (p : ℕ) (one : T) → slice_get done p ≡ Some one → (job : Job S) × IsJobOf seats seed p job × Gives job one
 
--- a seat of this log that has made no call
-abbrev pub IsJob : {O : Type 0} → WordLog O → Job WordSeat → Type 0
-IsJob log job = IsSeatOf log job.seat × (own_calls job.seat ≡ [])
+-- the seat of process p has made so many calls, as they are drawn from a seed, and what it was told is listed
+pub record IsDone {S T C : Type 0} (HasMade : (p : ℕ) → List T → S → Type 0) (asks : T → C) (read : ℕ → C) (calls seed p : ℕ) (done : Done S T) : Type 0 where
+  pub many : vec_len done.told ≡ calls
+  pub made : HasMade p done.told.items done.seat
+  pub asked : map asks done.told.items ≡ drawn_by read seed calls
 
--- a seat of this log that has made all its calls, and what it was told is listed
-abbrev pub IsDone : {O : Type 0} → WordLog O → Done WordSeat (ℕ × ℕ) → Type 0
-IsDone log done = IsSeatOf log done.seat × (vec_len done.told ≡ row_of log) × (done.told.items ≡ own_calls done.seat)
+-- so have the seats of so many processes, in order, by the seed of the first
+pub record AreDone {S T C : Type 0} (HasMade : (p : ℕ) → List T → S → Type 0) (asks : T → C) (read : ℕ → C) (threads calls seed : ℕ) (done : List (Done S T)) : Type 0 where
+  pub many : length done ≡ threads
+  pub each : (p : ℕ) (one : Done S T) → slice_get done p ≡ Some one → IsDone HasMade asks read calls (seed_of seed p) p one
 
--- a job is done: its seat has made all its calls, as they are drawn from its seed
-pub record IsDoneOf {O : Type 0} (log : WordLog O) (job : Job WordSeat) (done : Done WordSeat (ℕ × ℕ)) : Type 0 where
-  pub made : IsDone log done
-  pub process : process_of done.seat ≡ process_of job.seat
-  pub asked : asked_in done.told.items ≡ drawn_by below_1000 job.seed (row_of log)
-
--- so are the jobs of all its processes, in order, by the seed of the first
-pub record AreDone {O : Type 0} (log : WordLog O) (seed : ℕ) (done : List (Done WordSeat (ℕ × ℕ))) : Type 0 where
-  pub many : length done ≡ processes_of log
-  pub each : (p : ℕ) (one : Done WordSeat (ℕ × ℕ)) → slice_get done p ≡ Some one → IsDone log one × (process_of one.seat ≡ p)
-      × (asked_in one.told.items ≡ drawn_by below_1000 (seed_of seed p) (row_of log))
+-- the seat is that of process p of this log, and has made these calls alone, each of which was told this
+pub record HasMadeWords {O : Type 0} (log : WordLog O) (p : ℕ) (told : List (ℕ × ℕ)) (seat : WordSeat) : Type 0 where
+  pub is_seat : IsSeatOf log seat
+  pub process : process_of seat ≡ p
+  pub own : told ≡ own_calls seat
+  pub made : calls_made seat ≡ length told
 
 -- what a thread was told, by its process
 abbrev pub told_to : Done WordSeat (ℕ × ℕ) → ProcessCalls ℕ ℕ
@@ -243,79 +237,41 @@ eight_threads : agrees_line 8 800 ≡ codes "threads 8 calls 800 agrees" ++ 10 �
 unfolding digits
 eight_threads = refl
 
-first_call_differs : line_of_fault (fault.Differs (record { process = 1; nth = 0 })) ≡ codes "close: call 1.0 differs" ++ 10 ∷ []
+lines_of_faults : map line_of_fault (fault.Differs (record { process = 1; nth = 0 }) ∷ fault.SeatPending 3 ∷ [])
+    ≡ (codes "close: call 1.0 differs" ++ 10 ∷ []) ∷ (codes "close: seat 3 pending" ++ 10 ∷ []) ∷ []
 unfolding digits
-first_call_differs = refl
+lines_of_faults = refl
 
-seat_3_is_pending : line_of_fault (fault.SeatPending 3) ≡ codes "close: seat 3 pending" ++ 10 ∷ []
-unfolding digits
-seat_3_is_pending = refl
+-- the last numbers of calls of each process, of events and of all calls that a form has room for, and the first that it hasn't
+a_lock_has_room : map (λ (n : ℕ × ℕ × ℕ). are_too_many form.Lock n.0 n.1 n.2) ((4096, 16777216, 40000001) ∷ (4096, 16777217, 1) ∷ (4097, 1, 1) ∷ [])
+    ≡ false ∷ true ∷ true ∷ []
+a_lock_has_room = refl
 
-sixteen_by_twenty_are_few : refusal_of (record { form = form.Lock; object = object.Queue; processes = 16; calls = 20; seed = 1 }) ≡ None
-sixteen_by_twenty_are_few = refl
+words_have_room : map (λ (calls : ℕ). are_too_many form.Words calls 16777217 40000001) (4096 ∷ 4097 ∷ []) ≡ false ∷ true ∷ []
+words_have_room = refl
 
-calls_are_too_many : refusal_of (record { form = form.Lock; object = object.Queue; processes = 64; calls = 4096; seed = 1 })
-    ≡ Some fault.CallsTooMany
-calls_are_too_many = refl
-
-no_tally_under_a_lock : refusal_of (record { form = form.Lock; object = object.Tally; processes = 64; calls = 4096; seed = 1 })
-    ≡ Some fault.NoSuchObject
-no_tally_under_a_lock = refl
-
--- the last number that each has room for, and the first that it hasn't
-a_lock_has_room_for_16777216_events : are_too_many form.Lock 4096 16777216 40000001 ≡ false
-a_lock_has_room_for_16777216_events = refl
-
-a_lock_has_none_for_16777217 : are_too_many form.Lock 4096 16777217 1 ≡ true
-a_lock_has_none_for_16777217 = refl
-
-a_lock_has_none_for_4097_calls : are_too_many form.Lock 4097 1 1 ≡ true
-a_lock_has_none_for_4097_calls = refl
-
-words_have_room_for_any_events : are_too_many form.Words 4096 16777217 40000001 ≡ false
-words_have_room_for_any_events = refl
-
-words_have_none_for_4097_calls : are_too_many form.Words 4097 1 1 ≡ true
-words_have_none_for_4097_calls = refl
-
-forty_million_calls_are_kept : are_too_many form.Small 10000000 16777217 40000000 ≡ false
+forty_million_calls_are_kept : map (λ (in_form : Form). map (are_too_many in_form 10000000 16777217) (40000000 ∷ 40000001 ∷ [])) (form.Small ∷ form.Any ∷ [])
+    ≡ (false ∷ true ∷ []) ∷ (false ∷ true ∷ []) ∷ []
 forty_million_calls_are_kept = refl
 
-one_more_is_not : are_too_many form.Small 1 1 40000001 ≡ true
-one_more_is_not = refl
+-- a plan, and one of a queue under a lock
+abbrev plan_on : Form → ThreadsObject → (processes calls : ℕ) → Plan
+plan_on in_form its processes calls = record { form = in_form; object = its; processes = processes; calls = calls; seed = 1 }
 
-any_keeps_forty_million_calls : are_too_many form.Any 10000000 16777217 40000000 ≡ false
-any_keeps_forty_million_calls = refl
-
-any_keeps_no_more : are_too_many form.Any 1 1 40000001 ≡ true
-any_keeps_no_more = refl
-
-any_has_no_tally : refusal_of (record { form = form.Any; object = object.Tally; processes = 1; calls = 1; seed = 1 })
-    ≡ Some fault.NoSuchObject
-any_has_no_tally = refl
-
--- a plan of a queue under a lock
 abbrev under_lock : (processes calls : ℕ) → Plan
-under_lock processes calls = record { form = form.Lock; object = object.Queue; processes = processes; calls = calls; seed = 1 }
+under_lock = plan_on form.Lock object.Queue
 
-nineteen_processes_make_4096_calls : refusal_of (under_lock 19 4096) ≡ None
-nineteen_processes_make_4096_calls = refl
+no_tally_but_over_words : map (λ (in_form : Form). refusal_of (plan_on in_form object.Tally 64 4096)) (form.Words ∷ form.Lock ∷ form.Any ∷ [])
+    ≡ None ∷ Some fault.NoSuchObject ∷ Some fault.NoSuchObject ∷ []
+no_tally_but_over_words = refl
 
-twenty_processes_make_3938_calls : refusal_of (under_lock 20 3938) ≡ None
-twenty_processes_make_3938_calls = refl
+calls_under_a_lock : map (λ (n : ℕ × ℕ). refusal_of (under_lock n.0 n.1)) ((16, 20) ∷ (19, 4096) ∷ (20, 3938) ∷ (64, 401) ∷ [])
+    ≡ None ∷ None ∷ None ∷ None ∷ []
+calls_under_a_lock = refl
 
-twenty_processes_make_no_3939 : refusal_of (under_lock 20 3939) ≡ Some fault.CallsTooMany
-twenty_processes_make_no_3939 = refl
-
-sixty_four_processes_make_401_calls : refusal_of (under_lock 64 401) ≡ None
-sixty_four_processes_make_401_calls = refl
-
-sixty_four_processes_make_no_402 : refusal_of (under_lock 64 402) ≡ Some fault.CallsTooMany
-sixty_four_processes_make_no_402 = refl
-
-the_greatest_plan_over_words : refusal_of (record
-    { form = form.Words; object = object.Tally; processes = 64; calls = 4096; seed = 1 }) ≡ None
-the_greatest_plan_over_words = refl
+too_many_calls_under_a_lock : map (λ (n : ℕ × ℕ). refusal_of (under_lock n.0 n.1)) ((20, 3939) ∷ (64, 402) ∷ (64, 4096) ∷ [])
+    ≡ Some fault.CallsTooMany ∷ Some fault.CallsTooMany ∷ Some fault.CallsTooMany ∷ []
+too_many_calls_under_a_lock = refl
 
 -- the least and the greatest plan, and what is just outside
 the_least_plan : IsThreadsPlan (under_lock 1 1)
@@ -324,14 +280,11 @@ the_least_plan = (omega arith, omega arith, omega arith, omega arith)
 the_greatest_plan : IsThreadsPlan (under_lock 64 10000000)
 the_greatest_plan = (omega arith, omega arith, omega arith, omega arith)
 
-no_plan_has_no_process : ¬ (IsThreadsPlan (under_lock 0 1))
-no_plan_has_no_process = λ plan. let least = plan.0 in omega arith
-
-no_plan_has_65_processes : ¬ (IsThreadsPlan (under_lock 65 1))
-no_plan_has_65_processes = λ plan. let most = plan.1 in omega arith
-
-no_plan_has_no_call : ¬ (IsThreadsPlan (under_lock 1 0))
-no_plan_has_no_call = λ plan. let least = plan.2 in omega arith
-
-no_plan_has_10000001_calls : ¬ (IsThreadsPlan (under_lock 1 10000001))
-no_plan_has_10000001_calls = λ plan. let most = plan.3 in omega arith
+no_plan_is_just_outside : ¬ (IsThreadsPlan (under_lock 0 1)) × ¬ (IsThreadsPlan (under_lock 65 1))
+    × ¬ (IsThreadsPlan (under_lock 1 0)) × ¬ (IsThreadsPlan (under_lock 1 10000001))
+no_plan_is_just_outside = (
+  (λ plan. let least = plan.0 in omega arith),
+  (λ plan. let most = plan.1 in omega arith),
+  (λ plan. let least = plan.2 in omega arith),
+  (λ plan. let most = plan.3 in omega arith),
+)

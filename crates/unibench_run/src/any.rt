@@ -1,21 +1,19 @@
 //! Threads that make calls on one object without a lock, each with a copy of its state.
 
 ghost use Rattle.std.specs.Prelude.{◌≡◌, ◌++◌, ◌∷◌, ◌<◌, ◌^◌, ◌↔◌};
-ghost use Rattle.std.specs.Prelude.{[], IfOk, IsErrOf, IsTrue, None, OnOk, length, map, true, vec_len};
+ghost use Rattle.std.specs.Prelude.{◌≤◌, ⊤, [], IfOk, IsErrOf, IsTrue, None, OnOk, length, map, true, vec_len};
 ghost use Rattle.std.specs.List.{sum_by};
 ghost use Rattle.uni_any.specs.Invariant.{most_calls};
 ghost use Rattle.uni_any.specs.Seats.{IsSeatOf, calls_made, known_calls, object_of, own_calls};
 ghost use Rattle.uni_any.specs.Seats.{pending_call, process_of, processes_of, version_of};
-ghost use Rattle.unibench_run.specs.Any.{AreAnyDone, HasAnyRun, HasClosed, IsAnyDoneOf, IsAnyJob};
-ghost use Rattle.unibench_run.specs.Any.{IsAnyRun};
-ghost use Rattle.unibench_run.specs.Threads.{IsThreadsPlan, has_form};
+ghost use Rattle.unibench_run.specs.Draws.{call_in};
+ghost use Rattle.unibench_run.specs.Any.{HasAnyRun, HasAnyRunOn, HasClosed, HasMadeAny, IsAnyRun};
+ghost use Rattle.unibench_run.specs.Threads.{AreDone, IsThreadsPlan, has_form};
 ghost use Rattle.unibench_run.specs.declared.request.Form.TheVariants.{Any};
 
 use crate::request::{Plan, ThreadsObject};
-use crate::threads::{Done, Job, Seated, ThreadsFault, make_all_calls, parted};
+use crate::threads::{Done, Seated, ThreadsFault, make_all_calls, parted};
 use crate::watch::Watch;
-use rand_core::SeedableRng;
-use rand_xoshiro::Xoshiro256PlusPlus;
 use ready_objects::{BookObject, DirectoryObject, QueueObject, Spoken, StickyObject};
 use seq_object::SeqObject;
 use std::alloc::{AllocError, Global};
@@ -23,10 +21,6 @@ use std::thread::Threads;
 use told_order::{Counted, CountedState, InPlace, state_in_order};
 use uni_any::{AnyAnswer, AnyFault, AnyOpenFault, AnySeat, AnyShared};
 use uni_record::Verdict;
-use uni_script::Drawn;
-
-/// A seat of an object that counts its calls, with the seed of the words that its thread draws.
-type JobOn<O> = Job<AnySeat<Counted<O>>>;
 
 /// A call with what was told of it.
 type ToldOf<O> = (<O as SeqObject>::Inv, InPlace<<O as SeqObject>::Resp>);
@@ -60,49 +54,38 @@ fn make_any_call<O: Spoken>(
     }
 }
 
-/// Makes so many calls by a seat, those that the words of its seed stand for, one word a call.
-fn make_any_calls<W: Watch, O: Spoken>(
-    watch: &W,
-    alloc: Global,
-    shared: &AnyShared<Counted<O>>,
-    job: JobOn<O>,
-    calls: u64,
-) -> Result<DoneOn<O>, AllocError>
-    requires job { IsAnyJob shared.now calls job }
-    ensures { IfOk result (IsAnyDoneOf shared.now O.language.inv_of_word calls job) }
-{
-    let Job { mut seat, seed } = job;
-    let mut words = Xoshiro256PlusPlus::seed_from_u64(seed);
-    let mut told = Vec::with_capacity(alloc, calls as usize)?;
-    for _ in 0..calls {
-        let word = words.draw();
-        let answer = make_any_call(alloc, shared, &mut seat, O::drawn(word))?;
-        told.push((O::drawn(word), answer.reply))?;
-        watch.made();
-    }
-    Ok(Done { seat, told })
-}
-
 impl<O: Spoken> Seated for AnyShared<Counted<O>> {
     type Seat = AnySeat<Counted<O>>;
 
+    type Call = O::Inv;
+
     type Told = ToldOf<O>;
 
-    ghost is_job = { IsAnyJob };
+    type Room = ();
 
-    ghost is_done = { λ shared. IsAnyDoneOf shared O.language.inv_of_word };
+    ghost is_fit = { λ shared calls. calls ≤ 10000000 };
 
-    fn make_calls<W: Watch>(
+    ghost is_room = { λ shared room. ⊤ };
+
+    ghost has_made = { HasMadeAny };
+
+    ghost call_in = { call_in };
+
+    ghost call_of_word = { O.language.inv_of_word };
+
+    fn room(&self, _alloc: Global) -> Result<(), AllocError> {
+        Ok(())
+    }
+
+    fn make_call(
         &self,
-        watch: &W,
         alloc: Global,
-        job: JobOn<O>,
-        calls: u64,
-    ) -> Result<DoneOn<O>, AllocError>
-        requires { IsAnyJob self.now calls job }
-        ensures { IfOk result (IsAnyDoneOf self.now O.language.inv_of_word calls job) }
-    {
-        make_any_calls(watch, alloc, self, job, calls)
+        seat: &mut AnySeat<Counted<O>>,
+        _room: &mut (),
+        word: u64,
+    ) -> Result<ToldOf<O>, AllocError> {
+        let answer = make_any_call(alloc, self, seat, O::drawn(word))?;
+        Ok((O::drawn(word), answer.reply))
     }
 }
 
@@ -169,7 +152,8 @@ fn close_any<O: Spoken>(
 ) -> Result<Vec<Vec<ToldOf<O>>>, ThreadsFault>
     requires object { (object_of shared).object ≡ object.now }
     requires plan { IsThreadsPlan plan.now × (processes_of shared ≡ plan.now.processes) }
-    requires done { AreAnyDone shared O.language.inv_of_word plan.now.calls plan.now.seed done.items }
+    requires done { AreDone (HasMadeAny shared) call_in O.language.inv_of_word plan.now.processes plan.now.calls
+        plan.now.seed done.items }
     ensures told { IfOk result (λ lists. IsAnyRun (O.sequential object.now) O.language.inv_of_word O.state_text
         plan.now.processes plan.now.calls plan.now.seed (map (λ own. own.items) lists.items)) }
     ensures others { (IsErrOf result ThreadsFault.NoSuchObject → ⊥)
@@ -193,20 +177,20 @@ fn close_any<O: Spoken>(
 }
 
 /// Makes the calls of a plan on an object, each seat's in a thread of its own where one can be made:
-/// the lists of what the threads were told, with which the object agrees.
+/// how many replies the threads were given. They agree with the object.
 fn run_spoken<R: Threads + Watch + Sync, O: Spoken + Copy + Send + Sync>(
     rt: &R,
     alloc: Global,
     object: O,
     plan: &Plan,
-) -> Result<Vec<Vec<ToldOf<O>>>, ThreadsFault>
+) -> Result<u64, ThreadsFault>
 where
     O::State: Send + Sync,
     O::Inv: Send + Sync,
     O::Resp: Send + Sync,
     requires plan { IsThreadsPlan plan.now }
-    ensures told { IfOk result (λ lists. IsAnyRun (O.sequential object) O.language.inv_of_word O.state_text
-        plan.now.processes plan.now.calls plan.now.seed (map (λ own. own.items) lists.items)) }
+    ensures run { IfOk result (HasAnyRunOn (O.sequential object) O.language.inv_of_word O.state_text
+        plan.now.processes plan.now.calls plan.now.seed) }
     ensures others { (IsErrOf result ThreadsFault.NoSuchObject → ⊥)
         × (IsErrOf result ThreadsFault.CallsTooMany → ⊥) × (IsErrOf result ThreadsFault.Write → ⊥) }
     ensures audited { (verdict : Verdict) → IsErrOf result (ThreadsFault.Audit verdict) → ⊥ }
@@ -220,7 +204,8 @@ where
         drop(shared);
         return Err(ThreadsFault::Memory);
     };
-    close_any(alloc, &object, shared, done, plan)
+    drop(close_any(alloc, &object, shared, done, plan)?);
+    Ok(plan.processes * plan.calls)
 }
 
 /// Makes the calls of a plan on the object that it names: how many replies the threads were given.
@@ -237,11 +222,10 @@ pub(crate) fn run_any<R: Threads + Watch + Sync>(
     ensures audited { (verdict : Verdict) → IsErrOf result (ThreadsFault.Audit verdict) → ⊥ }
 {
     match plan.object {
-        ThreadsObject::Queue => drop(run_spoken(rt, alloc, QueueObject, plan)?),
-        ThreadsObject::Directory => drop(run_spoken(rt, alloc, DirectoryObject, plan)?),
-        ThreadsObject::Book => drop(run_spoken(rt, alloc, BookObject, plan)?),
-        ThreadsObject::Sticky => drop(run_spoken(rt, alloc, StickyObject, plan)?),
+        ThreadsObject::Queue => run_spoken(rt, alloc, QueueObject, plan),
+        ThreadsObject::Directory => run_spoken(rt, alloc, DirectoryObject, plan),
+        ThreadsObject::Book => run_spoken(rt, alloc, BookObject, plan),
+        ThreadsObject::Sticky => run_spoken(rt, alloc, StickyObject, plan),
         _ => unreachable!(),
     }
-    Ok(plan.processes * plan.calls)
 }

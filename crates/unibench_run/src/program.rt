@@ -7,7 +7,7 @@ ghost use Rattle.uni_script.specs.Ends.{AppendsPrefix};
 ghost use Rattle.uni_record.specs.Refusals.{IsHistoryLimit};
 ghost use Rattle.unibench_run.specs.CommandLine.{AsksFor, AsksForReplay, IsRefused};
 ghost use Rattle.uni_script.specs.Schedules.{IsPlan};
-ghost use Rattle.unibench_run.specs.Runs.{IsRandomRun, IsReplayRun, IsRunOf, IsStatusOfEnds, IsThreadsRun};
+ghost use Rattle.unibench_run.specs.Runs.{IsInRange, IsRandomRun, IsReplayRun, IsRunOf, IsStatusOfEnds, IsThreadsRun};
 ghost use Rattle.uni_script.specs.Statuses.{TellsFault};
 ghost use Rattle.script_advice.specs.Told.{TellsMore};
 ghost use Rattle.unibench_run.specs.Statuses.{IsStatusFor, IsStatusOfThreads, Tells, TellsThreadsFault};
@@ -63,15 +63,41 @@ pub fn run<R: Threads + Wait + Watch + Sync, S: AsStr, I: KeepsText, O: TextOut,
         → ((result ≡ 2) ⊎ (result ≡ 4)) × (output.new ≡ output.old) }
 {
     match read_words(alloc, words) {
-        Ok(Some(Request::Replay(options))) => replay(alloc, &options, input, output, faults),
-        Ok(Some(Request::Explained(options))) => {
-            replay_explained(alloc, &options, input, output, faults)
-        }
-        Ok(Some(Request::Random(plan))) => random(alloc, &plan, output, faults),
-        Ok(Some(Request::Threads(plan))) => threads(rt, alloc, &plan, output, faults),
-        Ok(Some(Request::Language(object))) => write_language(alloc, object, output, faults),
+        Ok(Some(request)) => run_request(rt, alloc, request, input, output, faults),
         Ok(None) => refuse_name(alloc, words, output, faults),
         Err(error) => answer_words(alloc, &error, tip_for(&error, words), output, faults),
+    }
+}
+
+/// Does what is asked for; the answer is the status.
+fn run_request<R: Threads + Wait + Watch + Sync, I: KeepsText, O: TextOut, F: TextOut>(
+    rt: &R,
+    alloc: Global,
+    request: Request,
+    input: &mut I,
+    output: &mut O,
+    faults: &mut F,
+) -> u8
+    requires request { IsInRange request }
+    requires input { I.has_failed input.old ≡ false }
+    requires output { O.has_failed output.old ≡ false }
+    ensures statuses { (result ≤ 5) × (result ≢ 1) }
+    ensures closing { result ≡ 5 → (plan : Plan) × (request ≡ Request.Threads plan) × (plan.form ≢ Form.Words) }
+    ensures ends { IsStatusOfEnds (I.has_failed input.new) (O.has_failed output.new) result }
+    ensures run { IsRunOf request (I.remaining input.old) (I.remaining input.new) (O.contents output.old)
+        (O.contents output.new) (O.has_failed output.new) result }
+    ensures silent { result ≡ 0 → faults.new ≡ faults.old }
+    ensures told { result ≢ 0 → Tells request (F.contents faults.old) (F.contents faults.new)
+        (F.has_failed faults.new) result }
+    ensures unread { ((options : Options) → (request ≢ Request.Replay options) × (request ≢ Request.Explained options))
+        → input.new ≡ input.old }
+{
+    match request {
+        Request::Replay(options) => replay(alloc, &options, input, output, faults),
+        Request::Explained(options) => replay_explained(alloc, &options, input, output, faults),
+        Request::Random(plan) => random(alloc, &plan, output, faults),
+        Request::Threads(plan) => threads(rt, alloc, &plan, output, faults),
+        Request::Language(object) => write_language(alloc, object, output, faults),
     }
 }
 

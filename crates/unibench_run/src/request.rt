@@ -1,10 +1,10 @@
 //! What a command line asks for.
 
 ghost use Rattle.std.specs.Prelude.{◌≡◌, [], IfOk, IfErr, map, codes, false, Some, option_map};
-ghost use Rattle.clap.specs.Words.{HasKind, app_of, found_of, rows_of, new_app, rule_of, subcommand_rows_of};
+ghost use Rattle.clap.specs.Words.{HasKind, app_of, found_of, rows_of, new_app, rule_of, subcommand_rows_of, with_rule};
 ghost use Rattle.clap.specs.declared.builder.command.Command.TheViews.{out-Command};
 ghost use Rattle.command_line.specs.Flags.{versioned};
-ghost use Rattle.command_line.specs.Numbers.{value_of};
+ghost use Rattle.command_line.specs.Numbers.{in_range, value_of};
 ghost use Rattle.unibench_run.specs.CommandLine.{asked_of, faults_of_words, language_command};
 ghost use Rattle.unibench_run.specs.CommandLine.{needs_subcommand, operand, option, random_command, replay_command};
 ghost use Rattle.unibench_run.specs.CommandLine.{replay_in, request_in, threads_command, unibench};
@@ -238,12 +238,37 @@ fn option<'a>(
         .default_value(value)
 }
 
+/// An option whose value is a number from 1 on.
+fn number<'a>(
+    alloc: Global,
+    name: &'a str,
+    placeholder: &'a str,
+    help: &'a str,
+    value: &'a str,
+    most: u64,
+) -> Arg<'a>
+    ensures rule { rule_of result ≡ in_range (option name.entry.now value.entry.now) 1 most }
+    ensures local { result.global ≡ false }
+{
+    in_range(option(alloc, name, placeholder, help, value), 1, most)
+}
+
 /// A word that isn't an option and may be left out, with what its help calls it.
 fn operand<'a>(alloc: Global, name: &'a str, placeholder: &'a str, help: &'a str) -> Arg<'a>
     ensures rule { rule_of result ≡ operand name.entry.now }
     ensures local { result.global ≡ false }
 {
     Arg::new(alloc, name).value_name(placeholder).help(help)
+}
+
+/// A command with one argument more. All are its own alone, and not its subcommands' too.
+fn with<'a>(command: Command<'a>, arg: Arg<'a>) -> Result<Command<'a>, AllocError>
+    requires command { (out-Command command).has_globals ≡ false }
+    requires arg { arg.global ≡ false }
+    ensures app { IfOk result (λ more. app_of more ≡ with_rule (app_of command.entry) (rule_of arg.entry)) }
+    ensures local { IfOk result (λ more. (out-Command more).has_globals ≡ false) }
+{
+    command.arg(arg)
 }
 
 /// What the help of `replay` says last.
@@ -264,27 +289,14 @@ fn replay_command<'a>(alloc: Global) -> Result<Command<'a>, AllocError>
     ensures app { IfOk result (λ command. app_of command ≡ replay_command) }
     ensures local { IfOk result (λ command. (out-Command command).has_globals ≡ false) }
 {
-    let history = option(
-        alloc,
-        "history",
-        "H",
-        "The most events, from 1 to 16777216",
-        "1048576",
-    );
-    let history = in_range(history, 1, 16_777_216);
-    described(
-        alloc,
-        "replay",
-        "Runs the script on standard input, and writes its answers",
-        REPLAY_NOTES,
-    )
-    .arg(history)?
-    .arg(flag(alloc, "explain", "Says why a line is bad"))?
-    .arg(flag(
-        alloc,
-        "echo",
-        "Writes each line before its answers, after '> '",
-    ))
+    let about = "Runs the script on standard input, and writes its answers";
+    let command = described(alloc, "replay", about, REPLAY_NOTES);
+    let help = "The most events, from 1 to 16777216";
+    let history = number(alloc, "history", "H", help, "1048576", 16_777_216);
+    let command = with(command, history)?;
+    let command = with(command, flag(alloc, "explain", "Says why a line is bad"))?;
+    let help = "Writes each line before its answers, after '> '";
+    with(command, flag(alloc, "echo", help))
 }
 
 /// What the help of `random` says last.
@@ -301,63 +313,20 @@ pub(crate) fn random_command<'a>(alloc: Global) -> Result<Command<'a>, AllocErro
     ensures app { IfOk result (λ command. app_of command ≡ random_command) }
     ensures local { IfOk result (λ command. (out-Command command).has_globals ≡ false) }
 {
-    described(
-        alloc,
-        "random",
-        "Writes a script that is drawn from a seed",
-        RANDOM_NOTES,
-    )
-    .arg(option(
-        alloc,
-        "object",
-        "NAME",
-        "One of queue, directory, book and sticky",
-        "queue",
-    ))?
-    .arg(in_range(
-        option(
-            alloc,
-            "processes",
-            "N",
-            "How many processes there are, from 1 to 64",
-            "2",
-        ),
-        1,
-        MAX_PROCESSES,
-    ))?
-    .arg(in_range(
-        option(
-            alloc,
-            "row",
-            "K",
-            "The most calls of each, from 1 to 4096",
-            "64",
-        ),
-        1,
-        MAX_ROW,
-    ))?
-    .arg(in_range(
-        option(
-            alloc,
-            "seed",
-            "S",
-            "The seed, from 0 to 18446744073709551615",
-            "1",
-        ),
-        0,
-        u64::MAX,
-    ))?
-    .arg(in_range(
-        option(
-            alloc,
-            "events",
-            "M",
-            "How many events are drawn, from 1 to 99000",
-            "100",
-        ),
-        1,
-        99_000,
-    ))
+    let about = "Writes a script that is drawn from a seed";
+    let command = described(alloc, "random", about, RANDOM_NOTES);
+    let help = "One of queue, directory, book and sticky";
+    let command = with(command, option(alloc, "object", "NAME", help, "queue"))?;
+    let help = "How many processes there are, from 1 to 64";
+    let processes = number(alloc, "processes", "N", help, "2", MAX_PROCESSES);
+    let command = with(command, processes)?;
+    let help = "The most calls of each, from 1 to 4096";
+    let command = with(command, number(alloc, "row", "K", help, "64", MAX_ROW))?;
+    let help = "The seed, from 0 to 18446744073709551615";
+    let seed = option(alloc, "seed", "S", help, "1");
+    let command = with(command, in_range(seed, 0, u64::MAX))?;
+    let help = "How many events are drawn, from 1 to 99000";
+    with(command, number(alloc, "events", "M", help, "100", 99_000))
 }
 
 /// What the help of `threads` says last.
@@ -384,59 +353,20 @@ pub(crate) fn threads_command<'a>(alloc: Global) -> Result<Command<'a>, AllocErr
     ensures app { IfOk result (λ command. app_of command ≡ threads_command) }
     ensures local { IfOk result (λ command. (out-Command command).has_globals ≡ false) }
 {
-    described(
-        alloc,
-        "threads",
-        "Makes calls in threads, and compares the replies with the log",
-        THREADS_NOTES,
-    )
-    .arg(option(
-        alloc,
-        "form",
-        "NAME",
-        "One of lock, words, small and any",
-        "lock",
-    ))?
-    .arg(option(
-        alloc,
-        "object",
-        "NAME",
-        "An object that the form has, as below",
-        "queue",
-    ))?
-    .arg(in_range(
-        option(
-            alloc,
-            "processes",
-            "N",
-            "How many threads there are, from 1 to 64",
-            "2",
-        ),
-        1,
-        MAX_PROCESSES,
-    ))?
-    .arg(in_range(
-        option(
-            alloc,
-            "calls",
-            "C",
-            "Calls of each thread, from 1 to 10000000",
-            "100",
-        ),
-        1,
-        MAX_CALLS,
-    ))?
-    .arg(in_range(
-        option(
-            alloc,
-            "seed",
-            "S",
-            "The seed of the first thread's calls",
-            "1",
-        ),
-        0,
-        u64::MAX,
-    ))
+    let about = "Makes calls in threads, and compares the replies with the log";
+    let command = described(alloc, "threads", about, THREADS_NOTES);
+    let help = "One of lock, words, small and any";
+    let command = with(command, option(alloc, "form", "NAME", help, "lock"))?;
+    let help = "An object that the form has, as below";
+    let command = with(command, option(alloc, "object", "NAME", help, "queue"))?;
+    let help = "How many threads there are, from 1 to 64";
+    let processes = number(alloc, "processes", "N", help, "2", MAX_PROCESSES);
+    let command = with(command, processes)?;
+    let help = "Calls of each thread, from 1 to 10000000";
+    let command = with(command, number(alloc, "calls", "C", help, "100", MAX_CALLS))?;
+    let help = "The seed of the first thread's calls";
+    let seed = option(alloc, "seed", "S", help, "1");
+    with(command, in_range(seed, 0, u64::MAX))
 }
 
 /// What the help of `language` says last.
@@ -453,18 +383,10 @@ pub(crate) fn language_command<'a>(alloc: Global) -> Result<Command<'a>, AllocEr
     ensures app { IfOk result (λ command. app_of command ≡ language_command) }
     ensures local { IfOk result (λ command. (out-Command command).has_globals ≡ false) }
 {
-    described(
-        alloc,
-        "language",
-        "Prints the language of scripts, or the calls of an object",
-        LANGUAGE_NOTES,
-    )
-    .arg(operand(
-        alloc,
-        "object",
-        "OBJECT",
-        "One of queue, directory, book and sticky",
-    ))
+    let about = "Prints the language of scripts, or the calls of an object";
+    let command = described(alloc, "language", about, LANGUAGE_NOTES);
+    let help = "One of queue, directory, book and sticky";
+    with(command, operand(alloc, "object", "OBJECT", help))
 }
 
 /// The version of the program.

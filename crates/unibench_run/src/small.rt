@@ -11,17 +11,16 @@ ghost use Rattle.uni_small.specs.Belongs.{process_of, processes_of, reply_width_
 ghost use Rattle.uni_small.specs.Final.{HasHistory};
 ghost use Rattle.uni_small.specs.Invariant.{most_calls};
 ghost use Rattle.uni_small.specs.View.{Returned};
-ghost use Rattle.unibench_run.specs.Small.{AreSmallDone, HasSmallRun, IsSmallDoneOf, IsSmallJob, IsSmallRun, IsWide};
+ghost use Rattle.unibench_run.specs.Draws.{call_in};
+ghost use Rattle.unibench_run.specs.Small.{HasMadeSmall, HasRunOn, HasSmallRun, IsSmallRun, IsWide};
 ghost use Rattle.unibench_run.specs.Small.{in_words_of, read_in_place};
-ghost use Rattle.unibench_run.specs.Threads.{IsThreadsPlan, has_form};
+ghost use Rattle.unibench_run.specs.Threads.{AreDone, IsThreadsPlan, has_form};
 ghost use Rattle.unibench_run.specs.declared.request.Form.TheVariants.{Small};
 
 use crate::request::{Plan, ThreadsObject};
 use crate::small_calls::DrawnCalls;
-use crate::threads::{Done, Job, Seated, ThreadsFault, make_all_calls, parted};
+use crate::threads::{Done, Seated, ThreadsFault, make_all_calls, parted};
 use crate::watch::Watch;
-use rand_core::SeedableRng;
-use rand_xoshiro::Xoshiro256PlusPlus;
 use ready_objects::StickyObject;
 use small_objects::{
     Encoded, Placed, SmallBook, SmallCounter, SmallCounters, SmallMap, SmallRegister,
@@ -31,7 +30,6 @@ use std::alloc::{AllocError, Global};
 use std::thread::Threads;
 use told_order::{InPlace, ReplayFault};
 use uni_record::Verdict;
-use uni_script::Drawn;
 use uni_small::{SmallOpenFault, SmallSeat, SmallShared};
 
 /// The most calls of all threads: what each was told is kept.
@@ -79,51 +77,41 @@ fn make_call<O: DrawnCalls>(
     }
 }
 
-/// Makes so many calls by a seat, those that the words of its seed stand for, one word a call.
-fn make_small_calls<W: Watch, O: DrawnCalls>(
-    watch: &W,
-    alloc: Global,
-    shared: &SmallShared<Placed<O>>,
-    job: Job<SmallSeat<Placed<O>>>,
-    calls: u64,
-) -> Result<Done<SmallSeat<Placed<O>>, (O::Call, InPlace<O::Reply>)>, AllocError>
-    requires job { IsSmallJob shared.now O.Call.words O.Reply.words calls job }
-    ensures { IfOk result (IsSmallDoneOf shared.now O.Call.encode O.Reply.decode O.call_of_word calls job) }
-{
-    let Job { mut seat, seed } = job;
-    let mut invocation = vec![in alloc; 0u64; shared.invocation_width() as usize]?;
-    let mut reply = vec![in alloc; 0u64; shared.reply_width() as usize]?;
-    let mut words = Xoshiro256PlusPlus::seed_from_u64(seed);
-    let mut told = Vec::with_capacity(alloc, calls as usize)?;
-    for _ in 0..calls {
-        let call = O::drawn_call(words.draw());
-        let was_told = make_call(shared, &mut seat, call, &mut invocation, &mut reply);
-        told.push((call, was_told))?;
-        watch.made();
-    }
-    Ok(Done { seat, told })
-}
-
 impl<O: DrawnCalls> Seated for SmallShared<Placed<O>> {
     type Seat = SmallSeat<Placed<O>>;
 
+    type Call = O::Call;
+
     type Told = (O::Call, InPlace<O::Reply>);
 
-    ghost is_job = { λ shared. IsSmallJob shared O.Call.words O.Reply.words };
+    type Room = (Vec<u64>, Vec<u64>);
 
-    ghost is_done = { λ shared. IsSmallDoneOf shared O.Call.encode O.Reply.decode O.call_of_word };
+    ghost is_fit = { λ shared calls. (calls ≤ 10000000) × (invocation_width_of shared ≡ O.Call.words)
+        × (reply_width_of shared ≡ suc O.Reply.words) };
 
-    fn make_calls<W: Watch>(
+    ghost is_room = { λ shared room. IsWide shared O.Call.words O.Reply.words room.0.items room.1.items };
+
+    ghost has_made = { λ shared. HasMadeSmall shared O.Call.encode O.Reply.decode };
+
+    ghost call_in = { call_in };
+
+    ghost call_of_word = { O.call_of_word };
+
+    fn room(&self, alloc: Global) -> Result<(Vec<u64>, Vec<u64>), AllocError> {
+        let invocation = vec![in alloc; 0u64; self.invocation_width() as usize]?;
+        let reply = vec![in alloc; 0u64; self.reply_width() as usize]?;
+        Ok((invocation, reply))
+    }
+
+    fn make_call(
         &self,
-        watch: &W,
-        alloc: Global,
-        job: Job<SmallSeat<Placed<O>>>,
-        calls: u64,
-    ) -> Result<Done<SmallSeat<Placed<O>>, (O::Call, InPlace<O::Reply>)>, AllocError>
-        requires { IsSmallJob self.now O.Call.words O.Reply.words calls job }
-        ensures { IfOk result (IsSmallDoneOf self.now O.Call.encode O.Reply.decode O.call_of_word calls job) }
-    {
-        make_small_calls(watch, alloc, self, job, calls)
+        _alloc: Global,
+        seat: &mut SmallSeat<Placed<O>>,
+        room: &mut (Vec<u64>, Vec<u64>),
+        word: u64,
+    ) -> Result<(O::Call, InPlace<O::Reply>), AllocError> {
+        let call = O::drawn_call(word);
+        Ok((call, make_call(self, seat, call, &mut room.0, &mut room.1)))
     }
 }
 
@@ -170,11 +158,11 @@ fn close_small<O: DrawnCalls>(
     requires words { ((O.meaning object.now).invocation ≡ O.Call.words)
         × ((O.meaning object.now).reply ≡ O.Reply.words) }
     requires width { width_of shared ≡ suc (length (O.meaning object.now).object.initial) }
-    requires few { (processes_of shared ≤ 64) × (plan.now.calls ≤ 10000000) }
-    requires done { AreSmallDone shared O.Call.encode O.Reply.decode O.call_of_word plan.now.calls plan.now.seed
-        done.items }
+    requires plan { IsThreadsPlan plan.now × (processes_of shared ≡ plan.now.processes) }
+    requires done { AreDone (HasMadeSmall shared O.Call.encode O.Reply.decode) call_in O.call_of_word plan.now.processes
+        plan.now.calls plan.now.seed done.items }
     ensures told { IfOk result (λ lists. IsSmallRun (O.meaning object.now) O.Call.encode O.Reply.encode O.Reply.decode
-        O.call_of_word (processes_of shared) plan.now.calls plan.now.seed (map (λ own. own.items) lists.items)) }
+        O.call_of_word plan.now.processes plan.now.calls plan.now.seed (map (λ own. own.items) lists.items)) }
     ensures others { (IsErrOf result ThreadsFault.NoSuchObject → ⊥)
         × (IsErrOf result ThreadsFault.CallsTooMany → ⊥) × (IsErrOf result ThreadsFault.Write → ⊥) }
     ensures audited { (verdict : Verdict) → IsErrOf result (ThreadsFault.Audit verdict) → ⊥ }
@@ -185,14 +173,13 @@ fn close_small<O: DrawnCalls>(
 }
 
 /// Makes the calls of a plan on an object of several words, each seat's in a thread of its own where one can be
-/// made: what the threads were told, which are the lists that they gave back when they were joined, by process. They
-/// agree with the object.
+/// made: how many replies the threads were given. They agree with the object.
 fn run_small<R: Threads + Watch + Sync, O: DrawnCalls + Copy + Sync>(
     rt: &R,
     alloc: Global,
     object: O,
     plan: &Plan,
-) -> Result<Vec<Vec<(O::Call, InPlace<O::Reply>)>>, ThreadsFault>
+) -> Result<u64, ThreadsFault>
 where
     O::Call: Send,
     O::Reply: Send,
@@ -201,8 +188,8 @@ where
     requires call { (O.meaning object).invocation ≤ 65536 }
     requires reply { (O.meaning object).reply < 65536 }
     requires plan { IsThreadsPlan plan.now }
-    ensures told { IfOk result (λ lists. IsSmallRun (O.meaning object) O.Call.encode O.Reply.encode O.Reply.decode
-        O.call_of_word plan.now.processes plan.now.calls plan.now.seed (map (λ own. own.items) lists.items)) }
+    ensures run { IfOk result (HasRunOn (O.meaning object) O.Call.encode O.Reply.encode O.Reply.decode O.call_of_word
+        plan.now.processes plan.now.calls plan.now.seed) }
     ensures others { (IsErrOf result ThreadsFault.NoSuchObject → ⊥)
         × (IsErrOf result ThreadsFault.CallsTooMany → ⊥) × (IsErrOf result ThreadsFault.Write → ⊥) }
     ensures audited { (verdict : Verdict) → IsErrOf result (ThreadsFault.Audit verdict) → ⊥ }
@@ -213,7 +200,8 @@ where
         Err(_) => unreachable!(),
     };
     let done = make_all_calls(rt, alloc, &shared, seats, plan)?;
-    close_small(alloc, &object, shared, done, plan)
+    drop(close_small(alloc, &object, shared, done, plan)?);
+    Ok(plan.processes * plan.calls)
 }
 
 /// Makes the calls of a plan on the object of several words that it names: how many replies the threads were given.
@@ -230,23 +218,19 @@ pub(crate) fn run_named<R: Threads + Watch + Sync>(
     ensures audited { (verdict : Verdict) → IsErrOf result (ThreadsFault.Audit verdict) → ⊥ }
 {
     match plan.object {
-        ThreadsObject::Counter => drop(run_small(rt, alloc, SmallCounter, plan)?),
-        ThreadsObject::Counters => drop(run_small(rt, alloc, SmallCounters { count: 16 }, plan)?),
-        ThreadsObject::Register => drop(run_small(rt, alloc, SmallRegister, plan)?),
-        ThreadsObject::Stack => drop(run_small(rt, alloc, SmallStack { capacity: 64 }, plan)?),
-        ThreadsObject::Map => drop(run_small(rt, alloc, SmallMap { capacity: 64 }, plan)?),
-        ThreadsObject::Queue => {
-            let queue = SmallScriptQueue { capacity: 1000 };
-            drop(run_small(rt, alloc, queue, plan)?)
-        }
-        ThreadsObject::Book => drop(run_small(rt, alloc, SmallBook, plan)?),
+        ThreadsObject::Counter => run_small(rt, alloc, SmallCounter, plan),
+        ThreadsObject::Counters => run_small(rt, alloc, SmallCounters { count: 16 }, plan),
+        ThreadsObject::Register => run_small(rt, alloc, SmallRegister, plan),
+        ThreadsObject::Stack => run_small(rt, alloc, SmallStack { capacity: 64 }, plan),
+        ThreadsObject::Map => run_small(rt, alloc, SmallMap { capacity: 64 }, plan),
+        ThreadsObject::Queue => run_small(rt, alloc, SmallScriptQueue { capacity: 1000 }, plan),
+        ThreadsObject::Book => run_small(rt, alloc, SmallBook, plan),
         ThreadsObject::Sticky => {
             let sticky = Encoded {
                 object: StickyObject,
             };
-            drop(run_small(rt, alloc, sticky, plan)?)
+            run_small(rt, alloc, sticky, plan)
         }
         _ => unreachable!(),
     }
-    Ok(plan.processes * plan.calls)
 }

@@ -1,14 +1,15 @@
 //! Threads that make calls on one object.
 
 ghost use Rattle.std.specs.Prelude.{◌↔◌, ◌≡◌, ◌≢◌, ◌++◌, ◌*◌, ◌<◌, ◌≤◌, ◌^◌};
-ghost use Rattle.std.specs.Prelude.{ℕ, [], All, IfOk, IsErrOf, IsOk, Ok, OnOk, Some, length, map, vec_len};
+ghost use Rattle.std.specs.Prelude.{ℕ, List, [], ◌∷◌, All, IfOk, IsErrOf, IsOk, Ok, OnOk, Some, length, map};
+ghost use Rattle.std.specs.Prelude.{slice_get, vec_len, ⊤};
 ghost use Rattle.std.specs.List.{range_with_len};
 ghost use Rattle.uni_words.specs.Belongs.{object_of, processes_of, row_of};
 ghost use Rattle.uni_words.specs.Compare.{Agrees, IsFirstFault};
 ghost use Rattle.uni_words.specs.Log.{entry_shown};
-ghost use Rattle.unibench_run.specs.Draws.{seed_of};
+ghost use Rattle.unibench_run.specs.Draws.{below_1000, call_in, seed_of};
 ghost use Rattle.unibench_run.specs.Statuses.{status_of_threads};
-ghost use Rattle.unibench_run.specs.Threads.{AreDone, AreJobsDone, AreTold, IsCounted, IsDoneOf, IsJob, IsJobOf};
+ghost use Rattle.unibench_run.specs.Threads.{AreDone, AreTold, HasMadeWords, IsCounted, IsDone};
 ghost use Rattle.unibench_run.specs.Threads.{are_too_many, events_of, has_form};
 ghost use Rattle.unibench_run.specs.Threads.{IsRunOfThreads, IsThreadsPlan};
 ghost use Rattle.unibench_run.specs.Threads.{agrees_line, line_of_fault, refusal_of, text_of_fault, told_to};
@@ -155,27 +156,77 @@ pub(crate) trait Seated: Drop {
     /// A seat.
     type Seat: Drop;
 
+    /// A call.
+    type Call;
+
     /// A call, with what was told of it.
     type Told: Drop;
 
-    /// The job's seat is one of the object's, and can make so many calls.
-    ghost is_job: { Self → (calls : ℕ) → Job Self.Seat → Type 0 };
+    /// What a thread keeps beside its seat, for all its calls.
+    type Room: Drop;
 
-    /// It has made them, as they are drawn from its seed, and what it was told is listed.
-    ghost is_done: { Self → (calls : ℕ) → Job Self.Seat → Done Self.Seat Self.Told → Type 0 };
+    /// Each seat can make so many calls.
+    ghost is_fit: { Self → (calls : ℕ) → Type 0 };
 
-    /// Makes so many calls by a seat, those that the words of its seed stand for, one word a call.
-    ///
-    /// An `Err` says that memory was refused.
-    fn make_calls<W: Watch>(
+    /// The room is wide enough for a call and its reply.
+    ghost is_room: { Self → Self.Room → Type 0 };
+
+    /// The seat is that of a process, and has made these calls alone, each of which was told this.
+    ghost has_made: { Self → (process : ℕ) → List Self.Told → Self.Seat → Type 0 };
+
+    /// The call of it.
+    ghost call_in: { Self.Told → Self.Call };
+
+    /// The call that a word stands for.
+    ghost call_of_word: { ℕ → Self.Call };
+
+    /// Such a room. An `Err` says that memory was refused.
+    fn room(&self, alloc: Global) -> Result<Self::Room, AllocError>
+        requires { (calls : ℕ) × is_fit self.now calls }
+        ensures { IfOk result (is_room self.now) };
+
+    /// Makes the call that a word stands for: the call, and what is told of it. An `Err` says that memory was refused.
+    fn make_call(
         &self,
-        watch: &W,
         alloc: Global,
-        job: Job<Self::Seat>,
-        calls: u64,
-    ) -> Result<Done<Self::Seat, Self::Told>, AllocError>
-        requires { is_job self.now calls job }
-        ensures { IfOk result (is_done self.now calls job) };
+        seat: &mut Self::Seat,
+        room: &mut Self::Room,
+        word: u64,
+    ) -> Result<Self::Told, AllocError>
+        requires room { is_room self.now room.old }
+        requires more { (process : ℕ) × (calls : ℕ) × (told : List Self.Told) × is_fit self.now calls
+            × has_made self.now process told seat.old × (length told < calls) }
+        ensures room { OnOk result (is_room self.now room.new) }
+        ensures drawn { IfOk result (λ call. call_in call ≡ call_of_word word) }
+        ensures made { IfOk result (λ call. (process : ℕ) (told : List Self.Told)
+            → has_made self.now process told seat.old → has_made self.now process (told ++ call ∷ []) seat.new) };
+}
+
+/// Makes so many calls by a seat, those that the words of its seed stand for, one word a call.
+///
+/// An `Err` says that memory was refused.
+fn make_calls<W: Watch, C: Seated>(
+    watch: &W,
+    alloc: Global,
+    shared: &C,
+    job: Job<C::Seat>,
+    calls: u64,
+) -> Result<Done<C::Seat, C::Told>, AllocError>
+    requires fit { C.is_fit shared.now calls }
+    requires fresh { (process : ℕ) × C.has_made shared.now process [] job.seat }
+    ensures { (process : ℕ) → C.has_made shared.now process [] job.seat
+        → IfOk result (IsDone (C.has_made shared.now) C.call_in C.call_of_word calls job.seed process) }
+{
+    let Job { mut seat, seed } = job;
+    let mut room = shared.room(alloc)?;
+    let mut words = Xoshiro256PlusPlus::seed_from_u64(seed);
+    let mut told = Vec::with_capacity(alloc, calls as usize)?;
+    for _ in 0..calls {
+        let call = shared.make_call(alloc, &mut seat, &mut room, words.draw())?;
+        told.push(call)?;
+        watch.made();
+    }
+    Ok(Done { seat, told })
 }
 
 /// Makes the calls of a plan on an object, each seat's in a thread of its own where one can be made: what came of
@@ -192,9 +243,12 @@ pub(crate) fn make_all_calls<R: Threads + Watch + Sync, C: Seated + Sync>(
 where
     C::Seat: Send,
     C::Told: Send,
-    requires { (p : ℕ) (job : _) → IsJobOf seats.items plan.now.seed p job → C.is_job shared.now plan.now.calls job }
-    ensures { IfOk result (λ done. AreJobsDone (C.is_done shared.now plan.now.calls) seats.items plan.now.seed
-        done.items) }
+    C::Room: Send,
+    requires fit { C.is_fit shared.now plan.now.calls }
+    requires many { length seats.items ≡ plan.now.processes }
+    requires fresh { (p : ℕ) (seat : _) → slice_get seats.items p ≡ Some seat → C.has_made shared.now p [] seat }
+    ensures { IfOk result (λ done. AreDone (C.has_made shared.now) C.call_in C.call_of_word plan.now.processes
+        plan.now.calls plan.now.seed done.items) }
 {
     let jobs = jobs_of(alloc, seats, plan.seed)?;
     let calls = plan.calls;
@@ -202,59 +256,51 @@ where
         rt,
         jobs,
         &|job: Job<C::Seat>| -> Result<Done<C::Seat, C::Told>, AllocError>
-            requires { C.is_job shared.now calls job }
-            ensures { IfOk result (C.is_done shared.entry.now calls job) }
-        { shared.make_calls(rt, alloc, job, calls) },
+            requires fit { C.is_fit shared.now calls }
+            requires fresh { (p : ℕ) × C.has_made shared.now p [] job.seat }
+            ensures { (p : ℕ) → C.has_made shared.entry.now p [] job.seat
+                → IfOk result (IsDone (C.has_made shared.entry.now) C.call_in C.call_of_word calls job.seed p) }
+        { make_calls(rt, alloc, shared, job, calls) },
     )?;
     all_done(alloc, done)
 }
 
-/// Makes so many calls by a seat, with invocations below 1000 that are drawn: one word a call.
-fn make_calls<W: Watch, O: WordObject>(
-    watch: &W,
-    alloc: Global,
-    log: &WordLog<O>,
-    job: Job<WordSeat>,
-    calls: u64,
-) -> Result<Done<WordSeat, (u64, u32)>, AllocError>
-    requires job { IsJob log.now job }
-    requires calls { calls ≡ row_of log.now }
-    ensures { IfOk result (IsDoneOf log.now job) }
-{
-    let Job { mut seat, seed } = job;
-    let mut words = Xoshiro256PlusPlus::seed_from_u64(seed);
-    let mut told = Vec::new(alloc);
-    for _ in 0..calls {
-        let inv = words.draw() % 1000;
-        let Ok(answer) = seat.apply(log, inv) else {
-            unreachable!()
-        };
-        told.push((inv, answer.reply))?;
-        watch.made();
-    }
-    Ok(Done { seat, told })
-}
-
+/// An invocation is below 1000.
 impl<O: WordObject> Seated for WordLog<O> {
     type Seat = WordSeat;
 
+    type Call = u64;
+
     type Told = (u64, u32);
 
-    ghost is_job = { λ log calls job. IsJob log job × (calls ≡ row_of log) };
+    type Room = ();
 
-    ghost is_done = { λ log calls job. IsDoneOf log job };
+    ghost is_fit = { λ log calls. calls ≡ row_of log };
 
-    fn make_calls<W: Watch>(
+    ghost is_room = { λ log room. ⊤ };
+
+    ghost has_made = { HasMadeWords };
+
+    ghost call_in = { call_in };
+
+    ghost call_of_word = { below_1000 };
+
+    fn room(&self, _alloc: Global) -> Result<(), AllocError> {
+        Ok(())
+    }
+
+    fn make_call(
         &self,
-        watch: &W,
-        alloc: Global,
-        job: Job<WordSeat>,
-        calls: u64,
-    ) -> Result<Done<WordSeat, (u64, u32)>, AllocError>
-        requires { IsJob self.now job × (calls ≡ row_of self.now) }
-        ensures { IfOk result (IsDoneOf self.now job) }
-    {
-        make_calls(watch, alloc, self, job, calls)
+        _alloc: Global,
+        seat: &mut WordSeat,
+        _room: &mut (),
+        word: u64,
+    ) -> Result<(u64, u32), AllocError> {
+        let inv = word % 1000;
+        let Ok(answer) = seat.apply(self, inv) else {
+            unreachable!()
+        };
+        Ok((inv, answer.reply))
     }
 }
 
@@ -333,13 +379,13 @@ fn close_words<O: WordObject>(
     plan: &Plan,
 ) -> Result<Agreed, ThreadsFault>
     requires object { object.now ≡ object_of log }
-    requires calls { plan.now.calls ≡ row_of log }
-    requires done { AreDone log plan.now.seed done.items }
-    requires few { (processes_of log ≤ 64) × (1 ≤ processes_of log) × (row_of log ≤ 4096) }
-    ensures replies { IfOk result (λ agreed. agreed.replies ≡ processes_of log * row_of log) }
-    ensures lists { IfOk result (λ agreed. agreed.lists.items ≡ map (λ one. one.told) done.items) }
+    requires processes { processes_of log ≡ plan.now.processes }
+    requires done { AreDone (HasMadeWords log) call_in below_1000 plan.now.processes plan.now.calls plan.now.seed
+        done.items }
+    requires few { (plan.now.processes ≤ 64) × (1 ≤ plan.now.processes) × (plan.now.calls ≤ 4096) }
+    ensures replies { IfOk result (λ agreed. agreed.replies ≡ plan.now.processes * plan.now.calls) }
     ensures told { IfOk result (λ agreed.
-        AreTold (O.sequential object.now) (processes_of log) (row_of log) plan.now.seed
+        AreTold (O.sequential object.now) plan.now.processes plan.now.calls plan.now.seed
         (map (λ own. own.items) agreed.lists.items)) }
     ensures faults { (fault : ThreadsFault) → IsErrOf result fault → fault ≡ ThreadsFault.Memory }
 {

@@ -10,12 +10,11 @@ swap_remove-first-requires g c =
     let done = c.args.done.items in
     let read = g.O.Spoken.language.inv_of_word in
     let are = c.requires.done in
-    let long = any_long c.args.shared read plan.calls plan.seed done are in
+    let long = any_long c.args.shared read _ _ _ done are in
     let same = ap length c.in-Ok.ensures.seats in
     let room = c.in-Ok.seats.ok.0 in
     let some = c.requires.plan.0.0 in
-    let processes = c.requires.plan.1 in
-    omega (arith, long, same, room, some, processes)
+    omega (arith, long, same, room, some)
 
 pub close_and_replay-requires-clause-seat : goal.close_and_replay-requires-clause-seat
 close_and_replay-requires-clause-seat g c =
@@ -25,8 +24,7 @@ close_and_replay-requires-clause-seat g c =
     let are = c.requires.done in
     let first = c.swap_remove-first.result in
     let some = c.requires.plan.0.0 in
-    let processes = c.requires.plan.1 in
-    any_first_seat c.args.shared read plan.calls plan.seed done are first (omega (arith, some, processes))
+    any_first_seat c.args.shared read _ _ _ done are first some
     (c.swap_remove-first.ensures.value ∙ ap (λ l. slice_index_or l 0 first) c.in-Ok.ensures.seats)
 
 pub close_and_replay-requires-clause-few : goal.close_and_replay-requires-clause-few
@@ -35,9 +33,7 @@ close_and_replay-requires-clause-few g c =
     let done = c.args.done.items in
     let read = g.O.Spoken.language.inv_of_word in
     let are = c.requires.done in
-    let most = c.requires.plan.0.1 in
-    let processes = c.requires.plan.1 in
-    let few = any_few_told c.args.shared read plan.calls plan.seed done are (omega (arith, most, processes)) c.requires.plan.0.3 in
+    let few = any_few_told c.args.shared read _ _ _ done are c.requires.plan.0.1 c.requires.plan.0.3 in
     rw (c.deref.ensures.value ∙ c.in-Ok.ensures.told) few
 
 pub returns-clause-told : goal.returns-clause-told
@@ -52,14 +48,10 @@ returns-clause-told g c =
     let object = g.O.SeqObject.sequential c.args.object.now in
     let text = g.O.Spoken.state_text in
     let first = c.swap_remove-first.result in
-    let some = c.requires.plan.0.0 in
-    let processes = c.requires.plan.1 in
     let closed = subst (λ (lists : List (Vec (I × InPlace R) Global)). HasClosed object text (processes_of shared) (plan.processes * plan.calls) (known_calls first) (map (λ own. own.items) lists))
     (c.deref.ensures.value ∙ c.in-Ok.ensures.told) c.in_ok-close_and_replay.ensures.closed in
     let lists : List (List (I × InPlace R)) = map (λ (own : Vec (I × InPlace R) Global). own.items) (map (λ one. one.told) done) in
-    let its : HasClosed object text (processes_of shared) (processes_of shared * plan.calls) (known_calls first) lists =
-    subst (λ n. HasClosed object text (processes_of shared) (n * plan.calls) (known_calls first) lists) (sym processes) closed in
-    let run = any_run shared read plan.calls plan.seed done are object text first (omega (arith, some, processes))
+    let its = subst (λ n. HasClosed object text n (plan.processes * plan.calls) (known_calls first) lists) c.requires.plan.1 closed in
+    let run = any_run shared read _ _ _ done are object text first c.requires.plan.0.0
     (c.swap_remove-first.ensures.value ∙ ap (λ l. slice_index_or l 0 first) c.in-Ok.ensures.seats) its in
-    subst (λ (given : List (Vec (I × InPlace R) Global)). IsAnyRun object read text plan.processes plan.calls plan.seed (map (λ own. own.items) given)) (sym c.in-Ok.ensures.told)
-    (subst (λ n. IsAnyRun object read text n plan.calls plan.seed lists) processes run)
+    subst (λ (given : List (Vec (I × InPlace R) Global)). IsAnyRun object read text plan.processes plan.calls plan.seed (map (λ own. own.items) given)) (sym c.in-Ok.ensures.told) run

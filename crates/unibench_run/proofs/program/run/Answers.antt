@@ -1,111 +1,43 @@
-use Rattle.unibench_run.proofs.Vocabulary.{Explained, HasKind, IsRunOf, IsThreadsPlan, Language, Random, Replay, Some, Threads, [], asked_of, faults_of_words, inl, inr, map, rules, subcommand_of, subst, sym, unibench, ◌≡◌}
+use Rattle.unibench_run.proofs.Vocabulary.{HasKind, IsRunOf, Some, Tells, ap, faults_of_words, inl, inr, map, rules, subcommand_of, subst, sym, unibench, ◌∙◌}
 use Rattle.clap.specs.declared.error.kind.ErrorKind.TheVariants.{DisplayHelp, DisplayVersion}
 use Rattle.command_line.proofs.ErrorKinds.{memory_of, not_of_kind}
-use Rattle.unibench_run.proofs.RandomPlans.{IsHistoryLimit-asked, IsHistoryLimit-explained, IsPlan-asked, IsThreadsPlan-asked}
-use Rattle.unibench_run.proofs.RunCases.{run_of_asked, run_of_memory, told_by_memory, told_of_asked}
+use Rattle.unibench_run.proofs.RandomPlans.{in_range-asked, same_some}
+use Rattle.unibench_run.proofs.RunCases.{run_of_memory, told_by_memory}
 use Rattle.unibench_run.proofs.program.run.Goals as goal
 
-pub replay-requires-clause-history : goal.replay-requires-clause-history
-replay-requires-clause-history g c =
-    let asked : asked_of (map g.S.AsStr.text c.args.words.now) ≡ Some (Replay c.in-Ok-Some-Replay.options) = search rules in
-    IsHistoryLimit-asked (subcommand_of unibench (map g.S.AsStr.text c.args.words.now)) c.in-Ok-Some-Replay.options asked
+pub run_request-requires-clause-request : goal.run_request-requires-clause-request
+run_request-requires-clause-request g c = λ lifetimes outlive.
+    in_range-asked (subcommand_of unibench (map g.S.AsStr.text c.args.words.now)) c.in-Ok-Some.request (sym c.in-Ok-Some.ensures.asked.1 ∙ c.in-Ok-Some.field-0-is)
 
-pub returns-in-Ok-Some-Replay-clause-asked : goal.returns-in-Ok-Some-Replay-clause-asked
-returns-in-Ok-Some-Replay-clause-asked g c = λ r asks.
-    let asked : asked_of (map g.S.AsStr.text c.args.words.now) ≡ Some (Replay c.in-Ok-Some-Replay.options) = search rules in
-    run_of_asked _ (Replay c.in-Ok-Some-Replay.options) r asked asks.1 _ _ _ _ _ _ c.replay.ensures.run
+pub returns-in-Ok-Some-clause-statuses : goal.returns-in-Ok-Some-clause-statuses
+returns-in-Ok-Some-clause-statuses g c =
+    let its = c.run_request.ensures in
+    let asked = sym c.in-Ok-Some.ensures.asked.1 ∙ c.in-Ok-Some.field-0-is in record {
+      most = its.statuses.0;
+      not_1 = its.statuses.1;
+      closing = λ five. let plan = its.closing five in (plan.0, (c.in-Ok-Some.ensures.asked.0, asked ∙ ap Some plan.1), plan.2);
+    }
 
-pub returns-in-Ok-Some-Replay-clause-told : goal.returns-in-Ok-Some-Replay-clause-told
-returns-in-Ok-Some-Replay-clause-told g c = λ r asks some.
-    let asked : asked_of (map g.S.AsStr.text c.args.words.now) ≡ Some (Replay c.in-Ok-Some-Replay.options) = search rules in
-    told_of_asked _ (Replay c.in-Ok-Some-Replay.options) r asked asks.1 _ _ _ _ (c.replay.ensures.told some)
+pub returns-in-Ok-Some-clause-asked : goal.returns-in-Ok-Some-clause-asked
+returns-in-Ok-Some-clause-asked g c = λ r asks.
+    same_some (λ q. IsRunOf q (g.I.TextIn.remaining c.args.input.now) (g.I.TextIn.remaining c.run_request.new.input) (g.O.TextOut.contents c.args.output.now)
+    (g.O.TextOut.contents c.run_request.new.output) (g.O.TextOut.has_failed c.run_request.new.output) c.run_request.result)
+    c.in-Ok-Some.request r (sym c.in-Ok-Some.field-0-is ∙ c.in-Ok-Some.ensures.asked.1 ∙ asks.1) c.run_request.ensures.run
 
-pub returns-in-Ok-Some-Replay-clause-unread : goal.returns-in-Ok-Some-Replay-clause-unread
-returns-in-Ok-Some-Replay-clause-unread g c = λ none.
-    let asked : asked_of (map g.S.AsStr.text c.args.words.now) ≡ Some (Replay c.in-Ok-Some-Replay.options) = search rules in
-    let good : faults_of_words (map g.S.AsStr.text c.args.words.now) ≡ [] = search rules in
-    absurd (none (c.in-Ok-Some-Replay.options, inl (good, asked)))
+pub returns-in-Ok-Some-clause-told : goal.returns-in-Ok-Some-clause-told
+returns-in-Ok-Some-clause-told g c = λ r asks some.
+    same_some (λ q. Tells q (g.F.TextOut.contents c.args.faults.now) (g.F.TextOut.contents c.run_request.new.faults) (g.F.TextOut.has_failed c.run_request.new.faults) c.run_request.result)
+    c.in-Ok-Some.request r (sym c.in-Ok-Some.field-0-is ∙ c.in-Ok-Some.ensures.asked.1 ∙ asks.1) (c.run_request.ensures.told some)
 
-pub returns-in-Ok-Some-Replay-clause-refused : goal.returns-in-Ok-Some-Replay-clause-refused
-returns-in-Ok-Some-Replay-clause-refused g c = λ none.
-    let asked : asked_of (map g.S.AsStr.text c.args.words.now) ≡ Some (Replay c.in-Ok-Some-Replay.options) = search rules in
-    let good : faults_of_words (map g.S.AsStr.text c.args.words.now) ≡ [] = search rules in
-    absurd (none.0 (Replay c.in-Ok-Some-Replay.options) (good, asked))
+pub returns-in-Ok-Some-clause-unread : goal.returns-in-Ok-Some-clause-unread
+returns-in-Ok-Some-clause-unread g c = λ none.
+    let good = c.in-Ok-Some.ensures.asked.0 in
+    let asked = sym c.in-Ok-Some.ensures.asked.1 ∙ c.in-Ok-Some.field-0-is in
+    c.run_request.ensures.unread (λ options. ((λ is. none (options, inl (good, asked ∙ ap Some is))), (λ is. none (options, inr (good, asked ∙ ap Some is)))))
 
-pub replay_explained-requires-clause-history : goal.replay_explained-requires-clause-history
-replay_explained-requires-clause-history g c =
-    let asked : asked_of (map g.S.AsStr.text c.args.words.now) ≡ Some (Explained c.in-Ok-Some-Explained.options) = search rules in
-    IsHistoryLimit-explained (subcommand_of unibench (map g.S.AsStr.text c.args.words.now)) c.in-Ok-Some-Explained.options asked
-
-pub returns-in-Ok-Some-Explained-clause-asked : goal.returns-in-Ok-Some-Explained-clause-asked
-returns-in-Ok-Some-Explained-clause-asked g c = λ r asks.
-    let asked : asked_of (map g.S.AsStr.text c.args.words.now) ≡ Some (Explained c.in-Ok-Some-Explained.options) = search rules in
-    run_of_asked _ (Explained c.in-Ok-Some-Explained.options) r asked asks.1 _ _ _ _ _ _ c.replay_explained.ensures.run
-
-pub returns-in-Ok-Some-Explained-clause-told : goal.returns-in-Ok-Some-Explained-clause-told
-returns-in-Ok-Some-Explained-clause-told g c = λ r asks some.
-    let asked : asked_of (map g.S.AsStr.text c.args.words.now) ≡ Some (Explained c.in-Ok-Some-Explained.options) = search rules in
-    told_of_asked _ (Explained c.in-Ok-Some-Explained.options) r asked asks.1 _ _ _ _ (c.replay_explained.ensures.told some)
-
-pub returns-in-Ok-Some-Explained-clause-unread : goal.returns-in-Ok-Some-Explained-clause-unread
-returns-in-Ok-Some-Explained-clause-unread g c = λ none.
-    let asked : asked_of (map g.S.AsStr.text c.args.words.now) ≡ Some (Explained c.in-Ok-Some-Explained.options) = search rules in
-    let good : faults_of_words (map g.S.AsStr.text c.args.words.now) ≡ [] = search rules in
-    absurd (none (c.in-Ok-Some-Explained.options, inr (good, asked)))
-
-pub returns-in-Ok-Some-Explained-clause-refused : goal.returns-in-Ok-Some-Explained-clause-refused
-returns-in-Ok-Some-Explained-clause-refused g c = λ none.
-    let asked : asked_of (map g.S.AsStr.text c.args.words.now) ≡ Some (Explained c.in-Ok-Some-Explained.options) = search rules in
-    let good : faults_of_words (map g.S.AsStr.text c.args.words.now) ≡ [] = search rules in
-    absurd (none.0 (Explained c.in-Ok-Some-Explained.options) (good, asked))
-
-pub random-requires-clause-plan : goal.random-requires-clause-plan
-random-requires-clause-plan g c =
-    let asked : asked_of (map g.S.AsStr.text c.args.words.now) ≡ Some (Random c.in-Ok-Some-Random.plan) = search rules in
-    IsPlan-asked (subcommand_of unibench (map g.S.AsStr.text c.args.words.now)) c.in-Ok-Some-Random.plan asked
-
-pub returns-in-Ok-Some-Random-clause-asked : goal.returns-in-Ok-Some-Random-clause-asked
-returns-in-Ok-Some-Random-clause-asked g c = λ r asks.
-    let asked : asked_of (map g.S.AsStr.text c.args.words.now) ≡ Some (Random c.in-Ok-Some-Random.plan) = search rules in
-    run_of_asked _ (Random c.in-Ok-Some-Random.plan) r asked asks.1 _ _ _ _ _ _ c.random.ensures.run
-
-pub returns-in-Ok-Some-Random-clause-told : goal.returns-in-Ok-Some-Random-clause-told
-returns-in-Ok-Some-Random-clause-told g c = λ r asks some.
-    let asked : asked_of (map g.S.AsStr.text c.args.words.now) ≡ Some (Random c.in-Ok-Some-Random.plan) = search rules in
-    told_of_asked _ (Random c.in-Ok-Some-Random.plan) r asked asks.1 _ _ _ _ (c.random.ensures.told some)
-
-pub returns-in-Ok-Some-Random-clause-refused : goal.returns-in-Ok-Some-Random-clause-refused
-returns-in-Ok-Some-Random-clause-refused g c = λ none.
-    let asked : asked_of (map g.S.AsStr.text c.args.words.now) ≡ Some (Random c.in-Ok-Some-Random.plan) = search rules in
-    let good : faults_of_words (map g.S.AsStr.text c.args.words.now) ≡ [] = search rules in
-    absurd (none.0 (Random c.in-Ok-Some-Random.plan) (good, asked))
-
-pub returns-in-Ok-Some-Threads-clause-told : goal.returns-in-Ok-Some-Threads-clause-told
-returns-in-Ok-Some-Threads-clause-told g c = λ r asks some.
-    let asked : asked_of (map g.S.AsStr.text c.args.words.now) ≡ Some (Threads c.in-Ok-Some-Threads.plan) = search rules in
-    told_of_asked _ (Threads c.in-Ok-Some-Threads.plan) r asked asks.1 _ _ _ _ (c.threads.ensures.told some)
-
-pub returns-in-Ok-Some-Threads-clause-refused : goal.returns-in-Ok-Some-Threads-clause-refused
-returns-in-Ok-Some-Threads-clause-refused g c = λ none.
-    let asked : asked_of (map g.S.AsStr.text c.args.words.now) ≡ Some (Threads c.in-Ok-Some-Threads.plan) = search rules in
-    let good : faults_of_words (map g.S.AsStr.text c.args.words.now) ≡ [] = search rules in
-    absurd (none.0 (Threads c.in-Ok-Some-Threads.plan) (good, asked))
-
-pub returns-in-Ok-Some-Language-clause-asked : goal.returns-in-Ok-Some-Language-clause-asked
-returns-in-Ok-Some-Language-clause-asked g c = λ r asks.
-    let asked : asked_of (map g.S.AsStr.text c.args.words.now) ≡ Some (Language c.in-Ok-Some-Language.object) = search rules in
-    run_of_asked _ (Language c.in-Ok-Some-Language.object) r asked asks.1 _ _ _ _ _ _ c.write_language.ensures.run
-
-pub returns-in-Ok-Some-Language-clause-told : goal.returns-in-Ok-Some-Language-clause-told
-returns-in-Ok-Some-Language-clause-told g c = λ r asks some.
-    let asked : asked_of (map g.S.AsStr.text c.args.words.now) ≡ Some (Language c.in-Ok-Some-Language.object) = search rules in
-    told_of_asked _ (Language c.in-Ok-Some-Language.object) r asked asks.1 _ _ _ _ (c.write_language.ensures.told some)
-
-pub returns-in-Ok-Some-Language-clause-refused : goal.returns-in-Ok-Some-Language-clause-refused
-returns-in-Ok-Some-Language-clause-refused g c = λ none.
-    let asked : asked_of (map g.S.AsStr.text c.args.words.now) ≡ Some (Language c.in-Ok-Some-Language.object) = search rules in
-    let good : faults_of_words (map g.S.AsStr.text c.args.words.now) ≡ [] = search rules in
-    absurd (none.0 (Language c.in-Ok-Some-Language.object) (good, asked))
+pub returns-in-Ok-Some-clause-refused : goal.returns-in-Ok-Some-clause-refused
+returns-in-Ok-Some-clause-refused g c = λ none.
+    absurd (none.0 c.in-Ok-Some.request (c.in-Ok-Some.ensures.asked.0, sym c.in-Ok-Some.ensures.asked.1 ∙ c.in-Ok-Some.field-0-is))
 
 pub returns-in-Err-clause-asked : goal.returns-in-Err-clause-asked
 returns-in-Err-clause-asked g c = λ r asks.
@@ -126,9 +58,3 @@ returns-in-Err-clause-refused g c = λ none.
     c.answer_words.ensures.refused
     (not_of_kind _ c.in-Err.error DisplayHelp has (λ e. cc) (λ among. none.1 (inl among)))
     (not_of_kind _ c.in-Err.error DisplayVersion has (λ e. cc) (λ among. none.1 (inr among)))
-
-pub threads-requires-clause-plan : goal.threads-requires-clause-plan
-threads-requires-clause-plan g c =
-    let asked : asked_of (map g.S.AsStr.text c.args.words.now) ≡ Some (Threads c.in-Ok-Some-Threads.plan) = search rules in
-    let plan : IsThreadsPlan c.in-Ok-Some-Threads.plan = IsThreadsPlan-asked (subcommand_of unibench (map g.S.AsStr.text c.args.words.now)) c.in-Ok-Some-Threads.plan asked in
-    search rules
