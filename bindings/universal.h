@@ -137,7 +137,7 @@ static inline const char *universal_strerror(uint32_t status) {
  * touches: one counter, or a value; or, where a map takes or loses a key, as many words as the object holds.
  *
  * What a call would be answered can be read without making it: universal_small_read stores nothing, so no other process copies a
- * state for it. It takes at most W + (1 + R)n + 2 steps, and may find that the state has changed meanwhile.
+ * state for it. It takes at most W + (1 + R)n + 3 steps, and may find that the state has changed meanwhile.
  * ------------------------------------------------------------------------------------------------------------------ */
 
 /* Opens a counter modulo 2^64, 0 at the start, for n processes. A call adds its number, and is answered the sum before.
