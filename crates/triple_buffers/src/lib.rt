@@ -8,8 +8,6 @@ mod open;
 mod party;
 mod rule;
 mod steps;
-#[cfg(test)]
-mod tests;
 
 pub use closed::ClosedBuffers;
 pub use layout::Layout;

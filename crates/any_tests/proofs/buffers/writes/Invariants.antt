@@ -1,5 +1,5 @@
 use Rattle.triple_buffers.specs.Parties.{IsPartyOf, parties_of}
-use Rattle.triple_buffers.proofs.tests.writes.Given as goal
+use Rattle.any_tests.proofs.buffers.writes.Given as goal
 use Rattle.std.specs.Prelude.{◌≡◌}
 
 abbrev pub invariant-loop-number : goal.invariant-loop-number

@@ -1,5 +1,5 @@
 use Rattle.triple_buffers.specs.Parties.{IsPartyOf, parties_of}
-use Rattle.triple_buffers.proofs.tests.takes.Given as goal
+use Rattle.any_tests.proofs.buffers.takes.Given as goal
 use Rattle.std.specs.Prelude.{◌≡◌}
 
 abbrev pub invariant-loop : goal.invariant-loop

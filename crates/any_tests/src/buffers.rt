@@ -2,15 +2,13 @@
 ghost use Rattle.std.specs.Prelude.{◌≡◌, IfOk, ⊤};
 ghost use Rattle.triple_buffers.specs.Parties.{IsPartyOf, number_of, parties_of, words_of};
 
-use crate::layout::Layout;
-use crate::party::Party;
-use crate::rule::{BufferRule, Buffers, TakePlay, WordPlay, WritePlay};
 use atomic_table::Split;
 use std::alloc::{AllocError, Global};
 use std::process::Abort;
 use std::test::Fail;
 use std::thread;
 use std::thread::Threads;
+use triple_buffers::{BufferRule, Buffers, Layout, Party, TakePlay, WordPlay, WritePlay};
 
 /// The rule that asks nothing and tells nothing.
 struct Free;
