@@ -13,7 +13,7 @@ use Rattle.uni_any.specs.declared.seat.AnySeat.{AnySeat}
 use Rattle.uni_any.specs.declared.seat.AnyShared.{AnyShared}
 use Rattle.uni_any.specs.declared.close.LastVersion.{LastVersion}
 use Rattle.uni_any.proofs.Seeing.{posted_facts, version_found}
-use Rattle.uni_any.proofs.Meaning.{acts_at, version_at}
+use Rattle.uni_any.proofs.Meaning.{acts_at, all_at, version_at}
 use Rattle.uni_any.proofs.Starting.{present_image}
 
 module _ {O I S R : Type 0} (meaning : O → Sequential S I R) (o : O) (n : ℕ) (c : Contents (Letter I S R) (View O I S R)) (shows : ShowsBoard meaning o n c) (id : ℕ) (v : View O I S R) (at : get_elem? c.views id ≡ some v) (alone : v.known.count ≡ 1) where
@@ -81,11 +81,15 @@ module _ {O I S R : Type 0} (meaning : O → Sequential S I R) (o : O) (n : ℕ)
           sym (present_image (meaning o) n g local is.sound.history is.sound.order (found_in (posted (local q) p) g.number) come.0 come.1)
           ∙ ap (λ (x : Version S R). x.image) (sym found_is)
 
-      pub closed_version : (process : ℕ) → p ≡ process → HasRunTo (meaning o) n (record { process = process; own = l.own; pending = pending_of l.stage } ∷ []) (found_in t (number_in word)).image
+      pub closed_version : (process : ℕ) → p ≡ process → HasRunTo (meaning o) n (record { process = process; own = l.own; pending = pending_of l.stage } ∷ []) (found_in t (number_in word))
       closed_version process same =
           let known : List (KnownCalls I R) = record { process = process; own = l.own; pending = pending_of l.stage } ∷ [] in
-          subst (λ (x : Image S R). HasRunTo (meaning o) n known x) image_is (
+          let found : Version S R = found_in t (number_in word) in
+          let number = ap (λ (x : Version S R). x.number) found_is in
+          let late : g.number ≤ found.number = (let come_late = come.1 in omega arith) in
+          subst (λ (x : Image S R). HasRunTo (meaning o) n known (record { number = found.number; image = x })) image_is (
             version_at meaning o n g local shows.1.1.0 c is known (told_calls process same),
+            all_at meaning o n g local shows.1.1.0 c is known (told_calls process same) found.number late,
             shows.1.1.2.0,
             shows.1.1.2.2 ∙ sym (acts_at meaning o n g local shows.1.1.0 c is known (told_calls process same)),
           )
@@ -128,8 +132,8 @@ module _ {O I S R : Type 0} (meaning : O → Sequential S I R) (shared : AnyShar
       ∙ ap (λ z. known_then z (slice_index_or (map told_by seat.seen.items) (process_in word) first)) (last.values (process_in word) inside ∙ ap (last.contents.buffers (process_in word)) (sym is.kept.place.first))
       ∙ ap (λ xs. known_then (last.contents.buffers (process_in word) (view_in seat).known.first) (slice_index_or xs (process_in word) first)) (sym is.kept.seen)
 
-  pub seat_told : HasRunTo (meaning o) n (known_calls seat ∷ []) (last_version result).image
-  seat_told = subst (λ k. HasRunTo (meaning o) n (known_calls seat ∷ []) (found_in (told_by result.news) k).image) (sym chosen)
+  pub seat_told : HasRunTo (meaning o) n (known_calls seat ∷ []) (last_version result)
+  seat_told = subst (λ k. HasRunTo (meaning o) n (known_calls seat ∷ []) (found_in (told_by result.news) k)) (sym chosen)
       (closed_version meaning o n last.contents last.kept (seat_of seat.party) (view_in seat) last.known alone word named (told_by result.news) letter_is seat.p (is.kept.place.first ∙ is.kept.number))
 
   pub seat_late : version_of seat ≤ (last_version result).number

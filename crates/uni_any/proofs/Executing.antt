@@ -4,7 +4,7 @@ use Rattle.atomic_table.proofs.Lists.{exchanged}
 use Rattle.uni_model.proofs.Each.{at_each, each_of, from_each}
 use Rattle.uni_any.proofs.Effects.{effects_are, present_is}
 use Rattle.uni_model.proofs.Executions.{kept_along, linearized_by}
-use Rattle.uni_model.specs.Executions.{IsLinearizedInTime}
+use Rattle.uni_model.specs.Executions.{IsLinearizedAtSteps}
 use Rattle.uni_any.specs.Execution.{CanTake, Execution, Moment, all_acts, last_moment, opened_moment, acts_of, after, effect_of, found_by, present_in, seeing}
 use Rattle.uni_any.specs.Execution.Next.{Bring, Fail, Lay, Learn, Post, Return, See, Start, View as Views}
 use Rattle.uni_any.proofs.Bringing.{brings_move}
@@ -216,7 +216,7 @@ module _ {O I S R : Type 0} (meaning : O → Sequential S I R) (o : O) (n : ℕ)
     pub all_acts_hold : (e : Execution object n (opened_moment object n)) → Holds (last_moment object n e) (all_acts object n e)
     all_acts_hold e = kept_along n (CanTake object n) (after object n) (acts_of object n) Holds step_holds [] opening_holds e
 
-    pub linearized : (e : Execution object n (opened_moment object n)) → IsLinearizedInTime object (all_acts object n e)
+    pub linearized : (e : Execution object n (opened_moment object n)) → IsLinearizedAtSteps object (all_acts object n e)
     linearized e =
         let h = all_acts_hold e in
         linearized_by object (all_acts object n e) h.board.atomic (subst (λ a. AcceptsAll object (at_start object.initial) a h.board.atomic) h.appended h.sound.history.accepted)

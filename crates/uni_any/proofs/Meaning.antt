@@ -1,6 +1,6 @@
 -- What the rule means.
 use Rattle.uni_any.proofs.Vocabulary.{[], applied_in, blank, HasCome, image_from, inl, inr, Invoked, length-replicate, Row, take, Version, ◌∷◌, Board, Contains, Contents, Image, IsOrdered, IsShown, IsTold, Letter, List, Local, None, Option, Returned, Sequential, Some, StandsIn, View, acts_by, announced_by, ap, arith, in_of, number_in, pending_of, refl, slice_get, subst, sym, word_of, ℕ, ◌+◌, ◌/◌, ◌<◌, ◌∙◌, ◌≡◌, ◌≤◌}
-use Rattle.std.proofs.Common.{cond, fold, ◌==◌}
+use Rattle.std.proofs.Common.{cond, fold, length, ◌==◌}
 use Rattle.uni_any.proofs.Batches.{contains_cons, counted_from, not_empty, state_from}
 use Rattle.uni_any.proofs.Opening.{copies}
 use Rattle.uni_model.proofs.Placed.{AgreesInOrder-holds}
@@ -82,6 +82,12 @@ module _ {O I S R : Type 0} (meaning : O → Sequential S I R) (o : O) (n : ℕ)
   pub acts_at : (known : List (KnownCalls I R)) (by : (its : KnownCalls I R) → Contains known its → IsToldBy c.views its) → (version_at known by).history.acts ≡ g.acts
   unfolding version_at linearized_at linearized_with
   acts_at known by = refl
+
+  -- all its calls are in the present version, and in each later one
+  pub all_at : (known : List (KnownCalls I R)) (by : (its : KnownCalls I R) → Contains known its → IsToldBy c.views its) (v : ℕ) → g.number ≤ v
+      → (version_at known by).history.calls_in_version v ≡ length (version_at known by).history.atomic.agreed
+  unfolding version_at linearized_at linearized_with
+  all_at known by v late = is.sound.order.counted v late
 
   pub come_at : (p k : ℕ) (call : Returned I R) → p < n → slice_get (local p).own k ≡ Some call → call.version ≤ number_in (c.words 0)
   come_at p k call inside at =

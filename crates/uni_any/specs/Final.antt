@@ -30,7 +30,8 @@ pub record KnownCalls (I R : Type 0) : Type 0 where
 --   accepted, completed: the object takes its acts, from the start on; so what is observed of it is linearizable
 --   state_is, inside: the state is that after its calls, each of which is one of n processes
 --   own_is: each known process makes its known calls, with their replies, and its pending one, and no others
---   calls_in_version, rising: so many of its first calls are in a version, all where there are fewer
+--   calls_in_version, rising: of the calls, in the order in which they took effect, the first calls_in_version v are in
+--     version v, or all where there are fewer; a later version has no fewer
 --   stand: each known call that has returned comes after those of one version, and is among those of another, as its
 --     seat was told
 pub record HasHistory {S I R : Type 0} (object : Sequential S I R) (n : ℕ) (known : List (KnownCalls I R))

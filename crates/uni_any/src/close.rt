@@ -61,16 +61,17 @@ impl<O: SeqObject> AnyShared<O> {
     ///
     /// The calls of the seat's process, with the replies that they were given, are those of a history that the atomic
     /// object accepts; where one is pending, it has begun, and may have taken effect. The version has the state after
-    /// the calls of this history, in the order in which they took effect. In that order each of them that has returned
-    /// comes after all calls of the version that its seat had, and is among those of its own version. The number of the
-    /// version is no less than that of the version that the seat has. The history is made by the steps of an execution.
+    /// the calls of this history, in the order in which they took effect, and its number is that of a version which all
+    /// of them are in. In that order each of them that has returned comes after all calls of the version that its seat
+    /// had, and is among those of its own version. The number of the version is no less than that of the version that
+    /// the seat has. The history is made by the steps of an execution.
     ///
     /// The rows say how many calls of each process have taken effect in that history. The history is chosen by the
     /// clause: that its other calls were made, and that the version is the last one, is in no clause. Tests see it.
     pub fn close_with(self, seat: AnySeat<O>) -> LastVersionOf<O>
         requires seat { IsSeatOf self seat }
         ensures told { HasRunTo (O.sequential (object_of self)) (processes_of self)
-            (known_calls seat ∷ []) (last_version result).image }
+            (known_calls seat ∷ []) (last_version result) }
         ensures late { version_of seat ≤ (last_version result).number }
     {
         let AnyShared { buffers } = self;

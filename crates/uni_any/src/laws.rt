@@ -1,4 +1,10 @@
-//! What the rule means, each law the contract of a function with an empty body.
+//! What the rule means, and what each step appends to the history; each law is the contract of a function with an empty
+//! body.
+//!
+//! `c` is what there is: the word S (`c.words 0`), the buffers, and the view of each seat. `g` is the board, which no word
+//! tells; process p stands at `local p`, and has the seat `seat_of p`. `Moves` says what a step does, and `v.known.count ≡
+//! 1` that the seat is that of one process. `with_word f` puts `f` of the word that is found into S; `with_letter p r x`
+//! puts x into the buffer from p to r. `either (found == s) x found` is x where found is s, and else found.
 ghost use Rattle.std.specs.Prelude.{◌≡◌, ◌≢◌, ◌+◌, ◌<◌, ◌≤◌, ◌==◌, [], ◌∷◌};
 ghost use Rattle.std.specs.Prelude.{◌++◌, Contains, List, None, Some, ℕ};
 ghost use Rattle.std.specs.Prelude.{map, slice_get};
@@ -14,7 +20,7 @@ ghost use Rattle.uni_any.specs.News.{told_by};
 ghost use Rattle.uni_any.specs.Plays.{HasBrought, HasLaid, HasLearned, HasPosted, HasSeen, HasStarted, HasViewed};
 ghost use Rattle.uni_any.specs.Plays.{IsLaying, IsPending, IsPosting, local_of, stage_of};
 ghost use Rattle.uni_any.specs.Execution.{Execution, KeepsOrder, all_acts, last_moment, opened_moment};
-ghost use Rattle.uni_model.specs.Executions.{IsLinearizedInTime};
+ghost use Rattle.uni_model.specs.Executions.{IsLinearizedAtSteps};
 ghost use Rattle.uni_any.specs.Progress.{KeepsBound, NeverBlocks};
 ghost use Rattle.uni_any.specs.Laws.{IsToldBy, Moves, returned_by, with_letter, with_word};
 ghost use Rattle.uni_any.specs.Shown.{IsShown, Letter};
@@ -25,9 +31,9 @@ ghost use Rattle.uni_any.specs.declared.view.View.{View};
 
 use seq_object::SeqObject;
 
-/// Wherever words and buffers keep their rule, the calls that seats tell of, of all processes, of some, or of none,
-/// with the replies that they were given, and the pending ones are those of one history that the atomic object accepts;
-/// so what is observed of them is linearizable. The present version has the state after the calls of that history.
+/// Wherever words and buffers keep their rule, take the calls that any of the seats tell of. One history that the atomic
+/// object accepts has just these calls of their processes, with the replies that they were given, and with the pending
+/// ones; so what is observed of it is linearizable. The present version has the state after the calls of that history.
 pub fn shown_is_linearizable<O: SeqObject>()
     ensures { (o : O) (n : ℕ) (g : Board O.Inv O.State O.Resp)
         (local : ℕ → Local O.Inv O.State O.Resp) (seat_of : ℕ → ℕ)
@@ -48,7 +54,8 @@ pub fn returned_has_come<O: SeqObject>()
         → slice_get (local p).own k ≡ Some call → call.version ≤ number_in (c.words 0) }
 {}
 
-/// Wherever words and buffers keep their rule, a call that was announced two versions ago is in.
+/// Helping (Herlihy 1993): wherever words and buffers keep their rule, a call that all were told of at least two versions
+/// ago is in the present version. So an attempt fails at most twice.
 pub fn announced_is_in_soon<O: SeqObject>()
     ensures { (o : O) (n : ℕ) (g : Board O.Inv O.State O.Resp)
         (local : ℕ → Local O.Inv O.State O.Resp) (seat_of : ℕ → ℕ)
@@ -118,13 +125,13 @@ pub fn other_steps_append_nothing<O: SeqObject>()
 {}
 
 /// Every execution from the opening, in which the processes take their steps on words and buffers in any order, is
-/// linearizable in real time: each call takes effect at one of the steps from the first write of its announcement to
-/// its last step. And strongly: it is so in the order of these steps, which only grows where the execution goes on
+/// linearizable, and its linearization points are its own steps: each call takes effect at one of the steps from the
+/// first write of its announcement to its last step. And strongly: it is so in the order of these steps, which only grows where the execution goes on
 /// (`strongly`, true by how acts are made).
 pub fn every_execution_is_linearizable<O: SeqObject>()
     ensures linearized { (o : O) (n : ℕ) → 1 ≤ n → n ≤ 64
         → (e : Execution {R = O.Resp} (O.sequential o) n (opened_moment (O.sequential o) n))
-        → IsLinearizedInTime (O.sequential o) (all_acts (O.sequential o) n e) }
+        → IsLinearizedAtSteps (O.sequential o) (all_acts (O.sequential o) n e) }
     ensures strongly { (o : O) (n : ℕ)
         → (e : Execution {R = O.Resp} (O.sequential o) n (opened_moment (O.sequential o) n))
         (more : Execution (O.sequential o) n (last_moment (O.sequential o) n e))

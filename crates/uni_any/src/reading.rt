@@ -70,8 +70,8 @@ impl<O: SeqObject> AnySeat<O> {
         Ok(self.version(shared).number)
     }
 
-    /// The version that `refresh` found last; the start, where it found none. After a call of the seat it may be a
-    /// later one, so ask before.
+    /// The version that `refresh` or `follows` found last; the start, where neither has found one (in no clause). After a
+    /// call of the seat it may be a later one, so ask before.
     pub fn version(&self, shared: &AnyShared<O>) -> &BlockOf<O>
         requires seat { IsSeatOf shared.now self.now }
         ensures { version_as result.now ≡ version_seen O.sequential shared.now self.now }

@@ -66,11 +66,12 @@ pub fn counts_fit(n: u64, k: u64, seq: u64) -> Result<(), OpenFault>
 }
 
 impl<O: SeqObject> World<O> {
-    /// A world of `n` processes over the object's start state, from number 1; each process can make
-    /// `k` calls in an era.
+    /// A world of `n` processes over the object's start state. The first cell of its list, the anchor, has the number 1;
+    /// each process can make `k` calls in an era, which lasts until a trim cuts the list down to its last cell.
     ///
     /// Errors, in this order: `BadCount` where `n` isn't from 1 to 64; `BadRow` where `k` isn't from 1
-    /// to 4096; `SeqFull` never, since 1 is low enough; `Memory`. After each the object is dropped.
+    /// to 4096; `SeqFull` never, since 1 is low enough; `Memory`, where memory was refused (in no clause: by the clauses
+    /// it may come wherever no other error does). After each the object is dropped.
     pub fn open(alloc: Global, object: O, n: u64, k: u64) -> Result<World<O>, OpenFault>
         ensures refused { IfErr result (IsOpenRefused n k 1) }
         ensures allowed { OnOk result (CanOpen n k 1) }
@@ -81,10 +82,10 @@ impl<O: SeqObject> World<O> {
         World::open_from(alloc, object, n, k, 1)
     }
 
-    /// What `open` does, from number `seq`, which is at least 1.
+    /// What `open` does, with an anchor of number `seq`, which is at least 1.
     ///
     /// Errors, in this order: `BadCount` where `n` isn't from 1 to 64; `BadRow` where `k` isn't from 1
-    /// to 4096; `SeqFull` where `seq + n * k` passes 2^48 - 1; `Memory`. After each the object is
+    /// to 4096; `SeqFull` where `seq + n * k` passes 2^48 - 1; `Memory`, as of `open`. After each the object is
     /// dropped.
     pub fn open_from(
         alloc: Global,
@@ -106,11 +107,11 @@ impl<O: SeqObject> World<O> {
         World::open_at(alloc, object, n, k, state, seq)
     }
 
-    /// A world of `n` processes over a state, from number `seq`, which is at least 1; each process can
+    /// A world of `n` processes over a state, with an anchor of number `seq`, which is at least 1; each process can
     /// make `k` calls in an era.
     ///
     /// Errors, in this order: `BadCount` where `n` isn't from 1 to 64; `BadRow` where `k` isn't from 1
-    /// to 4096; `SeqFull` where `seq + n * k` passes 2^48 - 1; `Memory`. After each the object and the
+    /// to 4096; `SeqFull` where `seq + n * k` passes 2^48 - 1; `Memory`, as of `open`. After each the object and the
     /// state are dropped.
     pub fn open_at(
         alloc: Global,
@@ -199,8 +200,8 @@ impl<O: SeqObject> World<O> {
     ///
     /// Errors, in this order: `BadProcess` where there is no process `p`; `Idle(p)` where it has no
     /// call pending; `Memory`, only at the step that decides the state and the response of a cell
-    /// that has none yet, where the object's apply was refused memory. After each nothing is changed,
-    /// and the step may be asked again.
+    /// that has none yet, where the object's apply was refused memory (that it was is in no clause: by the clauses
+    /// `Memory` may come at each such step). After each nothing is changed, and the step may be asked again.
     pub fn step(&mut self, alloc: Global, p: u64) -> Result<Progress<O::Resp>, StepFault>
         ensures refused { IfErr result (IsStepRefused (world_of self.old) p) }
         ensures allowed { OnOk result (CanGo (world_of self.old) p) }

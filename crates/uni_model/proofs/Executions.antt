@@ -5,7 +5,7 @@ use Rattle.seq_object.specs.Sequential.{Sequential}
 use Rattle.uni_model.proofs.Placed.{AgreesInOrder-holds}
 use Rattle.uni_model.proofs.Points.{agreed-along, points-append}
 use Rattle.uni_model.specs.AtomicObject.{AcceptsAll, Act, Atomic, at_start, points}
-use Rattle.uni_model.specs.Executions.{Execution, IsLinearizedInTime, KeepsOrder, goes_on, all_acts, last_moment}
+use Rattle.uni_model.specs.Executions.{Execution, IsLinearizedAtSteps, KeepsOrder, goes_on, all_acts, last_moment}
 use Rattle.uni_model.specs.Executions.Execution.{Ends, Takes}
 use Rattle.uni_model.specs.Linearizable.{observed}
 
@@ -40,7 +40,7 @@ module _ {M : Type 0} (n : ℕ) (Step : (m : M) (p : ℕ) → Type 0) (after : (
   keeps_order acts e more = ap points (all_acts-goes_on acts e more) ∙ points-append (all_acts n Step after acts e) (all_acts n Step after acts more)
 
 -- acts that the atomic object takes
-pub linearized_by : {S I R : Type 0} (object : Sequential S I R) (acts : List (Act I R)) (atomic : Atomic S I) → AcceptsAll object (at_start object.initial) acts atomic → IsLinearizedInTime object acts
+pub linearized_by : {S I R : Type 0} (object : Sequential S I R) (acts : List (Act I R)) (atomic : Atomic S I) → AcceptsAll object (at_start object.initial) acts atomic → IsLinearizedAtSteps object acts
 linearized_by object acts atomic accepted =
     let agreed : atomic.agreed ≡ points acts = agreed-along object (at_start object.initial) atomic acts accepted in
     let both = (AgreesInOrder-holds object object.initial (observed acts) (points acts)).0 (acts, atomic, refl, accepted, agreed) in

@@ -29,7 +29,7 @@ module _ {M : Type 0} (n : ℕ) (Step : (m : M) (p : ℕ) → Type 0) (after : (
   all_acts acts (Takes {m = m} p inside step rest) = acts m p step ++ all_acts acts rest
 
   -- The order in which calls took effect only grows where an execution goes on. That is so of any acts, by how `all_acts`
-  -- is made; the weight lies on `IsLinearizedInTime`, which says that this same order linearizes each execution. Both
+  -- is made; the weight lies on `IsLinearizedAtSteps`, which says that this same order linearizes each execution. Both
   -- together are strong linearizability (Golab, Higham and Woelfel 2011).
   abbrev pub KeepsOrder : {I R : Type 0} → (acts : (m : M) (p : ℕ) → Step m p → List (Act I R)) → {m : M} (e : Execution m)
       → Execution (last_moment e) → Type 0
@@ -46,7 +46,7 @@ module _ {S I R : Type 0} (object : Sequential S I R) where
   -- effect at a step from the one that invokes it to the one that responds, and its reply is the object's at its place.
   -- And what is observed, the invocations and the replies alone, is linearizable in that order in the words of Herlihy
   -- and Wing: with the order of real time.
-  pub record IsLinearizedInTime (acts : List (Act I R)) : Type 0 where
+  pub record IsLinearizedAtSteps (acts : List (Act I R)) : Type 0 where
     pub atomic : Atomic S I
     pub accepted : AcceptsAll object (at_start object.initial) acts atomic
     pub agreed : atomic.agreed ≡ points acts

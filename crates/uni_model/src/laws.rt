@@ -26,8 +26,8 @@ ghost use Rattle.uni_model.specs.Laws.{LinksSoon, HasFloorOnceAnnounced};
 
 use seq_object::SeqObject;
 
-/// The main law. For every object, every number of processes and every list of accepted events, with
-/// the ends of eras among them: the calls and responses are a linearizable history (Herlihy and Wing
+/// The main law. For every object, every number of processes, every start state, every first number of at least 1, and
+/// every list of events accepted from that opening, with the ends of eras among them: the calls and responses are a linearizable history (Herlihy and Wing
 /// 1990), with the joined log as its linearization; after each prefix of the events a process whose
 /// call is pending can step, and a call has returned at the latest at its process's (10m + 12)th step
 /// since its begin, in at most m + 1 turns, for the m processes that there are when it begins (Herlihy

@@ -93,7 +93,8 @@ pub fn begin_held<O: SeqObject>(
 /// then.
 ///
 /// Errors, in this order: `NotIts` where the call isn't its process's pending one, or there is no such
-/// process; `Memory` only where the object's apply was refused it. After each the record is as it was.
+/// process; `Memory` only at a step that decides a state, where the object's apply was refused it (that it was is in no
+/// clause). After each the record is as it was.
 pub fn step_held<O: SeqObject>(
     alloc: Global,
     recorded: &mut Recorded<O>,

@@ -33,7 +33,9 @@ impl<O: SeqObject> Model for Shared<O> {
 
 impl<O: SeqObject> Shared<O> {
     /// A record of `n` processes over the object's start state under a lock, and their seats in order;
-    /// each process can make `k` calls in an era, and there can be `h` events.
+    /// each process can make `k` calls in an era, which lasts until the next trim, and there can be `h` events. Of the
+    /// record itself no clause says anything, since a lock tells nothing of what is under it. The clauses tell when
+    /// opening can succeed, how many processes there are, and the seats.
     ///
     /// Errors: those of `Recorded::open`; `Memory` too where the list of the seats was refused it. After
     /// each the object is dropped.

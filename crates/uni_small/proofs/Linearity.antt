@@ -1,7 +1,7 @@
 -- Every execution from the opening is linearizable.
 use Rattle.uni_small.proofs.Vocabulary.{AcceptsAll, IsSteady, List, Meaning, Sequential, Sizes, [], at_start, opened, refl, subst, ℕ}
 use Rattle.uni_model.proofs.Executions.{linearized_by}
-use Rattle.uni_model.specs.Executions.{IsLinearizedInTime}
+use Rattle.uni_model.specs.Executions.{IsLinearizedAtSteps}
 use Rattle.uni_small.specs.Board.{AreSizesOf}
 use Rattle.uni_small.specs.Execution.{Execution, last_moment, all_acts, opened_moment}
 use Rattle.uni_small.proofs.Executing.{Holds, all_acts_hold}
@@ -23,7 +23,7 @@ module _ {O : Type 0} (meaning : O → Meaning) (o : O) (sizes : Sizes) (fits : 
   pub end_holds : (e : Execution object sizes (opened_moment object sizes)) → Holds meaning o sizes (last_moment object sizes e) (all_acts object sizes e)
   end_holds e = all_acts_hold meaning o sizes fits.1 fits.0.1 steady [] opening_holds e
 
-  pub linearized : (e : Execution object sizes (opened_moment object sizes)) → IsLinearizedInTime object (all_acts object sizes e)
+  pub linearized : (e : Execution object sizes (opened_moment object sizes)) → IsLinearizedAtSteps object (all_acts object sizes e)
   linearized e =
       let h = end_holds e in
       linearized_by object (all_acts object sizes e) h.board.atomic (subst (λ a. AcceptsAll object (at_start object.initial) a h.board.atomic) h.appended h.sound.board.history)

@@ -15,7 +15,8 @@ use Rattle.uni_small.specs.Order.{StandsIn}
 --   accepted, linearized: the object takes its acts, from the start on; so what is observed of it is linearizable
 --   state, inside: the state is that after its calls, each of which is one of n processes
 --   own: each known process makes its known calls, with their replies, and no others
---   calls_in_version, rising: so many of its first calls are in a version, all where there are fewer
+--   calls_in_version, rising: of the calls, in the order in which they took effect, the first calls_in_version v are in
+--     version v, or all where there are fewer; a later version has no fewer
 --   stand: each known call comes after those of one version, and is among those of another, as its seat was told
 pub record HasHistory (object : Sequential (List ℕ) (List ℕ) (List ℕ)) (n : ℕ) (known : List ProcessReturned) (words : List ℕ) : Type 0 where
   pub acts : List (Act (List ℕ) (List ℕ))

@@ -27,7 +27,7 @@ ghost use Rattle.uni_small.specs.Standing.{IsWritten};
 ghost use Rattle.uni_small.specs.Standing.{IsAnnounced, IsDirect, local_of};
 ghost use mathlib.Core.Option.{some};
 ghost use Rattle.uni_small.specs.declared.seat.Seen.{Seen};
-ghost use Rattle.uni_model.specs.Executions.{IsLinearizedInTime};
+ghost use Rattle.uni_model.specs.Executions.{IsLinearizedAtSteps};
 ghost use Rattle.uni_small.specs.Execution.{Execution, KeepsOrder, all_acts, last_moment, opened_moment};
 ghost use Rattle.uni_small.specs.Progress.{KeepsBound, NeverBlocks};
 ghost use Rattle.uni_small.specs.Resting.{LeavesNoTrace};
@@ -174,15 +174,15 @@ pub fn returned_has_come<O: SmallObject>()
         → call.version ≤ version_in (slice_index s.words 0) }
 {}
 
-/// Every execution from the opening, in which the processes take their word steps in any order, is linearizable in real
-/// time: each call takes effect at one of the steps from the one that invokes it to the last one of the call. An
-/// announced call is invoked by its announcement, a direct one by its exchange: both later than where the code begins
+/// Every execution from the opening, in which the processes take their word steps in any order, is linearizable, and its
+/// linearization points are its own steps: each call takes effect at one of the steps from the one that invokes it to the
+/// last one of the call. An announced call is invoked by its announcement, a direct one by its exchange: both later than where the code begins
 /// it, so that more calls precede it than in the code, and the law is the stronger. And strongly: it is so in the order
 /// of these steps, which only grows where the execution goes on (`strongly`, true by how acts are made).
 pub fn every_execution_is_linearizable<O: SmallObject>()
     ensures linearized { (o : O) (sizes : Sizes) → AreSizesOf (O.meaning o) sizes
         → (e : Execution (O.meaning o).object sizes (opened_moment (O.meaning o).object sizes))
-        → IsLinearizedInTime (O.meaning o).object (all_acts (O.meaning o).object sizes e) }
+        → IsLinearizedAtSteps (O.meaning o).object (all_acts (O.meaning o).object sizes e) }
     ensures strongly { (o : O) (sizes : Sizes)
         → (e : Execution (O.meaning o).object sizes (opened_moment (O.meaning o).object sizes))
         (more : Execution (O.meaning o).object sizes (last_moment (O.meaning o).object sizes e))

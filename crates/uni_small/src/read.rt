@@ -5,7 +5,7 @@ ghost use Rattle.uni_small.specs.Belongs.{IsSeatOf, calls_made, calls_of};
 ghost use Rattle.uni_small.specs.Kept.{AreBuffers, HasRoom, IsKept, image_in};
 ghost use Rattle.uni_small.specs.Belongs.{invocation_width_of, object_of, process_of, processes_of, reply_width_of};
 ghost use Rattle.uni_small.specs.Belongs.{sizes_of, state_read, taken_calls, version_of, word_steps_of};
-ghost use Rattle.uni_small.specs.Final.{IsAnswerAt, IsVersion};
+ghost use Rattle.uni_small.specs.Final.{IsVersion};
 ghost use Rattle.uni_small.specs.Image.{AreWidths, IsReached, buffer_words};
 ghost use Rattle.uni_small.specs.Invariant.{most_calls};
 ghost use Rattle.uni_small.specs.Plays.{stage_of};
@@ -171,8 +171,9 @@ impl<O: SmallObject> SmallSeat<O> {
     }
 
     /// What the object would answer to this invocation at a version of the state: the reply is written, and the answer
-    /// is that version's number. No call is made: the seat's calls stay as they are, whatever the invocation is. One
-    /// that only asks, as for the value of a key of a map, needs no call but this, and no other process waits for it.
+    /// is that version's number, whose state `state` shows (`told`, `answer`). No call is made: the seat's calls stay as
+    /// they are, whatever the invocation is. One that only asks, as for the value of a key of a map, needs no call but
+    /// this, and no other process waits for it.
     ///
     /// The answer is `None` where another version came meanwhile; the reply stays as it was then. What the version is,
     /// and what the seat follows, how many steps it takes and the error are as `refresh` has them, and so is what is in
@@ -191,8 +192,10 @@ impl<O: SmallObject> SmallSeat<O> {
         ensures unchanged { OnErr result ((self.new ≡ self.old) × (reply.new ≡ reply.old)) }
         ensures calls { (calls_of self.new ≡ calls_of self.old) × (taken_calls self.new ≡ taken_calls self.old) }
         ensures told { IfOk result (λ found. IfSome found (λ version.
-            IsAnswerAt (O.meaning (object_of shared.now)).object (processes_of shared.now) (calls_of self.new ∷ [])
-            version invocation.now reply.new)) }
+            IsVersion (O.meaning (object_of shared.now)).object (processes_of shared.now) (calls_of self.new ∷ [])
+            version (state_read self.new))) }
+        ensures answer { IfOk result (λ found. IsSome found → reply.new
+            ≡ (O.meaning (object_of shared.now)).object.answer (state_read self.new) invocation.now) }
         ensures version { IfOk result (λ found. IfSome found (λ version. version_of self.new ≡ version)) }
         ensures later { version_of self.old ≤ version_of self.new }
         ensures none { IfOk result (λ found. found ≡ None

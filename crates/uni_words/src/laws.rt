@@ -15,7 +15,7 @@ ghost use Rattle.uni_words.specs.declared.view.View.{View};
 
 use crate::object::WordObject;
 
-/// The table that is made shows the opened world, to which a run with no events leads.
+/// Where the start state is below 2^31, the table that is made shows the opened world, to which a run with no events leads.
 pub fn opening_shows<O: WordObject>()
     ensures { (object : O) (n row : ℕ) → OpeningShows (O.sequential object) n row }
 {}
@@ -34,8 +34,8 @@ pub fn join_keeps<O: WordObject>()
         JoinKeeps (O.sequential object) row w s id v other x }
 {}
 
-/// A call that has returned has a number. That to ask about it is answered yes is in a clause, `known` of `follows`, of
-/// calls alone that the seat made or took in.
+/// A call that has returned has a number. A clause says that `follows` answers `true` only of the calls that the seat made
+/// or took in (`known`).
 pub fn returned_is_there<O: WordObject>()
     ensures { (object : O) (row : ℕ) (w : WorldOf ℕ ℕ ℕ) (s : State ℕ View) (call : CallId) (word : ℕ) →
         ReturnedIsThere (O.sequential object) row w s call word }
@@ -55,8 +55,8 @@ pub fn store_begins<O: WordObject>()
         StoreBegins (O.sequential object) row w s id v word inv }
 {}
 
-/// A word step at the place of the stage where a call stands is the step of the world's process,
-/// as long as the call goes on after it.
+/// A word step at the place of the stage where a call stands is the step of the world's process, where the call goes on
+/// after it, and where the word is left as one that reads as what that step leaves, with no state past 31 bits.
 pub fn word_step_moves<O: WordObject>()
     ensures { (object : O) (row : ℕ) (w : WorldOf ℕ ℕ ℕ) (s : State ℕ View) (id : ℕ) (v : Known)
         (c : Pending) (next : Stage) (word x : ℕ) →
@@ -93,7 +93,7 @@ pub fn own_calls_rise<O: WordObject>()
 
 /// Of an object whose states and replies stay below 2^31 (`IsNarrow`, which each `WordObject`'s contract asks): every
 /// execution from the opening, in which the seats take their word steps in any order, are cut and are taken in, is
-/// linearizable in real time; its events are those of a run of the construction. And strongly: one function gives each
+/// linearizable; its events are those of a run of the construction. And strongly: one function gives each
 /// its order, and where an execution goes on, only further calls come behind. The acts of a process in this history are
 /// what its seat has been told by then.
 pub fn every_execution_is_linearizable<O: WordObject>()

@@ -15,7 +15,7 @@ use Rattle.uni_any.specs.Final.{KnownCalls}
 use Rattle.uni_any.specs.Seats.{IsSeatOf, own_calls, pending_call, process_of}
 use Rattle.uni_any.specs.declared.seat.AnySeat.{AnySeat}
 use Rattle.uni_any.specs.declared.seat.AnyShared.{AnyShared}
-use Rattle.uni_any.specs.declared.view.Image.{Image}
+use Rattle.uni_any.specs.declared.view.Version.{Version}
 use Rattle.uni_any.specs.declared.view.Returned.{Returned}
 use Rattle.unibench_run.specs.Draws.{asked_in, drawn_by, seed_of}
 use Rattle.unibench_run.specs.declared.request.ThreadsObject.{ThreadsObject}
@@ -32,10 +32,10 @@ pub record HasClosed {S I R : Type 0} (object : Sequential S I R) (text : S → 
     (lists : List (List (I × InPlace R))) : Type 0 where
   pub reached : S
   pub replayed : IsReplayed object itself itself lists reached
-  pub last : Image (CountedState S) (InPlace R)
+  pub last : Version (CountedState S) (InPlace R)
   pub run : HasRunTo (counted object) threads (closing ∷ []) last
-  pub all : last.state.calls ≡ calls
-  pub state : text last.state.state ≡ text reached
+  pub all : last.image.state.calls ≡ calls
+  pub state : text last.image.state.state ≡ text reached
 
 -- A run of so many threads, each of which made so many calls, those of process p as they are drawn from its seed. The p-th list is what
 -- process p was told.

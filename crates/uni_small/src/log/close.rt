@@ -60,8 +60,9 @@ impl<O: SmallObject> SmallShared<O> {
     }
 
     /// Closes the object with no seat, and writes its state: that after a list of calls, in the order in which
-    /// they took effect. Which calls the seats made is not said. All seats may be dropped; a call that a seat
-    /// was in when its thread died has taken effect whole, or not at all.
+    /// they took effect. Which calls the seats made is not said, nor that the state is the last one: the start state
+    /// would meet the clauses. All seats may be dropped. A call that a seat was in when its thread died has taken effect
+    /// whole, or not at all: `told` has no half call, since the state is that after whole ones.
     pub fn close(self, state: &mut [u64])
         requires wide { length state.old ≡ width_of self }
         ensures told { HasHistory (O.meaning (object_of self)).object (processes_of self) [] state.new }
@@ -80,6 +81,10 @@ impl<O: SmallObject> SmallShared<O> {
     /// that they were given, are those of a history that the atomic object accepts. The state is that
     /// after the calls of this history, in the order in which they took effect. In that order each known call
     /// comes after all calls of the version that its seat had followed, and is among those of its own version.
+    ///
+    /// The history is made by the word steps of an execution from the opening (`ran`). It is chosen by the clauses: that
+    /// its other calls were made, and that the state is the one which the word S names at the end, is in no clause. A
+    /// body that wrote the start state, for a seat without calls that has taken in none, would meet them.
     pub fn close_with(self, seat: SmallSeat<O>, state: &mut [u64])
         requires seat { IsSeatOf self seat }
         requires wide { length state.old ≡ width_of self }
@@ -94,7 +99,7 @@ impl<O: SmallObject> SmallShared<O> {
     }
 
     /// Closes the object with these seats, of all processes, of some, or of none: what `close_with` tells of one
-    /// seat's calls is told of each one's. It takes no memory, and a load for each seat but one.
+    /// seat's calls is told of each one's. It takes no memory, and a load for each seat but one (in no clause).
     pub fn close_all(self, seats: Vec<SmallSeat<O>>, state: &mut [u64])
         requires seats { All (IsSeatOf self) seats.items }
         requires wide { length state.old ≡ width_of self }
@@ -115,9 +120,9 @@ impl<O: SmallObject> SmallShared<O> {
 }
 
 impl<O: SmallObject> SmallSeat<O> {
-    /// Takes in another seat of this object: this seat knows its calls then. It costs one load, which the seat
-    /// doesn't count among its word steps. For this seat's later calls to come after the other's, follow the
-    /// version of its last call.
+    /// Takes in another seat of this object: this seat knows its calls then. It costs one load (in no clause), which
+    /// the seat doesn't count among its word steps (`steps`). For this seat's later calls to come after the other's,
+    /// follow the version of its last call.
     pub fn take_in(&mut self, shared: &SmallShared<O>, other: SmallSeat<O>)
         requires seats { IsSeatOf shared.now self.old × IsSeatOf shared.now other }
         ensures kept { IsSeatOf shared.now self.new × (calls_of self.new ≡ calls_of self.old) }

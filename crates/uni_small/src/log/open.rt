@@ -123,8 +123,8 @@ impl<O: SmallObject> SmallShared<O> {
     /// a call.
     ///
     /// Errors, in this order: `BadCount` where `n` isn't from 1 to 64; `BadWidth` where a state, an
-    /// invocation or a reply has more than 65536 words, or a reply has none; `Memory`. After each the object is
-    /// dropped.
+    /// invocation or a reply has more than 65536 words, or a reply has none; `Memory`, where memory was refused (in no
+    /// clause: by the clauses it may come wherever no other error does). After each the object is dropped.
     pub fn open(
         alloc: Global,
         object: O,

@@ -29,7 +29,7 @@ impl<O: WordObject> WordLog<O> {
     /// after another, and each responds with the reply that the seat was given; so does each process
     /// whose seat was taken in, whose calls in the log are its own too.
     ///
-    /// In that run all was so that the seat has seen, itself or by seats that it took in. So each call
+    /// All that the seat has seen, itself or by seats that it took in, was so in that run. So each call
     /// that a seat made after it had asked about another one, and was answered yes, stands in the log
     /// after that one. Of a seat that asked and was dropped no clause says so: the rule of the table
     /// keeps what it saw, but closing hands out the view of one seat alone.

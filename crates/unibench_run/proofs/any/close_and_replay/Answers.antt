@@ -11,12 +11,12 @@ returns-clause-closed g c =
     let seat = known_calls c.args.seat ∷ [] in
     let object = g.O.SeqObject.sequential c.args.object.now in
     let same = c.in_ok-is_last.ensures.0 c.if-not-branch.false in
-    let run = subst (λ o. HasRunTo (counted (g.O.SeqObject.sequential o)) n seat (last_version c.close_with-closed.result).image) c.requires.object c.close_with-closed.ensures.told in
+    let run = subst (λ o. HasRunTo (counted (g.O.SeqObject.sequential o)) n seat (last_version c.close_with-closed.result)) c.requires.object c.close_with-closed.ensures.told in
     record {
       reached = c.in_ok-reached.reached;
       replayed = c.in_ok-reached.ensures.agrees;
-      last = (version_as c.block-last.result.now).image;
-      run = subst (λ v. HasRunTo (counted object) n seat v.image) (sym c.block-last.ensures) run;
+      last = version_as c.block-last.result.now;
+      run = subst (λ v. HasRunTo (counted object) n seat v) (sym c.block-last.ensures) run;
       all = same.0;
       state = same.1;
     }
