@@ -2,7 +2,6 @@
 use Rattle.std.specs.Prelude.{◌≡◌, ℕ, List, length}
 use Rattle.seq_object.specs.Sequential.{Sequential}
 use Rattle.uni_any.specs.Final.{IsKnownVersion, KnownCalls}
-use Rattle.uni_any.specs.declared.view.Image.{Image}
 use Rattle.uni_any.specs.Execution.{Execution, all_acts, opened_moment}
 use Rattle.uni_any.specs.News.{found_in, told_by}
 use Rattle.uni_any.specs.declared.close.LastVersion.{LastVersion}

@@ -1,5 +1,5 @@
 -- The values of a function below a number, as a list; elements of lists that are appended; and what holds at each number.
-use Rattle.uni_model.proofs.Vocabulary.{List, [], ap, arith, inl, inr, length, refl, set_at, subst, suc, sym, zero, ℕ, ◌+◌, ◌++◌, ◌<◌, ◌∷◌, ◌≡◌, ◌≢◌, ◌⊎◌}
+use Rattle.uni_model.proofs.Vocabulary.{List, [], ap, arith, inl, inr, length, refl, set_at, subst, suc, sym, zero, ℕ, ◌++◌, ◌<◌, ◌∷◌, ◌≡◌, ◌≢◌, ◌⊎◌}
 use Rattle.uni_model.proofs.Written.{set_at-cases}
 use lib.ListN.{get_elem?}
 use mathlib.Core.Option.{some, some-injective, some-ne-none}

@@ -1,5 +1,5 @@
 -- The calls that take effect among acts: of acts behind each other, and as the atomic object agrees on them.
-use Rattle.uni_model.proofs.Vocabulary.{AcceptsAll, Act, Atomic, Invoke, Invoked, Linearize, List, Respond, Sequential, [], ap, append-nil, append_assoc, refl, sym, ◌++◌, ◌∙◌, ◌∷◌, ◌≡◌}
+use Rattle.uni_model.proofs.Vocabulary.{AcceptsAll, Act, Atomic, Invoke, Linearize, List, Respond, Sequential, [], ap, append-nil, append_assoc, refl, sym, ◌++◌, ◌∙◌, ◌∷◌, ◌≡◌}
 use Rattle.uni_model.specs.AtomicObject.{points}
 
 pub points-append : {I R : Type 0} (xs ys : List (Act I R)) → points (xs ++ ys) ≡ points xs ++ points ys

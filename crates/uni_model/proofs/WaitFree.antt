@@ -1,9 +1,9 @@
 -- The own steps of a call are the steps of its process since its begin, so it has returned in time.
-use Rattle.uni_model.proofs.Vocabulary.{AcceptsAll, Act, AreAccepted, Atomic, Call, Contains, Contains-append_left, Contains-append_right, Contains-push, Event, Invoke, Invoked, IsAccepted, IsBounded, IsReached, IsSome, IsWithinBound, Linearize, List, None, Option, Pending, Reshape, Respond, Sequential, Some, Step, Trim, WorldOf, [], acts_of, anchor_memory, ap, append_assoc, arith, at_start, cond, false, history_of, inl, inr, last_cell, new_of, observed, observed_in, open_at, opened_world, option_map_or, refl, seq_of, set_at, subst, suc, sum_by-cons, sym, true, world_after, world_after_all, world_after_era, world_after_step, zero, ℕ, ◌*◌, ◌++◌, ◌+◌, ◌<◌, ◌∙◌, ◌∷◌, ◌≡◌, ◌≢◌, ◌≤◌}
+use Rattle.uni_model.proofs.Vocabulary.{AcceptsAll, Act, AreAccepted, Atomic, Call, Contains, Contains-append_left, Contains-append_right, Contains-push, Event, Invoke, Invoked, IsAccepted, IsBounded, IsReached, IsSome, IsWithinBound, Linearize, List, None, Option, Pending, Reshape, Respond, Sequential, Some, Step, Trim, WorldOf, [], anchor_memory, ap, arith, at_start, cond, false, history_of, inl, inr, last_cell, new_of, observed, observed_in, open_at, opened_world, option_map_or, refl, seq_of, set_at, subst, suc, sum_by-cons, sym, true, world_after, world_after_all, world_after_era, world_after_step, zero, ℕ, ◌*◌, ◌++◌, ◌+◌, ◌<◌, ◌∙◌, ◌∷◌, ◌≡◌, ◌≢◌, ◌≤◌}
 use Rattle.uni_model.specs.WaitFree.{is_step_of, steps_among, AreNoCallsOf, NeverBlocks, IsWaitFree, CallIsWaitFree, EndsAlone, CallEndsAlone}
 use Rattle.uni_model.proofs.Written.{number_cases, set_at-cases}
 use Rattle.uni_model.proofs.LawProofs.{set_at_elsewhere, IsBounded-reached}
-use Rattle.uni_model.proofs.Runs.{world_after_all-append, AreAccepted-append, AreAccepted-split, history_of-append}
+use Rattle.uni_model.proofs.Runs.{world_after_all-append, AreAccepted-append, history_of-append}
 use Rattle.uni_model.proofs.Linearized.{IsLinearizable-holds}
 use Rattle.uni_model.proofs.Linearizable.{observed-history_of}
 

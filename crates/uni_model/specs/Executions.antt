@@ -2,7 +2,6 @@
 use Rattle.std.specs.Prelude.{◌≡◌, ℕ, ◌+◌, ◌<◌, ◌==◌, List, [], ◌∷◌, ◌++◌, if◌then◌else◌, refl}
 use Rattle.seq_object.specs.Sequential.{Sequential}
 use Rattle.uni_model.specs.AtomicObject.{AcceptsAll, Act, Atomic, at_start, points}
-use Rattle.uni_model.specs.AtomicObject.Act.{Invoke, Linearize, Respond}
 use Rattle.uni_model.specs.HerlihyWing.{IsLinearizedByCompletion, IsWellFormed}
 use Rattle.uni_model.specs.Linearizable.{observed}
 
