@@ -39,10 +39,10 @@ extern "C" {
 
 /* The version of this header: major, minor and patch as 10000 * major + 100 * minor + patch; and that of the library, which is
  * another one where a program runs with another library than it was compiled for. */
-#define UNIVERSAL_VERSION 300
+#define UNIVERSAL_VERSION 400
 uint32_t universal_version(void);
 
-/* A small object, a log, a seat of either, the entries of a closed log, or nothing. */
+/* A small object, a log, a seat of either, a seat of a small object without an owner, a closed log, read or not, or nothing. */
 typedef struct universal_handle {
     void *at; /* null where it has nothing; else of no use to a caller */
 } universal_handle;
@@ -68,7 +68,8 @@ typedef enum universal_status {
     UNIVERSAL_WRONG_HANDLE = 7, /* the handle hasn't what the call is for */
     UNIVERSAL_BAD_TABLE = 8,    /* the tables aren't those of a machine */
     UNIVERSAL_DIFFERS = 9,      /* the closed log has other calls of the process */
-    UNIVERSAL_BAD_CAPACITY = 10, /* a state would have more than 65,536 words; of a program also an invocation or a reply */
+    UNIVERSAL_BAD_CAPACITY = 10, /* a state would have more than 65,536 words; of a program also an invocation or a reply, or a
+                                    reply none */
     UNIVERSAL_BAD_WIDTH = 11,    /* these aren't as many words as those of the object */
     UNIVERSAL_NO_OPERATION = 12, /* an instruction of a program has no operation that there is, or not all its words */
     UNIVERSAL_NO_REGISTER = 13,  /* it names a register that isn't below 16 */
@@ -94,7 +95,7 @@ static inline const char *universal_strerror(uint32_t status) {
     case UNIVERSAL_WRONG_HANDLE: return "the handle hasn't what the call is for";
     case UNIVERSAL_BAD_TABLE: return "the tables aren't those of a machine";
     case UNIVERSAL_DIFFERS: return "the closed log has other calls of the process";
-    case UNIVERSAL_BAD_CAPACITY: return "a state would have more than 65536 words";
+    case UNIVERSAL_BAD_CAPACITY: return "a state, an invocation or a reply would have more than 65536 words, or a reply none";
     case UNIVERSAL_BAD_WIDTH: return "these aren't as many words as those of the object";
     case UNIVERSAL_NO_OPERATION: return "an instruction has no such operation, or not all its words";
     case UNIVERSAL_NO_REGISTER: return "an instruction names no register";
@@ -169,7 +170,7 @@ uint32_t universal_open_counters(uint64_t n, uint32_t count, universal_handle *o
 
 /* Opens a queue of at most `capacity` numbers that aren't 0. A number that is put in is answered 1, or 0 where the queue is
  * full. Taking the oldest number out is answered it, or 0 where there is none. To put 0 in is to take one out. A copy is
- * 2 + capacity words.
+ * 2 + capacity words (1 + capacity until 0.3.0, and in another order).
  *
  * UNIVERSAL_BAD_COUNT; UNIVERSAL_BAD_CAPACITY where capacity is more than 65,534; UNIVERSAL_MEMORY; in this order. After each
  * *object is as it was. */
@@ -502,7 +503,8 @@ uint32_t universal_follows(universal_handle *seat, uint64_t process, uint64_t nt
 /* Closes the log of a seat, by the last handle that has the log: drop the log's own handle and the other seats before.
  * Afterwards *seat has the entries in place of the seat.
  *
- * UNIVERSAL_WRONG_HANDLE: *seat has no seat. UNIVERSAL_BUSY: another handle has the log. After either *seat is as it was.
+ * UNIVERSAL_WRONG_HANDLE: *seat has neither a seat nor a closed log whose entries are still to be read. UNIVERSAL_BUSY: another
+ * handle has the log. After either *seat is as it was.
  * UNIVERSAL_MEMORY: the log is closed, but its entries could not be read: *seat has it in place of the seat, and a further
  * universal_close reads them. */
 uint32_t universal_close(universal_handle *seat);

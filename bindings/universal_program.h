@@ -17,7 +17,8 @@
  *     uint32_t status = up_open(&p, 4, start, 1, 1, 1, &place, &object);
  *
  * Registers are the numbers 0 to 15. A place to go on at is UP_END, where the call ends, or a label: up_label makes one, and
- * up_here puts it before the next instruction. A program goes forward alone, but for up_again.
+ * up_here puts it before the next instruction. A label that is never put anywhere is refused, with UNIVERSAL_JUMPS_BACK. A program
+ * goes forward alone, but for up_again.
  */
 #ifndef UNIVERSAL_PROGRAM_H
 #define UNIVERSAL_PROGRAM_H

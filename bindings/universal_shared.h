@@ -123,8 +123,9 @@ typedef struct universal_shared_last {
 
 /* How many bytes a segment of this kind has, for n seats.
  *
- * UNIVERSAL_SHARED_BAD_KIND; the statuses of the object's universal_open_..; UNIVERSAL_SHARED_ADDRESS and
- * UNIVERSAL_SHARED_SYSTEM, since it is made for a trial. After each but UNIVERSAL_DONE *bytes is as it was. */
+ * UNIVERSAL_SHARED_BAD_KIND; UNIVERSAL_SHARED_ADDRESS or UNIVERSAL_SHARED_SYSTEM, since it is made for a trial;
+ * UNIVERSAL_BAD_CAPACITY of a program whose invocation has more than 4 words, or its reply more than 2; the statuses of the
+ * object's universal_open_... In this order. After each but UNIVERSAL_DONE *bytes is as it was. */
 uint32_t universal_shared_bytes(const universal_shared_kind *kind, uint64_t n, uint64_t *bytes);
 
 /* Makes a segment in an empty file in memory (memfd_create, or below /dev/shm), open for reading and writing, and

@@ -13,7 +13,7 @@ HERE = Path(__file__).resolve().parent
 OUT = HERE if (HERE / "PKG-INFO").exists() else HERE.parent / "out"
 LICENCES = HERE if OUT == HERE else HERE.parent.parent
 LIBRARIES = ["libuniversal.so", "libuniversal_shared.so", "libuniversal_text.so"]
-NAME, VERSION, TAG = "fednayup_universal", "0.3.0", "py3-none-linux_x86_64"
+NAME, VERSION, TAG = "fednayup_universal", "0.4.0", "py3-none-linux_x86_64"
 METADATA = f"""Metadata-Version: 2.1
 Name: fednayup-universal
 Version: {VERSION}

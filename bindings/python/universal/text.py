@@ -98,7 +98,8 @@ def replay(script: str, history: int = HISTORY, limit: int = LIMIT) -> str:
 def draw(script: str, limit: int = LIMIT) -> Svg:
     """The picture of a script's run.
 
-    Raises `BadScript`, also of a script with more than 2,000 events; `TooLong`; `MemoryError`.
+    Raises `BadScript`, also of a script with more than 2,000 events; `TooLong`; `MemoryError`; `RuntimeError` where the
+    picture does not show its run, which is so of no known script.
     """
     return Svg(_text("universal_draw", script, limit))
 

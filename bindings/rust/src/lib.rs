@@ -128,7 +128,7 @@ impl fmt::Display for Fault {
             Fault::Busy => "another handle has the log or the object",
             Fault::WrongHandle => "the handle hasn't what the call is for",
             Fault::BadTable => "the tables aren't those of a machine",
-            Fault::BadCapacity => "a state would have more than 65536 words",
+            Fault::BadCapacity => "a state, an invocation or a reply would have more than 65536 words, or a reply none",
             Fault::BadWidth => "these aren't as many words as those of the object",
             Fault::NoOperation => "there is no such operation",
             Fault::NoRegister => "there is no such register",

@@ -16,6 +16,7 @@ import fednayup.universal.Universal.Handle;
  */
 public final class Log implements AutoCloseable {
     private final Handle handle = new Handle();
+    private final List<Seat> had = new ArrayList<>();
 
     private Log() {}
 
@@ -73,17 +74,21 @@ public final class Log implements AutoCloseable {
         }
     }
 
-    /** All seats that are left, that of the greatest process first. Refused: memory. */
-    public List<Seat> seats() throws Refused {
-        List<Seat> seats = new ArrayList<>();
+    /**
+     * All seats that are left, that of the greatest process first. Refused: memory; the seats that were had by then are in what
+     * the next call answers.
+     */
+    public synchronized List<Seat> seats() throws Refused {
         while (true) {
             try {
-                seats.add(seat());
+                had.add(seat());
             } catch (Refused refused) {
                 if (refused.fault != Fault.NO_SEAT) {
                     throw refused;
                 }
-                return seats;
+                List<Seat> all = new ArrayList<>(had);
+                had.clear();
+                return all;
             }
         }
     }

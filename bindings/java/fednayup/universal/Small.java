@@ -33,6 +33,7 @@ public final class Small<S extends Small.Seat> implements AutoCloseable {
     private final Handle handle = new Handle();
     private final int width;
     private final Seats<S> seats;
+    private final List<S> had = new ArrayList<>();
 
     /** Makes a seat of its place. */
     interface Seats<S> {
@@ -134,17 +135,21 @@ public final class Small<S extends Small.Seat> implements AutoCloseable {
         }
     }
 
-    /** All seats that are left, that of the greatest process first. Refused: memory. */
-    public List<S> seats() throws Refused {
-        List<S> given = new ArrayList<>();
+    /**
+     * All seats that are left, that of the greatest process first. Refused: memory; the seats that were had by then are in what
+     * the next call answers.
+     */
+    public synchronized List<S> seats() throws Refused {
         while (true) {
             try {
-                given.add(seat());
+                had.add(seat());
             } catch (Refused refused) {
                 if (refused.fault != Fault.NO_SEAT) {
                     throw refused;
                 }
-                return given;
+                List<S> all = new ArrayList<>(had);
+                had.clear();
+                return all;
             }
         }
     }
@@ -248,7 +253,8 @@ public final class Small<S extends Small.Seat> implements AutoCloseable {
          *
          * <p>Nothing is stored in a shared word. The state is that of {@link #version()} then: all calls of this seat are in it,
          * and all later calls of this seat come after all calls that are in it. The words are those of the macros of
-         * {@code universal.h}, as 0 of a counter, whose number is the answer. Refused: these aren't so many words.
+         * {@code universal.h}, as 0 of a counter, whose number is the answer. Refused: these aren't so many words; the seat
+         * has made all its calls.
          *
          * @throws UnsupportedOperationException it is a seat of a {@link Shared}
          */
