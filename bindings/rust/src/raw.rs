@@ -250,16 +250,8 @@ impl Handle {
     fn small_asked(&mut self, ask: Ask, invocation: &[u64], reply: &mut [u64]) -> (u32, u64) {
         let mut version = 0;
         // SAFETY: both slices are borrowed for the call.
-        let status = unsafe {
-            ask(
-                self,
-                invocation.as_ptr(),
-                invocation.len(),
-                reply.as_mut_ptr(),
-                reply.len(),
-                &mut version,
-            )
-        };
+        let status =
+            unsafe { ask(self, invocation.as_ptr(), invocation.len(), reply.as_mut_ptr(), reply.len(), &mut version) };
         (status, version)
     }
 
