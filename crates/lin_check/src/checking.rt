@@ -96,7 +96,8 @@ fn check_parts<O: Checkable>(
     }
 }
 
-/// Whether the history is linearizable: an order of its calls, or that there is none, or that the judge gave up.
+/// Whether the history is linearizable: an order of its calls, or that there is none, or that the judge gave up. It is
+/// judged from the object's start state; a pending call that the order doesn't name never takes effect.
 ///
 /// The object's guess is checked first; then comes a search, of at most `limit` rounds. Where calls are of several
 /// parts, each part is judged so, and the whole too where the orders of the parts make none of it: each search has its

@@ -28,7 +28,7 @@ pub enum Verdict {
     Linearizable(Vec<usize>),
     /// It is not.
     NotLinearizable,
-    /// Neither was found: within the limit, or since a process is 65,536 or more. It says nothing of the history.
+    /// Neither was found within the limit, or a process is 65,536 or more. It says nothing of the history.
     GaveUp,
 }
 

@@ -55,7 +55,7 @@ pub fn returned_has_come<O: SeqObject>()
 {}
 
 /// Helping (Herlihy 1993): wherever words and buffers keep their rule, a call that all were told of at least two versions
-/// ago is in the present version. So an attempt fails at most twice.
+/// ago is in the present version. That at most two attempts of a call fail follows by the rule, and is in no clause here.
 pub fn announced_is_in_soon<O: SeqObject>()
     ensures { (o : O) (n : ℕ) (g : Board O.Inv O.State O.Resp)
         (local : ℕ → Local O.Inv O.State O.Resp) (seat_of : ℕ → ℕ)

@@ -87,7 +87,8 @@ impl<O: SeqObject> AnySeat<O> {
     /// this call. So whoever was told of a call's version, by whatever means, and follows it, makes its later calls
     /// come after that call.
     ///
-    /// The error says that the seat has a call pending; nothing is changed then.
+    /// It takes at most 3 steps on shared words, and is no call. As of `refresh`, no clause says that the version is the
+    /// present one or comes meanwhile. The error says that the seat has a call pending; nothing is changed then.
     pub fn follows(&mut self, shared: &AnyShared<O>, version: u64) -> Result<bool, CallPending>
         requires seat { IsSeatOf shared.now self.old }
         ensures kept { IsSeatOf shared.now self.new × (process_of self.new ≡ process_of self.old) }

@@ -37,8 +37,8 @@ impl<O: SeqObject> Shared<O> {
     /// record itself no clause says anything, since a lock tells nothing of what is under it. The clauses tell when
     /// opening can succeed, how many processes there are, and the seats.
     ///
-    /// Errors: those of `Recorded::open`; `Memory` too where the list of the seats was refused it. After
-    /// each the object is dropped.
+    /// Errors: those of `Recorded::open`; `Memory` too where the list of the seats was refused it (in no
+    /// clause: by the clauses it may come wherever no other error does). After each the object is dropped.
     pub fn open(
         alloc: Global,
         object: O,

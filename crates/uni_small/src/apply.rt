@@ -12,7 +12,7 @@ ghost use Rattle.uni_small.specs.Standing.{call_steps, local_of};
 ghost use Rattle.uni_small.specs.Belongs.{IsSeatOf, calls_made, calls_of, own_calls};
 ghost use Rattle.uni_small.specs.Kept.{AreBuffers, IsKept, HasRoom};
 ghost use Rattle.uni_small.specs.Belongs.{invocation_width_of, process_of, reply_width_of, sizes_of, taken_calls};
-ghost use Rattle.uni_small.specs.Belongs.{announced_by, version_of, word_steps_of};
+ghost use Rattle.uni_small.specs.Belongs.{announced_by, state_read, version_of, word_steps_of};
 
 use crate::log::SmallShared;
 use crate::object::SmallObject;
@@ -273,6 +273,9 @@ impl<O: SmallObject> SmallSeat<O> {
     /// A version that an answer had has come: the law `returned_has_come` says so, and no clause of this call.
     /// So whoever was told of a call's version, by whatever means, and follows it, makes its later calls come
     /// after that call.
+    ///
+    /// In no clause: that the version which is found is the present one, and which word is loaded. A body that loads one
+    /// word and answers by the version that the seat had would meet the clauses.
     pub fn follows(&mut self, shared: &SmallShared<O>, version: u64) -> bool
         requires seat { IsSeatOf shared.now self.old }
         ensures kept { IsSeatOf shared.now self.new × (calls_of self.new ≡ calls_of self.old) }
@@ -280,6 +283,7 @@ impl<O: SmallObject> SmallSeat<O> {
         ensures taken { taken_calls self.new ≡ taken_calls self.old }
         ensures asked { IsTrue result ↔ (version ≤ version_of self.new) }
         ensures later { version_of self.old ≤ version_of self.new }
+        ensures state { state_read self.new ≡ state_read self.old }
         ensures one_step { word_steps_of self.new ≡ word_steps_of self.old + 1 }
     {
         let present = shared.present(&mut self.seat, self.p);

@@ -23,7 +23,8 @@ impl<O> SmallSeat<O> {
     ghost use Rattle.uni_small.specs.Orphans.{IsInCall, IsOrphanOf, calls_before, orphan_process, orphan_steps};
     ghost use Rattle.uni_small.specs.declared.log.SmallShared.{SmallShared};
 
-    /// Leaves the seat: whoever has the orphan can take it over.
+    /// Leaves the seat: whoever has the orphan can take it over. Its calls and its count of steps stay; of the version
+    /// that it followed, and of the seats that it had taken in, no clause tells any more.
     pub fn leave(self) -> SmallOrphan<O>
         ensures orphan { (shared : SmallShared O) → IsSeatOf shared self → IsOrphanOf shared result }
         ensures process { orphan_process result ≡ process_of self }

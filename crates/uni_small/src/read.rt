@@ -162,8 +162,8 @@ impl<O: SmallObject> SmallSeat<O> {
         Ok(self.read)
     }
 
-    /// The words of the state that `refresh` or `read` has read last. After a call of the seat, or where the answer was
-    /// `None`, they are of no use.
+    /// The words of the state that `refresh` or `read` has read last; zeros where neither has read one (in no clause).
+    /// After a call of the seat, or where the answer was `None`, they are of no use.
     pub fn state(&self) -> &[u64]
         ensures { result.now ≡ state_read self.now }
     {

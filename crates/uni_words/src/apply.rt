@@ -164,13 +164,14 @@ impl<O: WordObject> WordLog<O> {
 }
 
 impl WordSeat {
-    /// Applies the invocation: the call, its reply, its number, and how many turns it took. It returns after a known
-    /// number of word steps, whatever the other seats do, and takes no memory and no lock: no allocator and no lock
+    /// Applies the invocation: the call, its reply, its number, and how many turns it took. It returns after at most
+    /// `12 * n + 15` word steps, whatever the other seats do, and takes no memory and no lock: no allocator and no lock
     /// come in. The seat is one of this log's. With n processes a call of so many turns takes `2n + 5` word steps and
     /// ten a turn; where its last step stores the head that is one more, which the seat counts, and which comes only
     /// after n turns at most. The numbers of a seat's calls rise.
     ///
-    /// That the reply is the object's is in no clause here: `close_with` says it of all calls of the seat at once. The
+    /// That the reply is the object's is in no clause here: `close_with` says it of all calls of the seat at once. Nor is
+    /// it that the number is that of the call's entry: `close_with` says so of the latest call. The
     /// law `every_execution_is_linearizable` says it of executions, and the rule of the table keeps, step by step, that
     /// one has led to its words.
     ///

@@ -34,8 +34,8 @@ pub fn join_keeps<O: WordObject>()
         JoinKeeps (O.sequential object) row w s id v other x }
 {}
 
-/// A call that has returned has a number. A clause says that `follows` answers `true` only of the calls that the seat made
-/// or took in (`known`).
+/// A call that has returned has a number. That `follows` answers `true` is in a clause (`known`) for the calls that the
+/// seat made or took in, and in none for any other call.
 pub fn returned_is_there<O: WordObject>()
     ensures { (object : O) (row : ℕ) (w : WorldOf ℕ ℕ ℕ) (s : State ℕ View) (call : CallId) (word : ℕ) →
         ReturnedIsThere (O.sequential object) row w s call word }

@@ -3,7 +3,7 @@ ghost use Rattle.std.specs.Prelude.{◌≡◌, ◌++◌, ◌+◌, ◌*◌, ◌<�
 ghost use Rattle.std.specs.Prelude.{length, slice_index};
 ghost use Rattle.std.specs.Mem.Slots.{IsFull, slots_items, slots_len};
 ghost use Rattle.uni_small.specs.Belongs.{IsSeatOf, calls_made, calls_of, known_calls, object_of, sizes_of};
-ghost use Rattle.uni_small.specs.Belongs.{version_of};
+ghost use Rattle.uni_small.specs.Belongs.{state_read, version_of};
 ghost use Rattle.uni_small.specs.Belongs.{invocation_width_of, processes_of, reply_width_of, width_of, word_steps_of};
 ghost use Rattle.uni_small.specs.Board.{AreFew, buffer_in, words_of};
 ghost use Rattle.uni_small.specs.Ended.{HasRunTo};
@@ -129,6 +129,7 @@ impl<O: SmallObject> SmallSeat<O> {
         ensures made { calls_made self.new ≡ calls_made self.old }
         ensures version { version_of self.new ≡ version_of self.old }
         ensures steps { word_steps_of self.new ≡ word_steps_of self.old }
+        ensures state { state_read self.new ≡ state_read self.old }
         ensures known { known_calls self.new ≡ known_calls self.old ++ known_calls other }
     {
         let SmallSeat { seat, .. } = other;

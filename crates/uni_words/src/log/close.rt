@@ -17,8 +17,9 @@ use crate::seat::WordSeat;
 use crate::words::Words;
 
 impl<O: WordObject> WordLog<O> {
-    /// Closes the log, with the seat of one of its processes, which is one of this log's: the words as
-    /// they are then. Other seats may be dropped; what they have begun stays as it is.
+    /// Closes the log, with the seat of one of its processes, which is one of this log's: the words as they are then.
+    /// Other seats may be dropped; what they have begun stays as it is. That these are the words is in no clause, but for
+    /// what follows.
     ///
     /// The words show one chain, which is legal from the start state, and of which only the last
     /// entry can lack its reply; each entry is a call of one of the processes. The calls of the seat's
