@@ -130,9 +130,9 @@ impl<O: SeqObject> AnySeat<O> {
     /// Goes on with the call that was left pending: its answer, as `apply` would have given it. It is one more of
     /// the seat's calls then.
     ///
-    /// With n processes it returns after at most `10 * n + 5` steps on shared words. What is in no clause of `apply` is in
-    /// none here: that the reply is the object's, that the call is in that version, and when `Memory` comes. A body that
-    /// answered `Memory` wherever a call is pending, and changed nothing, would meet the clauses.
+    /// With n processes it returns after at most `10 * n + 5` steps on shared words. What is in no clause of `apply` is
+    /// in none here: that the reply is the object's, that the call is in that version, and when `Memory` comes. A body
+    /// that answered `Memory` wherever a call is pending, and changed nothing, would meet the clauses.
     ///
     /// Errors: `NothingPending` where no call is pending: nothing is changed; `Memory`: the call is pending still.
     pub fn resume(

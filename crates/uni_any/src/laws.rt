@@ -1,10 +1,11 @@
 //! What the rule means, and what each step appends to the history; each law is the contract of a function with an empty
 //! body.
 //!
-//! `c` is what there is: the word S (`c.words 0`), the buffers, and the view of each seat. `g` is the board, which no word
-//! tells; process p stands at `local p`, and has the seat `seat_of p`. `Moves` says what a step does, and `v.known.count ≡
-//! 1` that the seat is that of one process. `with_word f` puts `f` of the word that is found into S; `with_letter p r x`
-//! puts x into the buffer from p to r. `either (found == s) x found` is x where found is s, and else found.
+//! `c` is what there is: the word S (`c.words 0`), the buffers, and the view of each seat. `g` is the board, which no
+//! word tells; process p stands at `local p`, and has the seat `seat_of p`. `Moves` says what a step does, and
+//! `v.known.count ≡ 1` that the seat is that of one process. `with_word f` puts `f` of the word that is found into S;
+//! `with_letter p r x` puts x into the buffer from p to r. `either (found == s) x found` is x where found is s, and
+//! else found.
 ghost use Rattle.std.specs.Prelude.{◌≡◌, ◌≢◌, ◌+◌, ◌<◌, ◌≤◌, ◌==◌, [], ◌∷◌};
 ghost use Rattle.std.specs.Prelude.{◌++◌, Contains, List, None, Some, ℕ};
 ghost use Rattle.std.specs.Prelude.{map, slice_get};
@@ -31,9 +32,10 @@ ghost use Rattle.uni_any.specs.declared.view.View.{View};
 
 use seq_object::SeqObject;
 
-/// Wherever words and buffers keep their rule, take the calls that any of the seats tell of. One history that the atomic
-/// object accepts has just these calls of their processes, with the replies that they were given, and with the pending
-/// ones; so what is observed of it is linearizable. The present version has the state after the calls of that history.
+/// Wherever words and buffers keep their rule, take the calls that any of the seats tell of. One history that the
+/// atomic object accepts has just these calls of their processes, with the replies that they were given, and with the
+/// pending ones; so what is observed of it is linearizable. The present version has the state after the calls of that
+/// history.
 pub fn shown_is_linearizable<O: SeqObject>()
     ensures { (o : O) (n : ℕ) (g : Board O.Inv O.State O.Resp)
         (local : ℕ → Local O.Inv O.State O.Resp) (seat_of : ℕ → ℕ)
@@ -54,8 +56,9 @@ pub fn returned_has_come<O: SeqObject>()
         → slice_get (local p).own k ≡ Some call → call.version ≤ number_in (c.words 0) }
 {}
 
-/// Helping (Herlihy 1993): wherever words and buffers keep their rule, a call that all were told of at least two versions
-/// ago is in the present version. That at most two attempts of a call fail follows by the rule, and is in no clause here.
+/// Helping (Herlihy 1993): wherever words and buffers keep their rule, a call that all were told of at least two
+/// versions ago is in the present version. That at most two attempts of a call fail follows by the rule, and is in no
+/// clause here.
 pub fn announced_is_in_soon<O: SeqObject>()
     ensures { (o : O) (n : ℕ) (g : Board O.Inv O.State O.Resp)
         (local : ℕ → Local O.Inv O.State O.Resp) (seat_of : ℕ → ℕ)
@@ -126,8 +129,8 @@ pub fn other_steps_append_nothing<O: SeqObject>()
 
 /// Every execution from the opening, in which the processes take their steps on words and buffers in any order, is
 /// linearizable, and its linearization points are its own steps: each call takes effect at one of the steps from the
-/// first write of its announcement to its last step. And strongly: it is so in the order of these steps, which only grows where the execution goes on
-/// (`strongly`, true by how acts are made).
+/// first write of its announcement to its last step. And strongly: it is so in the order of these steps, which only
+/// grows where the execution goes on (`strongly`, true by how acts are made).
 pub fn every_execution_is_linearizable<O: SeqObject>()
     ensures linearized { (o : O) (n : ℕ) → 1 ≤ n → n ≤ 64
         → (e : Execution {R = O.Resp} (O.sequential o) n (opened_moment (O.sequential o) n))

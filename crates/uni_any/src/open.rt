@@ -204,8 +204,8 @@ impl<O: SeqObject> AnyShared<O> {
 
     /// An object that n processes share, and their seats, in order, none of which has made a call.
     ///
-    /// Errors, in this order: `BadCount` where `n` isn't from 1 to 64; `Memory`, where memory was refused (in no clause: by
-    /// the clauses it may come of any count that is allowed). After each the object is dropped.
+    /// Errors, in this order: `BadCount` where `n` isn't from 1 to 64; `Memory`, where memory was refused (in no
+    /// clause: by the clauses it may come of any count that is allowed). After each the object is dropped.
     pub fn open(
         alloc: Global,
         object: O,

@@ -70,8 +70,8 @@ impl<O: SeqObject> AnySeat<O> {
         Ok(self.version(shared).number)
     }
 
-    /// The version that `refresh` or `follows` found last; the start, where neither has found one (in no clause). After a
-    /// call of the seat it may be a later one, so ask before.
+    /// The version that `refresh` or `follows` found last; the start, where neither has found one (in no clause). After
+    /// a call of the seat it may be a later one, so ask before.
     pub fn version(&self, shared: &AnyShared<O>) -> &BlockOf<O>
         requires seat { IsSeatOf shared.now self.now }
         ensures { version_as result.now ≡ version_seen O.sequential shared.now self.now }
@@ -87,8 +87,8 @@ impl<O: SeqObject> AnySeat<O> {
     /// this call. So whoever was told of a call's version, by whatever means, and follows it, makes its later calls
     /// come after that call.
     ///
-    /// It takes at most 3 steps on shared words, and is no call. As of `refresh`, no clause says that the version is the
-    /// present one or comes meanwhile. The error says that the seat has a call pending; nothing is changed then.
+    /// It takes at most 3 steps on shared words, and is no call. As of `refresh`, no clause says that the version is
+    /// the present one or comes meanwhile. The error says that the seat has a call pending; nothing is changed then.
     pub fn follows(&mut self, shared: &AnyShared<O>, version: u64) -> Result<bool, CallPending>
         requires seat { IsSeatOf shared.now self.old }
         ensures kept { IsSeatOf shared.now self.new × (process_of self.new ≡ process_of self.old) }

@@ -341,16 +341,16 @@ impl<O: SeqObject> Seat<O> {
         Ok(self.latest())
     }
 
-    /// Goes on with the pending call, as `apply` does after the begin. The answer is its receipt, which is added to those
-    /// of the seat.
+    /// Goes on with the pending call, as `apply` does after the begin. The answer is its receipt, which is added to
+    /// those of the seat.
     ///
-    /// `ends`, read out: once the receipt is given back, the seat is as `HasEnded self.old receipt self.new` says; after an
-    /// error, as `HasStopped self.old self.new` does. The clauses tell of the seat alone, as those of `apply` do: the reply
-    /// and the counts are in none, nor when faults but `NothingPending` come. A body that answered `GaveUp` wherever a call
-    /// is pending, and left the seat as it was, would meet them.
+    /// `ends`, read out: once the receipt is given back, the seat is as `HasEnded self.old receipt self.new` says;
+    /// after an error, as `HasStopped self.old self.new` does. The clauses tell of the seat alone, as those of `apply`
+    /// do: the reply and the counts are in none, nor when faults but `NothingPending` come. A body that answered
+    /// `GaveUp` wherever a call is pending, and left the seat as it was, would meet them.
     ///
-    /// Errors: `NothingPending` where the seat has no call pending; then those of `apply` at its steps. After each the seat
-    /// has the call pending that it had, or none where it had none.
+    /// Errors: `NothingPending` where the seat has no call pending; then those of `apply` at its steps. After each the
+    /// seat has the call pending that it had, or none where it had none.
     pub fn resume<G: Gate, R: Wait>(
         &mut self,
         rt: &R,

@@ -274,8 +274,8 @@ impl<O: SmallObject> SmallSeat<O> {
     /// So whoever was told of a call's version, by whatever means, and follows it, makes its later calls come
     /// after that call.
     ///
-    /// In no clause: that the version which is found is the present one, and which word is loaded. A body that loads one
-    /// word and answers by the version that the seat had would meet the clauses.
+    /// In no clause: that the version which is found is the present one, and which word is loaded. A body that loads
+    /// one word and answers by the version that the seat had would meet the clauses.
     pub fn follows(&mut self, shared: &SmallShared<O>, version: u64) -> bool
         requires seat { IsSeatOf shared.now self.old }
         ensures kept { IsSeatOf shared.now self.new × (calls_of self.new ≡ calls_of self.old) }

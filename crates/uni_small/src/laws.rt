@@ -174,11 +174,12 @@ pub fn returned_has_come<O: SmallObject>()
         → call.version ≤ version_in (slice_index s.words 0) }
 {}
 
-/// Every execution from the opening, in which the processes take their word steps in any order, is linearizable, and its
-/// linearization points are its own steps: each call takes effect at one of the steps from the one that invokes it to the
-/// last one of the call. An announced call is invoked by its announcement, a direct one by its exchange: both later than where the code begins
-/// it, so that more calls precede it than in the code, and the law is the stronger. And strongly: it is so in the order
-/// of these steps, which only grows where the execution goes on (`strongly`, true by how acts are made).
+/// Every execution from the opening, in which the processes take their word steps in any order, is linearizable, and
+/// its linearization points are its own steps: each call takes effect at one of the steps from the one that invokes it
+/// to the last one of the call. An announced call is invoked by its announcement, a direct one by its exchange: both
+/// later than where the code begins it, so that more calls precede it than in the code, and the law is the stronger.
+/// And strongly: it is so in the order of these steps, which only grows where the execution goes on (`strongly`, true
+/// by how acts are made).
 pub fn every_execution_is_linearizable<O: SmallObject>()
     ensures linearized { (o : O) (sizes : Sizes) → AreSizesOf (O.meaning o) sizes
         → (e : Execution (O.meaning o).object sizes (opened_moment (O.meaning o).object sizes))

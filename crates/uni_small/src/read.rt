@@ -171,9 +171,9 @@ impl<O: SmallObject> SmallSeat<O> {
     }
 
     /// What the object would answer to this invocation at a version of the state: the reply is written, and the answer
-    /// is that version's number, whose state `state` shows (`told`, `answer`). No call is made: the seat's calls stay as
-    /// they are, whatever the invocation is. One that only asks, as for the value of a key of a map, needs no call but
-    /// this, and no other process waits for it.
+    /// is that version's number, whose state `state` shows (`told`, `answer`). No call is made: the seat's calls stay
+    /// as they are, whatever the invocation is. One that only asks, as for the value of a key of a map, needs no call
+    /// but this, and no other process waits for it.
     ///
     /// The answer is `None` where another version came meanwhile; the reply stays as it was then. What the version is,
     /// and what the seat follows, how many steps it takes and the error are as `refresh` has them, and so is what is in

@@ -148,8 +148,8 @@ impl<O: SmallObject> SmallOrphan<O> {
     /// A call whose reply wasn't kept is not among `made`, even if its owner had loaded it
     /// (`last_load_leaves_no_trace`): it is ended here, and that its reply is the same is argued by hand. In no clause:
     /// that the reply is the object's (as of `apply`, the law `every_execution_is_linearizable` and closing say so),
-    /// that the call is in that version, that the version is greater than those which the seat had before, which version the seat follows then, and which
-    /// calls of other seats it had taken in.
+    /// that the call is in that version, that the version is greater than those which the seat had before, which
+    /// version the seat follows then, and which calls of other seats it had taken in.
     pub fn take_over(
         self,
         alloc: Global,

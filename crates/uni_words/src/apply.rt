@@ -170,10 +170,9 @@ impl WordSeat {
     /// ten a turn; where its last step stores the head that is one more, which the seat counts, and which comes only
     /// after n turns at most. The numbers of a seat's calls rise.
     ///
-    /// That the reply is the object's is in no clause here: `close_with` says it of all calls of the seat at once. Nor is
-    /// it that the number is that of the call's entry: `close_with` says so of the latest call. The
+    /// That the reply is the object's is in no clause here: `close_with` says it of all calls of the seat at once. The
     /// law `every_execution_is_linearizable` says it of executions, and the rule of the table keeps, step by step, that
-    /// one has led to its words.
+    /// one has led to its words. That the number is that of the call's entry says `close_with` of the latest call.
     ///
     /// The error says that the seat has made all the calls that it can make; nothing is changed then.
     pub fn apply<O: WordObject>(&mut self, log: &WordLog<O>, inv: u64) -> Result<Answer, RowFull>

@@ -15,7 +15,8 @@ ghost use Rattle.uni_words.specs.declared.view.View.{View};
 
 use crate::object::WordObject;
 
-/// Where the start state is below 2^31, the table that is made shows the opened world, to which a run with no events leads.
+/// Where the start state is below 2^31, the table that is made shows the opened world, to which a run with no events
+/// leads.
 pub fn opening_shows<O: WordObject>()
     ensures { (object : O) (n row : ℕ) → OpeningShows (O.sequential object) n row }
 {}

@@ -59,9 +59,9 @@ impl<O: SmallObject> SmallShared<O> {
         self.setup.sizes.reply
     }
 
-    /// Closes the object with no seat, and writes its state: that after a list of calls, in the order in which
-    /// they took effect. Which calls the seats made is not said, nor that the state is the last one: the start state
-    /// would meet the clauses. All seats may be dropped. A call that a seat was in when its thread died has taken effect
+    /// Closes the object with no seat, and writes its state: that after a list of calls, in the order in which they
+    /// took effect. Which calls the seats made is not said, nor that the state is the last one: the start state would
+    /// meet the clauses. All seats may be dropped. A call that a seat was in when its thread died has taken effect
     /// whole, or not at all: `told` has no half call, since the state is that after whole ones.
     pub fn close(self, state: &mut [u64])
         requires wide { length state.old ≡ width_of self }
@@ -82,9 +82,9 @@ impl<O: SmallObject> SmallShared<O> {
     /// after the calls of this history, in the order in which they took effect. In that order each known call
     /// comes after all calls of the version that its seat had followed, and is among those of its own version.
     ///
-    /// The history is made by the word steps of an execution from the opening (`ran`). It is chosen by the clauses: that
-    /// its other calls were made, and that the state is the one which the word S names at the end, is in no clause. A
-    /// body that wrote the start state, for a seat without calls that has taken in none, would meet them.
+    /// The history is made by the word steps of an execution from the opening (`ran`). It is chosen by the clauses:
+    /// that its other calls were made, and that the state is the one which the word S names at the end, is in no
+    /// clause. A body that wrote the start state, for a seat without calls that has taken in none, would meet them.
     pub fn close_with(self, seat: SmallSeat<O>, state: &mut [u64])
         requires seat { IsSeatOf self seat }
         requires wide { length state.old ≡ width_of self }

@@ -18,8 +18,8 @@ use crate::words::Words;
 
 impl<O: WordObject> WordLog<O> {
     /// Closes the log, with the seat of one of its processes, which is one of this log's: the words as they are then.
-    /// Other seats may be dropped; what they have begun stays as it is. That these are the words is in no clause, but for
-    /// what follows.
+    /// Other seats may be dropped; what they have begun stays as it is. That these are the words is in no clause, but
+    /// for what follows.
     ///
     /// The words show one chain, which is legal from the start state, and of which only the last
     /// entry can lack its reply; each entry is a call of one of the processes. The calls of the seat's
@@ -41,8 +41,8 @@ impl<O: WordObject> WordLog<O> {
     /// on (`execution`). So what the laws say of every execution holds of it.
     ///
     /// `known` has all that `own` says, and `execution` all that `seen` does, which has all that `run` says. The
-    /// execution is chosen by the clause: that it is the one that was made isn't said, nor that it leads to these words,
-    /// which the rule of the table keeps of one.
+    /// execution is chosen by the clause: that it is the one that was made isn't said, nor that it leads to these
+    /// words, which the rule of the table keeps of one.
     pub fn close_with(self, seat: WordSeat) -> Words
         requires seat { IsSeatOf self seat }
         ensures counts { (count_in result ≡ processes_of self) × (row_in result ≡ row_of self) }
@@ -78,8 +78,8 @@ impl<O: WordObject> WordLog<O> {
     /// is told of each one's; but not the number of its latest call, nor the calls of seats that it took in earlier. It
     /// costs one load for each seat but one (in no clause).
     ///
-    /// What these seats saw was so in the run, and orders their calls in the log. The run is chosen by the clause: that a
-    /// call which returned before another seat's call began stands before it is said only where that seat had asked
+    /// What these seats saw was so in the run, and orders their calls in the log. The run is chosen by the clause: that
+    /// a call which returned before another seat's call began stands before it is said only where that seat had asked
     /// about it or taken it in, or both are calls of one process.
     ///
     /// With the seats of all processes, in order, the log and what their callers were told agree, so

@@ -16,10 +16,10 @@ impl WordSeat {
     /// says that they have a number, and no clause of this call that it is found: that whoever was told by other means
     /// that a call returned is answered `true` is argued by hand.
     ///
-    /// `true` says that it stands there, with all that its process made before it, and that all later calls of this seat
-    /// come after it: the seat has seen it (`there`), and closing says so (`seen`, `order`) where this seat is handed in
-    /// or was taken in. `false` says nothing, and changes nothing but the number of word steps. A call that the log has
-    /// no room for is answered `false` without a load.
+    /// `true` says that it stands there, with all that its process made before it, and that all later calls of this
+    /// seat come after it: the seat has seen it (`there`), and closing says so (`seen`, `order`) where this seat is
+    /// handed in or was taken in. `false` says nothing, and changes nothing but the number of word steps. A call that
+    /// the log has no room for is answered `false` without a load.
     pub fn follows<O: WordObject>(&mut self, log: &WordLog<O>, call: CallId) -> bool
         requires seat { IsSeatOf log.now self.old }
         ensures kept { IsSeatOf log.now self.new × (calls_of self.new ≡ calls_of self.old) }
