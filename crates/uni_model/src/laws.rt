@@ -27,12 +27,12 @@ ghost use Rattle.uni_model.specs.Laws.{LinksSoon, HasFloorOnceAnnounced};
 use seq_object::SeqObject;
 
 /// The main law. For every object, every number of processes, every start state, every first number of at least 1, and
-/// every list of events accepted from that opening, with the ends of eras among them: the calls and responses are a linearizable history (Herlihy and Wing
-/// 1990), with the joined log as its linearization; after each prefix of the events a process whose
-/// call is pending can step, and a call has returned at the latest at its process's (10m + 12)th step
-/// since its begin, in at most m + 1 turns, for the m processes that there are when it begins (Herlihy
-/// 1991, section 4); and the prefix without its trims is accepted too, with the same history, joined
-/// log and counts.
+/// every list of events accepted from that opening, with the ends of eras among them: the calls and responses are a
+/// linearizable history (Herlihy and Wing 1990), with the joined log as its linearization; after each prefix of the
+/// events a process whose call is pending can step, and a call has returned at the latest at its process's
+/// (10m + 12)th step since its begin, in at most m + 1 turns, for the m processes that there are when it begins
+/// (Herlihy 1991, section 4); and the prefix without its trims is accepted too, with the same history, joined log and
+/// counts.
 pub fn is_universal<O: SeqObject>()
     ensures { (object : O) (n : ℕ) (start : O.State) (number : ℕ) (events : List (Event O.Inv)) →
         RunIsUniversal (O.sequential object) n start number events }
@@ -141,7 +141,7 @@ pub fn is_linearizable<O: SeqObject>()
         IsLinearizable (O.sequential object) n start number events }
 {}
 
-/// The end of an era, where nobody has a call pending, leaves the anchor alone, with the state after
+/// The end of an era, where nobody has a call pending, leaves nothing but an anchor, with the state after
 /// all calls of the era and the number of its last cell; the counts of all processes stay, and the
 /// next call of each is its first one of the new era. After a run from the opening that is the state
 /// after all calls of the joined log, and the number of its last entry.
@@ -198,8 +198,8 @@ pub fn counts_steps<O: SeqObject>()
         IsReached (O.sequential object) w → CountsSteps w }
 {}
 
-/// Each call ends within a known number of its own steps, whatever the others do (Herlihy 1991,
-/// section 4): at most n + 1 turns, so fewer than 10n + 12 own steps while it is pending.
+/// No call takes more than a known number of its own steps, whatever the others do (Herlihy 1991, section 4): at most
+/// n + 1 turns, and fewer than 10n + 12 own steps while it is pending. That it ends says `is_wait_free`.
 pub fn is_bounded<O: SeqObject>()
     ensures { (object : O) (w : WorldOf O.State O.Inv O.Resp) →
         IsReached (O.sequential object) w → IsBounded w }

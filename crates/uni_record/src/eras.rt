@@ -92,7 +92,8 @@ impl<O: SeqObject> Recorded<O> {
     ///
     /// Errors, in this order: `Pending(p)` where a process has a call pending, with the least of such;
     /// `SeqFull` where `last + n * k` passes 2^48 - 1, with the last number; `HistoryFull` where the
-    /// stored events and 1 are more than the history can have; `Memory`. After each nothing is changed.
+    /// stored events and 1 are more than the history can have; `Memory`, where memory was refused (in no clause). After
+    /// each nothing is changed.
     pub fn trim(&mut self, alloc: Global) -> Result<u64, RecordTrimFault>
         ensures refused { IfErr result (IsEndRefused (standing_of self.old) (world_of self.old.world).n) }
         ensures allowed { OnOk result (CanEnd (standing_of self.old) (world_of self.old.world).n) }

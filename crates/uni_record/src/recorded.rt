@@ -94,8 +94,8 @@ impl<O: SeqObject> Recorded<O> {
     ///
     /// Errors, in this order: `BadCount` where `n` isn't from 1 to 64; `BadRow` where `k` isn't from 1
     /// to 4096; `SeqFull` where `seq + n * k` passes 2^48 - 1; `BadHistory` where `h` isn't from 1 to
-    /// 16,777,216; `Memory`, which is asked for last. After each the object is dropped. Room for `h` events isn't
-    /// reserved.
+    /// 16,777,216; `Memory`, which is asked for last (in no clause: by the clauses it may come wherever no other error
+    /// does). After each the object is dropped. Room for `h` events isn't reserved.
     pub fn open_at(
         alloc: Global,
         object: O,
@@ -201,11 +201,12 @@ impl<O: SeqObject> Recorded<O> {
 
     /// Process `p` takes the next step of its pending call: `World::step`, whose event is stored, and
     /// the call's return where it is the last one. It takes no memory for them, since `begin` has made
-    /// their room. Without the trims among the events it answers the same (`untrimmed`).
+    /// their room (in no clause). Without the trims among the events it answers the same (`untrimmed`).
     ///
     /// Errors, in this order: `BadProcess` where there is no process `p`; `Idle(p)` where it has no
-    /// call pending; `Memory` only where the object's apply was refused it. After each nothing is
-    /// changed. The history is never too full for a step, by the bound of own steps.
+    /// call pending; `Memory`, only at a step that decides a state, where the object's apply was refused it (that it
+    /// was is in no clause). After each nothing is changed. The history is never too full for a step, by the bound of
+    /// own steps.
     pub fn step(&mut self, alloc: Global, p: u64) -> Result<Progress<O::Resp>, RecordStepFault>
         ensures refused { IfErr result (IsStepRefused (standing_of self.old) p) }
         ensures allowed { OnOk result (CanGo (world_of self.old.world) p) }
