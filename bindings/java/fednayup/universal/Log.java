@@ -79,18 +79,7 @@ public final class Log implements AutoCloseable {
      * the next call answers.
      */
     public synchronized List<Seat> seats() throws Refused {
-        while (true) {
-            try {
-                had.add(seat());
-            } catch (Refused refused) {
-                if (refused.fault != Fault.NO_SEAT) {
-                    throw refused;
-                }
-                List<Seat> all = new ArrayList<>(had);
-                had.clear();
-                return all;
-            }
-        }
+        return Universal.left(had, this::seat);
     }
 
     /** Lets the log go; seats that were given out stay. */

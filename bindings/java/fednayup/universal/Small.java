@@ -140,18 +140,7 @@ public final class Small<S extends Small.Seat> implements AutoCloseable {
      * the next call answers.
      */
     public synchronized List<S> seats() throws Refused {
-        while (true) {
-            try {
-                had.add(seat());
-            } catch (Refused refused) {
-                if (refused.fault != Fault.NO_SEAT) {
-                    throw refused;
-                }
-                List<S> all = new ArrayList<>(had);
-                had.clear();
-                return all;
-            }
-        }
+        return Universal.left(had, this::seat);
     }
 
     /** Closes the object, if all its seats are closed: the words of the last state. Refused: a seat has the object. */

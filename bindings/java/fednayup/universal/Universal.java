@@ -19,6 +19,8 @@ import java.lang.ref.Reference;
 import java.nio.file.Files;
 import java.nio.file.Path;
 import java.nio.file.StandardCopyOption;
+import java.util.ArrayList;
+import java.util.List;
 
 /** The functions of {@code universal.h}, by {@code java.lang.foreign}, from Java 22 on. */
 final class Universal {
@@ -184,6 +186,31 @@ final class Universal {
             gone = true;
             letGo.clean();
         }
+    }
+
+    /**
+     * All seats that are left, behind those that were had. Where memory is refused, what came by then stays among these, for the
+     * next time.
+     */
+    static <S> List<S> left(List<S> had, Giving<S> giving) throws Refused {
+        while (true) {
+            try {
+                had.add(giving.seat());
+            } catch (Refused refused) {
+                if (refused.fault != Fault.NO_SEAT) {
+                    throw refused;
+                }
+                List<S> all = new ArrayList<>(had);
+                had.clear();
+                return all;
+            }
+        }
+    }
+
+    /** What gives seats, one at a time. */
+    @FunctionalInterface
+    interface Giving<S> {
+        S seat() throws Refused;
     }
 
     /** A function of the library that takes a handle. */
